@@ -1,0 +1,115 @@
+-- Dispatch keys: their order, and the key that a refreshed window gives a candidate. After arbitration.rs.
+use Prim.Native.Nat.{ℕ}
+use mathlib.Core.Bool.{Bool, true, false, not}
+use mathlib.Core.List.{List, [], _∷_}
+use Rattle.refusal.specs.Cases.{choose, given, ifEqual}
+use Rattle.order.specs.declared.Ordering.{Ordering}
+use Rattle.order.specs.Order.{compareParts}
+use Rattle.policy.specs.PolicyCases.{onPolicy, onRole, onBackend}
+use Rattle.policy.specs.declared.SchedulingRole.{SchedulingRole}
+use Rattle.policy.specs.declared.SchedulingParameters.{SchedulingParameters}
+use Rattle.arbitration.specs.declared.CpuWindow.{CpuWindow}
+use Rattle.arbitration.specs.declared.Demand.{Demand}
+use Rattle.arbitration.specs.declared.Candidate.{Candidate}
+use Rattle.arbitration.specs.declared.DispatchKey.{DispatchKey}
+use Rattle.arbitration.specs.declared.DispatchMode.the-variants as mode
+use Rattle.arbitration.specs.declared.Tier.{Tier}
+use Rattle.arbitration.specs.declared.AlgorithmOption.{AlgorithmOption}
+use Rattle.arbitration.specs.declared.AlgorithmOption.the-variants as algorithm
+use Rattle.arbitration.specs.declared.Algorithm.{Algorithm}
+use Rattle.arbitration.specs.declared.KeyOption.{KeyOption}
+use Rattle.arbitration.specs.declared.KeyOption.the-variants as key
+use Rattle.arbitration.specs.Config.{acceptsBudget}
+use Rattle.arbitration.specs.Window.{isPriority, isProtected, dueAt}
+
+-- The last parts: band, then turn.
+abbrev pub bandParts : DispatchKey → List ℕ
+bandParts k = k .band ∷ k .turn ∷ []
+
+-- The parts that come after urgency, rank and algorithm rank: the algorithm, its high half first, then band and turn.
+abbrev pub localParts : DispatchKey → List ℕ
+localParts k = k .algorithm .high ∷ k .algorithm .low ∷ bandParts k
+
+abbrev pub algorithmParts : DispatchKey → List ℕ
+algorithmParts k = k .«algorithm_rank» ∷ localParts k
+
+-- A key's parts in the order in which they compare: as declared.
+abbrev pub keyParts : DispatchKey → List ℕ
+keyParts k = k .urgency ∷ k .rank ∷ algorithmParts k
+
+unfoldable pub compareBands : DispatchKey → DispatchKey → Ordering
+compareBands a b = compareParts (bandParts a) (bandParts b)
+
+unfoldable pub compareLocal : DispatchKey → DispatchKey → Ordering
+compareLocal a b = compareParts (localParts a) (localParts b)
+
+unfoldable pub compareWithinRank : DispatchKey → DispatchKey → Ordering
+compareWithinRank a b = compareParts (algorithmParts a) (algorithmParts b)
+
+-- Dispatch keys compare as declared.
+unfoldable pub compareKeys : DispatchKey → DispatchKey → Ordering
+compareKeys a b = compareParts (keyParts a) (keyParts b)
+
+-- A Budget thread with no time left.
+unfoldable pub exhaustedOf : Candidate → Bool
+exhaustedOf c = onPolicy (c .parameters .policy) (λ priority. false) false (not (c .«budget_available»)) false
+
+-- An exhausted thread has no key while any FIFO or Fair thread, or a Budget thread with time left, asks for the processor.
+unfoldable pub shutOut : Bool → Demand → Bool
+shutOut exhausted d = choose exhausted (choose (d .fair) true (d .«eligible_budget»)) false
+
+unfoldable pub strictFifo : SchedulingParameters → Bool
+strictFifo p = onPolicy (p .policy) (λ priority. onRole (p .role) true false false) false false false
+
+-- A protected thread while protection is due, unless it has spent its own budget.
+unfoldable pub hurried : Bool → SchedulingRole → Bool → Bool
+hurried due r exhausted = choose due (choose exhausted false (isProtected r)) false
+
+-- The priority allowance carries it while any is left: by its role, or as a fair thread where those are preferred.
+unfoldable pub favoured : CpuWindow → SchedulingParameters → Bool
+favoured w p =
+    ifEqual (w .«priority_remaining_ns») 0 false
+    (choose (isPriority (p .role)) true
+    (choose (w .config .«prefer_fair») (onPolicy (p .policy) (λ priority. false) true false false) false))
+
+-- The algorithm's rank, and its key: the priority for FIFO, the pass for Stride, otherwise the turn. None for Idle.
+unfoldable pub algorithmOf : Candidate → AlgorithmOption
+algorithmOf c =
+    onPolicy (c .parameters .policy)
+    (λ priority. given (priority .0) (λ number. algorithm.Some (record { rank = 0; key = record { high = 0; low = number } })))
+    (onBackend (c .parameters .«fair_backend»)
+    (algorithm.Some (record { rank = 1; key = c .«fair_pass» }))
+    (algorithm.Some (record { rank = 1; key = record { high = 0; low = c .turn } })))
+    (algorithm.Some (record { rank = 2; key = record { high = 0; low = c .turn } }))
+    algorithm.None
+
+unfoldable pub onAlgorithm : {A : Type 0} → AlgorithmOption → A → (Algorithm → A) → A
+onAlgorithm algorithm.None a f = a
+onAlgorithm (algorithm.Some x) a f = f x
+
+-- Urgency, rank and mode, of a window that is refreshed to now.
+unfoldable pub tierOf : CpuWindow → ℕ → SchedulingParameters → Bool → Demand → Tier
+tierOf w now p exhausted d =
+    choose (strictFifo p) (record { urgency = 0; rank = 0; mode = mode.StrictFifo })
+    (given (dueAt w now (d .protected))
+    (λ due. choose (hurried due (p .role) exhausted) (record { urgency = 1; rank = 0; mode = mode.Protected })
+    (choose exhausted (record { urgency = 2; rank = w .config .order .«borrow_rank»; mode = mode.Borrow })
+    (choose (favoured w p) (record { urgency = 2; rank = w .config .order .«priority_rank»; mode = mode.Priority })
+    (onPolicy (p .policy)
+    (λ priority. record { urgency = 2; rank = w .config .order .«fair_rank»; mode = mode.Ordinary })
+    (record { urgency = 2; rank = w .config .order .«fair_rank»; mode = mode.Ordinary })
+    (record { urgency = 2; rank = w .config .order .«budget_rank»; mode = mode.Ordinary })
+    (record { urgency = 2; rank = w .config .order .«fair_rank»; mode = mode.Ordinary }))))))
+
+-- The key and mode of a candidate, of a window that is refreshed to now; none for Idle, for a budget of another period, and for an exhausted thread that is shut out.
+unfoldable pub keyOf : CpuWindow → ℕ → Candidate → Demand → KeyOption
+keyOf w now c d =
+    choose (acceptsBudget (w .config) (c .parameters))
+    (given (exhaustedOf c)
+    (λ exhausted. choose (shutOut exhausted d) key.None
+    (onAlgorithm (algorithmOf c) key.None
+    (λ a. given (tierOf w now (c .parameters) exhausted d)
+    (λ t. key.Some
+    (record { urgency = t .urgency; rank = t .rank; «algorithm_rank» = a .rank; algorithm = a .key; band = c .parameters .band .0; turn = c .turn })
+    (t .mode))))))
+    key.None

@@ -1,0 +1,39 @@
+// The refusals of document 01, "Turned down", and their numbers.
+ghost use mathlib.Core.Path.{_≡_};
+ghost use Rattle.refusal.specs.Answer.{numberOf};
+
+pub enum Refusal {
+    Damaged,
+    BadState,
+    Already,
+    NoThread,
+    BadConfig,
+    BadBudget,
+    BackInTime,
+    TurnsSpent,
+    Halted,
+    BadTable,
+    BadRecord,
+}
+
+impl Refusal {
+    // The refusal's number in document 01.
+    pub fn number(self) -> u64
+        ensures { λ r. ⌜ r ≡ numberOf self ⌝ }
+    {
+        let refusal = self;
+        match refusal {
+            Refusal::Damaged => 1,
+            Refusal::BadState => 2,
+            Refusal::Already => 3,
+            Refusal::NoThread => 4,
+            Refusal::BadConfig => 5,
+            Refusal::BadBudget => 6,
+            Refusal::BackInTime => 7,
+            Refusal::TurnsSpent => 8,
+            Refusal::Halted => 9,
+            Refusal::BadTable => 10,
+            Refusal::BadRecord => 11,
+        }
+    }
+}

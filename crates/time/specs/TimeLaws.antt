@@ -1,0 +1,45 @@
+-- Laws of epochs, periods and deadlines: what callers use instead of the definitions' text.
+use Prim.Native.Nat.{ℕ, _≤_, min}
+use native.Mathlib.Omega.{arith}
+use mathlib.Core.Path.{_≡_, refl, sym, _∙_}
+use mathlib.Core.Bool.{Bool, true}
+use lib.Dec.{ltb}
+use Rattle.time.specs.Time.{rises, periodStart, earliestOf, onDeadline}
+use Rattle.time.specs.declared.Epoch.{Epoch}
+use Rattle.time.specs.declared.Epoch.the-variants as epoch
+use Rattle.time.specs.declared.Deadline.{Deadline}
+use Rattle.time.specs.declared.Deadline.the-variants as deadline
+
+pub period-start-le : (now period : ℕ) → periodStart now period ≤ now
+unfolding periodStart
+period-start-le now period = omega arith
+
+pub rises-from-none : {x : Epoch} (e : ℕ) → x ≡ epoch.None → true ≡ rises x e
+unfolding rises
+rises-from-none e h = rw h
+
+pub rises-from-some : {x : Epoch} {last : ℕ} (e : ℕ) → x ≡ epoch.Some last → ltb last e ≡ rises x e
+unfolding rises
+rises-from-some e h = rw h
+
+pub earliest-left-none : {x : Deadline} (y : Deadline) → x ≡ deadline.None → y ≡ earliestOf x y
+unfolding earliestOf
+earliest-left-none y h = rw h
+
+pub earliest-right-none : {x y : Deadline} {a : ℕ} → x ≡ deadline.Some a → y ≡ deadline.None → deadline.Some a ≡ earliestOf x y
+unfolding earliestOf
+earliest-right-none h k = rw (h, k)
+
+pub earliest-both : {x y : Deadline} {a b r : ℕ} → x ≡ deadline.Some a → y ≡ deadline.Some b → r ≡ min a b → deadline.Some r ≡ earliestOf x y
+unfolding earliestOf
+earliest-both h k e = rw (h, k, e)
+
+pub some-deadline : {A : Type 0} {y : A} (a : A) (f : ℕ → A) {r x : Deadline} {t : ℕ} → r ≡ x → r ≡ deadline.Some t → y ≡ f t → y ≡ onDeadline x a f
+unfolding onDeadline
+some-deadline a f e h k = rw (sym e ∙ h) k
+
+pub no-deadline : {A : Type 0} {y : A} (a : A) (f : ℕ → A) {r x : Deadline} → r ≡ x → r ≡ deadline.None → y ≡ a → y ≡ onDeadline x a f
+unfolding onDeadline
+no-deadline a f e h k = rw (sym e ∙ h) k
+
+pub ruleset times = (rises-from-none, rises-from-some, earliest-left-none, earliest-right-none, earliest-both, some-deadline, no-deadline)

@@ -1,0 +1,206 @@
+//! Turns, accounting, the switch rule and deadlines of one processor, run by the source.
+
+use std::sync::{Mutex, PoisonError};
+
+use super::super::Error;
+use super::super::algorithms::arbitration::CpuWindow;
+use super::super::queue::{ReadyThread, Selection as SourceSelection};
+use super::super::state::CpuScheduler;
+use super::super::state::runtime::access;
+use super::*;
+use crate::oracle::{Candidate, Demand, Mode, Processor, Ready, Turns, Window};
+
+/// The source's counters are statics: one call at a time.
+static TURNS: Mutex<()> = Mutex::new(());
+
+/// `prepare_enqueue`: the budget's refresh and the turn; floor and origin stay out.
+pub fn prepare_enqueue(
+    turns: &mut Turns,
+    record: &mut Record,
+    front: bool,
+    now: u64,
+) -> Answer<()> {
+    let _counters = TURNS.lock().unwrap_or_else(PoisonError::into_inner);
+    let mut schedule = record_to_source(record);
+    access::set_turns(turns.back, turns.front);
+    let result = answer(|| {
+        access::prepare(&mut schedule, 0, front, now);
+        Ok(())
+    });
+    (turns.back, turns.front) = access::turns();
+    *record = record_from_source(&schedule);
+    result
+}
+
+fn with_scheduler<T>(
+    processor: &mut Processor,
+    records: &mut [Record],
+    rules: Rules,
+    given: Option<SourceSelection>,
+    call: impl FnOnce(&mut CpuScheduler) -> Result<T, Error>,
+) -> Answer<T> {
+    let mut scheduler = CpuScheduler {
+        index: CpuIndex::from(processor.cpu),
+        current: thread(processor.current),
+        run_queue: queue_to_source(&processor.queue),
+        window: processor.window.to_source(),
+        last_account_ns: processor.now,
+        fair_floor: processor.fair_floor,
+        dispatch_mode: processor.mode.to_source(),
+        armed_deadline_ns: processor.armed_deadline,
+        deadline_generation: processor.deadline_generation,
+        records: records_to_source(records),
+        rules,
+        move_limit_reached: false,
+        given_selection: given,
+    };
+    let result = answer(|| call(&mut scheduler));
+    records_from_source(&scheduler.records, records);
+    processor.queue = queue_from_source(&scheduler.run_queue);
+    processor.window = Mirror::from_source(scheduler.window);
+    processor.now = scheduler.last_account_ns;
+    processor.fair_floor = scheduler.fair_floor;
+    processor.mode = Mirror::from_source(scheduler.dispatch_mode);
+    processor.armed_deadline = scheduler.armed_deadline_ns;
+    processor.deadline_generation = scheduler.deadline_generation;
+    if scheduler.move_limit_reached {
+        return Err(Refusal::MoveLimit);
+    }
+    result
+}
+
+/// `account_current` with the clock at `reading` (none: the clock cannot be read yet).
+pub fn account_processor(
+    processor: &mut Processor,
+    records: &mut [Record],
+    reading: Option<u64>,
+) -> Answer<()> {
+    crate::time::set_monotonic_nanoseconds(reading);
+    let result = with_scheduler(processor, records, Rules::SOURCE, None, access::account);
+    crate::time::set_monotonic_nanoseconds(None);
+    result
+}
+
+/// `current_candidate`: none unless the current thread is Running; refreshes its budget.
+pub fn current_candidate(
+    processor: &mut Processor,
+    records: &mut [Record],
+) -> Answer<Option<Candidate>> {
+    let current = with_scheduler(processor, records, Rules::SOURCE, None, access::candidate);
+    current.map(|candidate| candidate.map(Mirror::from_source))
+}
+
+/// `choose_ready`: the thread to switch to and whether the current one goes to the front.
+pub fn choose_ready(
+    rules: Rules,
+    processor: &mut Processor,
+    records: &mut [Record],
+    yielding: bool,
+) -> Answer<Option<(u64, bool)>> {
+    let chosen = with_scheduler(processor, records, rules, None, |scheduler| {
+        access::choose(scheduler, yielding)
+    });
+    chosen.map(|chosen| chosen.map(|(id, front)| (number(id), front)))
+}
+
+/// `refresh_deadline`: the deadline stands in `armed_deadline`, the mode in `mode`.
+pub fn refresh_deadline(
+    rules: Rules,
+    processor: &mut Processor,
+    records: &mut [Record],
+) -> Answer<()> {
+    with_scheduler(processor, records, rules, None, access::deadline)
+}
+
+/// A processor that runs the one given record over an empty queue.
+fn alone(record: &Record, window: Window, now: Option<u64>, mode: Mode) -> Processor {
+    Processor {
+        cpu: record.cpu,
+        current: 0,
+        queue: Queue::EMPTY,
+        window,
+        now,
+        mode,
+        armed_deadline: None,
+        deadline_generation: 0,
+        fair_floor: 0,
+    }
+}
+
+fn given(ready: Option<Ready>, demand: Demand) -> SourceSelection {
+    SourceSelection {
+        ready: ready.map(|ready| ReadyThread {
+            id: thread(ready.number),
+            policy: ready.policy.to_source(),
+            key: ready.key.to_source(),
+        }),
+        demand: demand.to_source(),
+        fair_min_pass: None,
+    }
+}
+
+/// `account_current` of one record and a window between two readings.
+pub fn account_current(
+    record: &mut Record,
+    window: &mut Window,
+    mode: Mode,
+    start: u64,
+    end: u64,
+) -> Answer<()> {
+    let mut processor = alone(record, *window, Some(start), mode);
+    let result = account_processor(&mut processor, core::slice::from_mut(record), Some(end));
+    *window = processor.window;
+    result
+}
+
+/// The switch rule of `choose_ready` for a given selection: some front flag where it switches.
+///
+/// The record is the current thread: its budget is refreshed, its turn ended where it expired or
+/// yields, and its deferred placement taken.
+pub fn switch_rule(
+    record: &mut Record,
+    window: &mut Window,
+    now: u64,
+    ready: Option<Ready>,
+    demand: Demand,
+    yielding: bool,
+) -> Answer<Option<bool>> {
+    let mut processor = alone(record, *window, Some(now), Mode::Ordinary);
+    let chosen = with_scheduler(
+        &mut processor,
+        core::slice::from_mut(record),
+        Rules::SOURCE,
+        Some(given(ready, demand)),
+        |scheduler| access::choose(scheduler, yielding),
+    );
+    *window = processor.window;
+    chosen.map(|chosen| chosen.map(|(_, front)| front))
+}
+
+/// The choice of deadline in `refresh_deadline` for a given selection and given queue lengths.
+///
+/// `mode` changes only where the current thread has a key.
+pub fn deadline_rule(
+    record: &mut Record,
+    window: &mut Window,
+    mode: &mut Mode,
+    now: u64,
+    ready: Option<Ready>,
+    demand: Demand,
+    competition: bool,
+    budget_peer: bool,
+) -> Answer<Option<u64>> {
+    let mut processor = alone(record, *window, Some(now), *mode);
+    processor.queue.fifo_length = u64::from(competition);
+    processor.queue.budget_count = u64::from(budget_peer);
+    let result = with_scheduler(
+        &mut processor,
+        core::slice::from_mut(record),
+        Rules::SOURCE,
+        Some(given(ready, demand)),
+        access::deadline,
+    );
+    *window = processor.window;
+    *mode = processor.mode;
+    result.map(|()| processor.armed_deadline)
+}
