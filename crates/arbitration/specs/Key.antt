@@ -6,8 +6,10 @@ use Rattle.refusal.specs.Cases.{choose, given, ifEqual}
 use Rattle.order.specs.declared.Ordering.{Ordering}
 use Rattle.order.specs.Order.{compareParts}
 use Rattle.policy.specs.PolicyCases.{onPolicy, onRole, onBackend}
+use Rattle.policy.specs.declared.SchedulingPolicy.{SchedulingPolicy}
 use Rattle.policy.specs.declared.SchedulingRole.{SchedulingRole}
 use Rattle.policy.specs.declared.SchedulingParameters.{SchedulingParameters}
+use Rattle.arbitration.specs.declared.ArbitrationOrder.{ArbitrationOrder}
 use Rattle.arbitration.specs.declared.CpuWindow.{CpuWindow}
 use Rattle.arbitration.specs.declared.Demand.{Demand}
 use Rattle.arbitration.specs.declared.Candidate.{Candidate}
@@ -87,6 +89,10 @@ unfoldable pub onAlgorithm : {A : Type 0} → AlgorithmOption → A → (Algorit
 onAlgorithm algorithm.None a f = a
 onAlgorithm (algorithm.Some x) a f = f x
 
+-- The rank of a thread that nothing hurries, favours or shuts out: a Budget thread's, or that of the others.
+unfoldable pub ordinaryRank : SchedulingPolicy → ArbitrationOrder → ℕ
+ordinaryRank p o = onPolicy p (λ priority. o .«fair_rank») (o .«fair_rank») (o .«budget_rank») (o .«fair_rank»)
+
 -- Urgency, rank and mode, of a window that is refreshed to now.
 unfoldable pub tierOf : CpuWindow → ℕ → SchedulingParameters → Bool → Demand → Tier
 tierOf w now p exhausted d =
@@ -95,11 +101,7 @@ tierOf w now p exhausted d =
     (λ due. choose (hurried due (p .role) exhausted) (record { urgency = 1; rank = 0; mode = mode.Protected })
     (choose exhausted (record { urgency = 2; rank = w .config .order .«borrow_rank»; mode = mode.Borrow })
     (choose (favoured w p) (record { urgency = 2; rank = w .config .order .«priority_rank»; mode = mode.Priority })
-    (onPolicy (p .policy)
-    (λ priority. record { urgency = 2; rank = w .config .order .«fair_rank»; mode = mode.Ordinary })
-    (record { urgency = 2; rank = w .config .order .«fair_rank»; mode = mode.Ordinary })
-    (record { urgency = 2; rank = w .config .order .«budget_rank»; mode = mode.Ordinary })
-    (record { urgency = 2; rank = w .config .order .«fair_rank»; mode = mode.Ordinary }))))))
+    (given (ordinaryRank (p .policy) (w .config .order)) (λ rank. record { urgency = 2; rank = rank; mode = mode.Ordinary }))))))
 
 -- The key and mode of a candidate, of a window that is refreshed to now; none for Idle, for a budget of another period, and for an exhausted thread that is shut out.
 unfoldable pub keyOf : CpuWindow → ℕ → Candidate → Demand → KeyOption

@@ -1,21 +1,35 @@
 // CPU windows and dispatch keys. After scheduler/algorithms/arbitration.rs; a window goes in by value and comes back with the answer.
+mod compare;
+mod tests;
+
+pub use compare::compare_keys;
 ghost use mathlib.Core.Path.{_≡_};
-ghost use Rattle.refusal.specs.Cases.{choose};
-ghost use Rattle.arbitration.specs.Config.{soundConfig, ranksRise, newConfig, preferring, acceptsBudget, sameBackend, admitted};
-ghost use Rattle.arbitration.specs.Window.{newWindow, refreshed, isPriority, isProtected, usesAllowance, charged, protectionDeadline, dueAt, atRenewal, nextDeadline};
-ghost use Rattle.arbitration.specs.Key.{compareKeys, compareWithinRank, compareLocal, compareBands, exhaustedOf, shutOut, strictFifo, hurried, favoured, algorithmOf, tierOf, keyOf};
+ghost use Rattle.arbitration.specs.Config.{soundConfig, newConfig, preferring, acceptsBudget, admitted};
+ghost use Rattle.arbitration.specs.Window.{newWindow, refreshed, charged, protectionDeadline, dueAt, nextDeadline};
+ghost use Rattle.arbitration.specs.Key.{favoured, tierOf, keyOf};
 ghost use Rattle.arbitration.specs.Calls.{refreshCall, accountCall, periodDeadlineCall, protectionCall, keyCall, nextDeadlineCall};
 ghost use Rattle.arbitration.specs.Answers.{configMade, windowMade, windowStep, windowDeadline, windowKey};
 use algorithms::Wide;
 use budget::DeadlineAnswer;
-use order::Ordering;
 use policy::BudgetOption;
 use policy::BudgetParameters;
 use policy::FairBackend;
 use policy::SchedulingParameters;
 use policy::SchedulingPolicy;
-use policy::SchedulingRole;
 use refusal::Refusal;
+use tests::algorithm_of;
+use tests::at_renewal;
+use tests::charge_if;
+use tests::is_exhausted;
+use tests::is_hurried;
+use tests::is_priority;
+use tests::is_protected;
+use tests::is_shut_out;
+use tests::is_strict_fifo;
+use tests::ordinary_rank;
+use tests::ranks_rise;
+use tests::same_backend;
+use tests::uses_allowance;
 use time::Deadline;
 use time::Epoch;
 use time::charge_of;
@@ -100,7 +114,7 @@ impl ArbitrationConfig {
             return false;
         }
         let order = self.order;
-        order.rises()
+        ranks_rise(order)
     }
 
     pub fn with_prefer_fair(self, prefer_fair: bool) -> Self
@@ -145,38 +159,6 @@ impl ArbitrationConfig {
     }
 }
 
-impl ArbitrationOrder {
-    fn rises(self) -> bool
-        ensures { λ r. ⌜ r ≡ ranksRise self ⌝ }
-    {
-        if self.budget_rank <= self.priority_rank {
-            return false;
-        }
-        if self.fair_rank <= self.budget_rank {
-            return false;
-        }
-        if self.borrow_rank <= self.fair_rank {
-            return false;
-        }
-        true
-    }
-}
-
-fn same_backend(a: FairBackend, b: FairBackend) -> bool
-    ensures { λ r. ⌜ r ≡ sameBackend a b ⌝ }
-{
-    match a {
-        FairBackend::Stride => match b {
-            FairBackend::Stride => true,
-            FairBackend::RoundRobin => false,
-        },
-        FairBackend::RoundRobin => match b {
-            FairBackend::Stride => false,
-            FairBackend::RoundRobin => true,
-        },
-    }
-}
-
 // What the runnable threads ask for, the running one included.
 pub struct Demand {
     pub protected: bool,
@@ -201,77 +183,6 @@ pub struct DispatchKey {
     pub algorithm: Wide,
     pub band: u8,
     pub turn: u64,
-}
-
-pub fn compare_keys(a: DispatchKey, b: DispatchKey) -> Ordering
-    ensures { λ r. ⌜ r ≡ compareKeys a b ⌝ }
-{
-    if a.urgency < b.urgency {
-        return Ordering::Less;
-    }
-    if b.urgency < a.urgency {
-        return Ordering::Greater;
-    }
-    if a.rank < b.rank {
-        return Ordering::Less;
-    }
-    if b.rank < a.rank {
-        return Ordering::Greater;
-    }
-    compare_within_rank(a, b)
-}
-
-// Within one urgency and rank.
-fn compare_within_rank(a: DispatchKey, b: DispatchKey) -> Ordering
-    ensures { λ r. ⌜ r ≡ compareWithinRank a b ⌝ }
-{
-    if a.algorithm_rank < b.algorithm_rank {
-        return Ordering::Less;
-    }
-    if b.algorithm_rank < a.algorithm_rank {
-        return Ordering::Greater;
-    }
-    compare_local(a, b)
-}
-
-// Within one urgency, rank and algorithm rank.
-fn compare_local(a: DispatchKey, b: DispatchKey) -> Ordering
-    ensures { λ r. ⌜ r ≡ compareLocal a b ⌝ }
-{
-    let x = a.algorithm;
-    let y = b.algorithm;
-    if x.high < y.high {
-        return Ordering::Less;
-    }
-    if y.high < x.high {
-        return Ordering::Greater;
-    }
-    if x.low < y.low {
-        return Ordering::Less;
-    }
-    if y.low < x.low {
-        return Ordering::Greater;
-    }
-    compare_bands(a, b)
-}
-
-// Within one algorithm key.
-fn compare_bands(a: DispatchKey, b: DispatchKey) -> Ordering
-    ensures { λ r. ⌜ r ≡ compareBands a b ⌝ }
-{
-    if a.band < b.band {
-        return Ordering::Less;
-    }
-    if b.band < a.band {
-        return Ordering::Greater;
-    }
-    if a.turn < b.turn {
-        return Ordering::Less;
-    }
-    if b.turn < a.turn {
-        return Ordering::Greater;
-    }
-    Ordering::Equal
 }
 
 // Why an execution interval was admitted.
@@ -304,151 +215,6 @@ enum AlgorithmOption {
 pub enum KeyOption {
     None,
     Some(DispatchKey, DispatchMode),
-}
-
-impl Candidate {
-    fn is_exhausted(self) -> bool
-        ensures { λ r. ⌜ r ≡ exhaustedOf self ⌝ }
-    {
-        let parameters = self.parameters;
-        let policy = parameters.policy;
-        match policy {
-            SchedulingPolicy::Fifo { priority: _ } => false,
-            SchedulingPolicy::Fair => false,
-            SchedulingPolicy::Budget => !self.budget_available,
-            SchedulingPolicy::Idle => false,
-        }
-    }
-
-    // The priority for FIFO, the pass for Stride, otherwise the turn; none for Idle.
-    fn algorithm(self) -> AlgorithmOption
-        ensures { λ r. ⌜ r ≡ algorithmOf self ⌝ }
-    {
-        let parameters = self.parameters;
-        let policy = parameters.policy;
-        let backend = parameters.fair_backend;
-        let pass = self.fair_pass;
-        let turn = Wide {
-            high: 0,
-            low: self.turn,
-        };
-        match policy {
-            SchedulingPolicy::Fifo { priority } => {
-                let low = of_byte(priority.0);
-                AlgorithmOption::Some(Algorithm {
-                    rank: 0,
-                    key: Wide { high: 0, low },
-                })
-            }
-            SchedulingPolicy::Fair => match backend {
-                FairBackend::Stride => AlgorithmOption::Some(Algorithm { rank: 1, key: pass }),
-                FairBackend::RoundRobin => AlgorithmOption::Some(Algorithm { rank: 1, key: turn }),
-            },
-            SchedulingPolicy::Budget => AlgorithmOption::Some(Algorithm { rank: 2, key: turn }),
-            SchedulingPolicy::Idle => AlgorithmOption::None,
-        }
-    }
-}
-
-fn of_byte(x: u8) -> u64
-    ensures { λ r. ⌜ r ≡ x ⌝ }
-{
-    x as u64
-}
-
-// An exhausted thread runs only where nobody else can.
-fn is_shut_out(exhausted: bool, demand: Demand) -> bool
-    ensures { λ r. ⌜ r ≡ shutOut exhausted demand ⌝ }
-{
-    if !exhausted {
-        return false;
-    }
-    if demand.fair {
-        return true;
-    }
-    demand.eligible_budget
-}
-
-fn is_strict_fifo(parameters: SchedulingParameters) -> bool
-    ensures { λ r. ⌜ r ≡ strictFifo parameters ⌝ }
-{
-    let policy = parameters.policy;
-    let role = parameters.role;
-    match policy {
-        SchedulingPolicy::Fifo { priority: _ } => match role {
-            SchedulingRole::Ordinary => true,
-            SchedulingRole::Priority => false,
-            SchedulingRole::Protected => false,
-        },
-        SchedulingPolicy::Fair => false,
-        SchedulingPolicy::Budget => false,
-        SchedulingPolicy::Idle => false,
-    }
-}
-
-fn is_priority(role: SchedulingRole) -> bool
-    ensures { λ r. ⌜ r ≡ isPriority role ⌝ }
-{
-    match role {
-        SchedulingRole::Ordinary => false,
-        SchedulingRole::Priority => true,
-        SchedulingRole::Protected => false,
-    }
-}
-
-fn is_protected(role: SchedulingRole) -> bool
-    ensures { λ r. ⌜ r ≡ isProtected role ⌝ }
-{
-    match role {
-        SchedulingRole::Ordinary => false,
-        SchedulingRole::Priority => false,
-        SchedulingRole::Protected => true,
-    }
-}
-
-// Execution on the priority allowance, by its mode or by the thread's role.
-fn uses_allowance(mode: DispatchMode, role: SchedulingRole) -> bool
-    ensures { λ r. ⌜ r ≡ usesAllowance mode role ⌝ }
-{
-    match mode {
-        DispatchMode::StrictFifo => is_priority(role),
-        DispatchMode::Priority => true,
-        DispatchMode::Protected => is_priority(role),
-        DispatchMode::Ordinary => is_priority(role),
-        DispatchMode::Borrow => is_priority(role),
-    }
-}
-
-fn charge_if(charged: bool, charge: u64) -> u64
-    ensures { λ r. ⌜ r ≡ choose charged charge 0 ⌝ }
-{
-    if charged { charge } else { 0 }
-}
-
-// The period's end bears on demand whose eligibility a new window can change.
-fn at_renewal(demand: Demand, period_end: Deadline) -> Deadline
-    ensures { λ r. ⌜ r ≡ atRenewal demand «period_end» ⌝ }
-{
-    if demand.any_budget {
-        return period_end;
-    }
-    if demand.window_sensitive {
-        return period_end;
-    }
-    Deadline::None
-}
-
-// A protected thread that is due, unless it has spent its own budget.
-fn is_hurried(due: bool, role: SchedulingRole, exhausted: bool) -> bool
-    ensures { λ r. ⌜ r ≡ hurried due role exhausted ⌝ }
-{
-    if !due {
-        return false;
-    }
-    if exhausted {
-        return false;
-    }
-    is_protected(role)
 }
 
 pub struct CpuWindow {
@@ -724,27 +490,10 @@ impl CpuWindow {
                 mode: DispatchMode::Priority,
             };
         }
-        match policy {
-            SchedulingPolicy::Fifo { priority: _ } => Tier {
-                urgency: 2,
-                rank: order.fair_rank,
-                mode: DispatchMode::Ordinary,
-            },
-            SchedulingPolicy::Fair => Tier {
-                urgency: 2,
-                rank: order.fair_rank,
-                mode: DispatchMode::Ordinary,
-            },
-            SchedulingPolicy::Budget => Tier {
-                urgency: 2,
-                rank: order.budget_rank,
-                mode: DispatchMode::Ordinary,
-            },
-            SchedulingPolicy::Idle => Tier {
-                urgency: 2,
-                rank: order.fair_rank,
-                mode: DispatchMode::Ordinary,
-            },
+        Tier {
+            urgency: 2,
+            rank: ordinary_rank(policy, order),
+            mode: DispatchMode::Ordinary,
         }
     }
 
@@ -758,11 +507,11 @@ impl CpuWindow {
         if !config.accepts(parameters) {
             return KeyOption::None;
         }
-        let exhausted = candidate.is_exhausted();
+        let exhausted = is_exhausted(candidate);
         if is_shut_out(exhausted, demand) {
             return KeyOption::None;
         }
-        let AlgorithmOption::Some(algorithm) = candidate.algorithm() else {
+        let AlgorithmOption::Some(algorithm) = algorithm_of(candidate) else {
             return KeyOption::None;
         };
         let tier = self.tier(now, parameters, exhausted, demand);

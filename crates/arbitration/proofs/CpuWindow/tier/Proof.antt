@@ -1,5 +1,4 @@
 use Rattle.refusal.specs.Cases.{cases}
-use Rattle.policy.specs.PolicyCases.{policies}
 use Rattle.arbitration.specs.Key.{tierOf}
 use borrow.Author.Needs.{needs}
 use Rattle.arbitration.proofs.CpuWindow.tier.Statement.{statement}
@@ -11,18 +10,12 @@ tier-spec =
     tie.close
     (tie.spec
     (λ c κs. search needs)
-    (λ c. search (cases, policies) depth 8)
+    (λ c. search cases depth 8)
     (λ c κs. search needs)
     (λ c κs. search needs)
-    (λ c. search (cases, policies) depth 8)
-    (λ c. search (cases, policies) depth 8)
+    (λ c. search cases depth 8)
+    (λ c. search cases depth 8)
     (λ c κs. search needs)
-    (λ c. search (cases, policies) depth 8)
-    (λ c. search needs)
-    (λ c. search needs)
-    (λ c. search needs)
-    (λ c. search needs)
-    (λ c. search (cases, policies) depth 8)
-    (λ c. search (cases, policies) depth 8)
-    (λ c. search (cases, policies) depth 8)
-    (λ c. search (cases, policies) depth 8))
+    (λ c. search cases depth 8)
+    (λ c κs. search needs)
+    (λ c. search cases depth 8))
