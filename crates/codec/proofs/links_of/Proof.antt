@@ -1,0 +1,20 @@
+-- Every part is read from the definition's words.
+use Rattle.codec.specs.Codec.{linksOf}
+use borrow.Author.Needs.{needs}
+use Rattle.codec.proofs.links_of.Statement.{statement}
+use Rattle.codec.proofs.links_of.Tie as tie
+
+pub links-of-spec : {M : Type 1} → statement M
+unfolding linksOf
+links-of-spec =
+    tie.close
+    (tie.spec
+    (λ c. search needs)
+    (λ c. search needs)
+    (λ c κs. search needs)
+    (λ c. search needs)
+    (λ c. search needs)
+    (λ c κs. search needs)
+    (λ c. search needs)
+    (λ c κs. search needs)
+    (λ c. cc))

@@ -1,0 +1,23 @@
+-- The words of each variant stand for it.
+use Rattle.codec.specs.PartLaws.{parts}
+use borrow.Author.Needs.{needs}
+use Rattle.codec.proofs.words_of_membership.Statement.{statement}
+use Rattle.codec.proofs.words_of_membership.Tie as tie
+
+pub words-of-membership-spec : {M : Type 1} → statement M
+words-of-membership-spec =
+    tie.close
+    (tie.spec
+    (λ c. search needs)
+    (λ c. search needs)
+    (λ c κs. search needs)
+    (λ c κs. search needs)
+    (λ c. search needs)
+    (λ c κs. search needs)
+    (λ c. search needs)
+    (λ c. search needs)
+    (λ c. search parts depth 8)
+    (λ c. search parts depth 8)
+    (λ c. search parts depth 8)
+    (λ c. search parts depth 8)
+    (λ c. search parts depth 8))

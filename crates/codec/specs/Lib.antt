@@ -1,0 +1,6 @@
+-- What a row of words stands for.
+pub mod Codec
+-- Laws of the parts: the words of each variant stand for it.
+pub mod PartLaws
+-- Laws of rows: a store of some words changes the part that they stand for, and no other.
+pub mod RowLaws

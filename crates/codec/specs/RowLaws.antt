@@ -1,0 +1,143 @@
+-- Laws of rows: a store of the words of one part changes that part of the record, and no other.
+use Prim.Native.Nat.{ℕ, zero, suc, _%_}
+use native.Mathlib.Omega.{arith}
+use mathlib.Core.Path.{_≡_, refl, sym}
+use mathlib.Core.List.{List, [], _∷_}
+use lib.ListN.{length, set}
+use Rattle.policy.specs.declared.SchedulingParameters.{SchedulingParameters}
+use Rattle.policy.specs.declared.SchedulingPolicy.{SchedulingPolicy}
+use Rattle.policy.specs.declared.SchedulingRole.{SchedulingRole}
+use Rattle.policy.specs.declared.FairBackend.{FairBackend}
+use Rattle.policy.specs.declared.BudgetOption.{BudgetOption}
+use Rattle.algorithms.specs.declared.PolicyRuntime.{PolicyRuntime}
+use Rattle.thread.specs.declared.CpuIndex.{CpuIndex}
+use Rattle.thread.specs.declared.Links.{Links}
+use Rattle.thread.specs.declared.QueueLinks.{QueueLinks}
+use Rattle.thread.specs.declared.ThreadRecord.{ThreadRecord}
+use Rattle.thread.specs.declared.TreeKey.{TreeKey}
+use Rattle.thread.specs.TreeKey.{treeKey, readyIndexKey}
+use Rattle.thread.specs.Records.{withParameters, withRuntime, withTurn, withLinks, withQueueLinks, withCpu}
+use Rattle.codec.specs.Codec.{word, policyFrom, roleFrom, backendFrom, budgetFrom, runtimeFrom, linkFrom, membershipFrom, parametersOf, runtimeOf, linksOf, queueLinksOf, decoded}
+
+-- P of every list of n words.
+abbrev Words : ℕ → (List ℕ → Type 0) → Type 0
+Words zero P = P []
+Words (suc n) P = (x : ℕ) → Words n (λ (r : List ℕ). P (x ∷ r))
+
+by-words : (n : ℕ) (P : List ℕ → Type 0) → Words n P → (r : List ℕ) → length r ≡ n → P r
+by-words zero P f [] h = f
+by-words zero P f (x ∷ r) h = absurd (omega arith)
+by-words (suc n) P f [] h = absurd (omega arith)
+by-words (suc n) P f (x ∷ r) h = by-words n (λ (s : List ℕ). P (x ∷ s)) (f x) r (omega arith)
+
+pub parameters-stored : (r : List ℕ) (p : SchedulingParameters) (a b : List ℕ) (band role weight backend : ℕ)
+    → length r ≡ 32
+    → policyFrom (word a 0) (word a 1) ≡ p .policy
+    → band % 256 ≡ p .band .0
+    → roleFrom role ≡ p .role
+    → weight % 65536 ≡ p .weight .0
+    → backendFrom backend ≡ p .«fair_backend»
+    → budgetFrom (word b 0) (word b 1) (word b 2) (word b 3) ≡ p .budget
+    → decoded (set (set (set (set (set (set (set (set (set (set (set r 0 (word a 0)) 1 (word a 1)) 2 band) 3 role) 4 weight) 5 (p .«quantum_ns»)) 6 backend) 7 (word b 0)) 8 (word b 1)) 9 (word b 2)) 10 (word b 3)) ≡ withParameters p (decoded r)
+unfolding decoded parametersOf runtimeOf linksOf queueLinksOf
+parameters-stored r p a b band role weight backend size e₁ e₂ e₃ e₄ e₅ e₆ =
+    by-words 32 (λ (r : List ℕ). decoded (set (set (set (set (set (set (set (set (set (set (set r 0 (word a 0)) 1 (word a 1)) 2 band) 3 role) 4 weight) 5 (p .«quantum_ns»)) 6 backend) 7 (word b 0)) 8 (word b 1)) 9 (word b 2)) 10 (word b 3)) ≡ withParameters p (decoded r))
+    (λ x0 x1 x2 x3 x4 x5 x6 x7 x8 x9 x10 x11 x12 x13 x14 x15 x16 x17 x18 x19 x20 x21 x22 x23 x24 x25 x26 x27 x28 x29 x30 x31. rw (e₁, e₂, e₃, e₄, e₅, e₆))
+    r size
+
+pub runtime-stored : (r : List ℕ) (x : PolicyRuntime) (a : List ℕ)
+    → length r ≡ 32
+    → runtimeFrom (word a 0) (word a 1) (word a 2) (word a 3) (word a 4) ≡ x
+    → decoded (set (set (set (set (set r 11 (word a 0)) 12 (word a 1)) 13 (word a 2)) 14 (word a 3)) 15 (word a 4)) ≡ withRuntime x (decoded r)
+unfolding decoded parametersOf runtimeOf linksOf queueLinksOf
+runtime-stored r x a size e =
+    by-words 32 (λ (r : List ℕ). decoded (set (set (set (set (set r 11 (word a 0)) 12 (word a 1)) 13 (word a 2)) 14 (word a 3)) 15 (word a 4)) ≡ withRuntime x (decoded r))
+    (λ x0 x1 x2 x3 x4 x5 x6 x7 x8 x9 x10 x11 x12 x13 x14 x15 x16 x17 x18 x19 x20 x21 x22 x23 x24 x25 x26 x27 x28 x29 x30 x31. rw (e))
+    r size
+
+pub turn-stored : (r : List ℕ) (n : ℕ)
+    → length r ≡ 32
+    → decoded (set r 16 n) ≡ withTurn n (decoded r)
+unfolding decoded parametersOf runtimeOf linksOf queueLinksOf
+turn-stored r n size =
+    by-words 32 (λ (r : List ℕ). decoded (set r 16 n) ≡ withTurn n (decoded r))
+    (λ x0 x1 x2 x3 x4 x5 x6 x7 x8 x9 x10 x11 x12 x13 x14 x15 x16 x17 x18 x19 x20 x21 x22 x23 x24 x25 x26 x27 x28 x29 x30 x31. refl)
+    r size
+
+pub links-stored : (r : List ℕ) (l : Links) (a b : List ℕ) (height : ℕ)
+    → length r ≡ 32
+    → linkFrom (word a 0) (word a 1) ≡ l .left
+    → linkFrom (word b 0) (word b 1) ≡ l .right
+    → height % 256 ≡ l .height
+    → decoded (set (set (set (set (set r 17 (word a 0)) 18 (word a 1)) 19 (word b 0)) 20 (word b 1)) 21 height) ≡ withLinks l (decoded r)
+unfolding decoded parametersOf runtimeOf linksOf queueLinksOf
+links-stored r l a b height size e₁ e₂ e₃ =
+    by-words 32 (λ (r : List ℕ). decoded (set (set (set (set (set r 17 (word a 0)) 18 (word a 1)) 19 (word b 0)) 20 (word b 1)) 21 height) ≡ withLinks l (decoded r))
+    (λ x0 x1 x2 x3 x4 x5 x6 x7 x8 x9 x10 x11 x12 x13 x14 x15 x16 x17 x18 x19 x20 x21 x22 x23 x24 x25 x26 x27 x28 x29 x30 x31. rw (e₁, e₂, e₃))
+    r size
+
+pub queue-links-stored : (r : List ℕ) (l : QueueLinks) (a b m : List ℕ)
+    → length r ≡ 32
+    → linkFrom (word a 0) (word a 1) ≡ l .previous
+    → linkFrom (word b 0) (word b 1) ≡ l .next
+    → membershipFrom (word m 0) (word m 1) (word m 2) ≡ l .membership
+    → decoded (set (set (set (set (set (set (set r 22 (word a 0)) 23 (word a 1)) 24 (word b 0)) 25 (word b 1)) 26 (word m 0)) 27 (word m 1)) 28 (word m 2)) ≡ withQueueLinks l (decoded r)
+unfolding decoded parametersOf runtimeOf linksOf queueLinksOf
+queue-links-stored r l a b m size e₁ e₂ e₃ =
+    by-words 32 (λ (r : List ℕ). decoded (set (set (set (set (set (set (set r 22 (word a 0)) 23 (word a 1)) 24 (word b 0)) 25 (word b 1)) 26 (word m 0)) 27 (word m 1)) 28 (word m 2)) ≡ withQueueLinks l (decoded r))
+    (λ x0 x1 x2 x3 x4 x5 x6 x7 x8 x9 x10 x11 x12 x13 x14 x15 x16 x17 x18 x19 x20 x21 x22 x23 x24 x25 x26 x27 x28 x29 x30 x31. rw (e₁, e₂, e₃))
+    r size
+
+pub cpu-stored : (r : List ℕ) (c : CpuIndex) (n : ℕ)
+    → length r ≡ 32
+    → n % 256 ≡ c .0
+    → decoded (set r 29 n) ≡ withCpu c (decoded r)
+unfolding decoded parametersOf runtimeOf linksOf queueLinksOf
+cpu-stored r c n size e =
+    by-words 32 (λ (r : List ℕ). decoded (set r 29 n) ≡ withCpu c (decoded r))
+    (λ x0 x1 x2 x3 x4 x5 x6 x7 x8 x9 x10 x11 x12 x13 x14 x15 x16 x17 x18 x19 x20 x21 x22 x23 x24 x25 x26 x27 x28 x29 x30 x31. rw (e))
+    r size
+
+-- The parts that the words of a row stand for make the row's.
+pub parameters-read : (w : List ℕ) {policy : SchedulingPolicy} {band weight : ℕ} {role : SchedulingRole} {backend : FairBackend} {budget : BudgetOption}
+    → policy ≡ policyFrom (word w 0) (word w 1) → band ≡ word w 2 % 256 → role ≡ roleFrom (word w 3) → weight ≡ word w 4 % 65536
+    → backend ≡ backendFrom (word w 6) → budget ≡ budgetFrom (word w 7) (word w 8) (word w 9) (word w 10)
+    → record {
+      policy = policy;
+      band = record { 0 = band };
+      role = role;
+      weight = record { 0 = weight };
+      «quantum_ns» = word w 5;
+      «fair_backend» = backend;
+      budget = budget;
+    }
+    ≡ parametersOf w
+unfolding parametersOf
+parameters-read w e₁ e₂ e₃ e₄ e₅ e₆ = rw (e₁, e₂, e₃, e₄, e₅, e₆)
+
+pub record-read : (w : List ℕ) {parameters : SchedulingParameters} {runtime : PolicyRuntime} {links : Links} {queueLinks : QueueLinks} {cpu : ℕ}
+    → parameters ≡ parametersOf w → runtime ≡ runtimeOf w → links ≡ linksOf w → queueLinks ≡ queueLinksOf w → cpu ≡ word w 29 % 256
+    → record {
+      parameters = parameters;
+      runtime = runtime;
+      «ready_turn» = word w 16;
+      «ready_tree» = links;
+      «queue_links» = queueLinks;
+      cpu = record { 0 = cpu };
+    }
+    ≡ decoded w
+unfolding decoded
+record-read w e₁ e₂ e₃ e₄ e₅ = rw (e₁, e₂, e₃, e₄, e₅)
+
+pub key-read : (w : List ℕ) (id : ℕ) (parameters : SchedulingParameters) (runtime : PolicyRuntime) {key : TreeKey}
+    → parameters ≡ parametersOf w → runtime ≡ runtimeOf w → key ≡ treeKey parameters runtime (word w 16) id → key ≡ readyIndexKey (decoded w) id
+unfolding decoded readyIndexKey
+key-read w id parameters runtime e₁ e₂ h = rw (sym e₁, sym e₂) h
+
+-- A row whose every part was stored stands for the record with those parts.
+pub all-stored : (t : ThreadRecord) (w₀ w₁ w₂ w₃ w₄ w₅ w₆ : List ℕ)
+    → decoded w₁ ≡ withParameters (t .parameters) (decoded w₀) → decoded w₂ ≡ withRuntime (t .runtime) (decoded w₁)
+    → decoded w₃ ≡ withTurn (t .«ready_turn») (decoded w₂) → decoded w₄ ≡ withLinks (t .«ready_tree») (decoded w₃)
+    → decoded w₅ ≡ withQueueLinks (t .«queue_links») (decoded w₄) → decoded w₆ ≡ withCpu (t .cpu) (decoded w₅)
+    → decoded w₆ ≡ t
+all-stored t w₀ w₁ w₂ w₃ w₄ w₅ w₆ e₁ e₂ e₃ e₄ e₅ e₆ = rw (e₆, e₅, e₄, e₃, e₂, e₁)

@@ -1,0 +1,18 @@
+-- Inside the table one row is replaced by itself with one part changed, outside nothing is.
+use Rattle.rows.specs.RowTableLaws.{set-runtime-inside, set-runtime-outside}
+use borrow.Author.Needs.{needs}
+use Rattle.rows.proofs.set_runtime.Statement.{statement}
+use Rattle.rows.proofs.set_runtime.Tie as tie
+
+pub set-runtime-spec : {M : Type 1} → statement M
+set-runtime-spec =
+    tie.close
+    (tie.spec
+    (λ c. search needs)
+    (λ c. search needs)
+    (λ c κs. search needs)
+    (λ c. search needs)
+    (λ c. search needs)
+    (λ c. search needs)
+    (λ c. search (set-runtime-inside, set-runtime-outside) depth 8)
+    (λ c. search (set-runtime-inside, set-runtime-outside) depth 8))

@@ -1,0 +1,8 @@
+-- The table: what is read and stored at a number.
+pub mod Table
+-- Choosing by what was read, and by whether a store was made.
+pub mod TableCases
+-- Laws by which the functions over rows meet those definitions.
+pub mod RowTableLaws
+-- Laws of reading after a store.
+pub mod TableLaws

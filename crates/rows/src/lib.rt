@@ -1,0 +1,143 @@
+// The table of records as rows of 32 words, read and changed by a record's number. Each store touches the words of one part.
+ghost use mathlib.Core.Path.{_≡_};
+ghost use Rattle.rows.specs.Table.{table, out, linksAt, keyAt, queueLinksAt, recordAt, setLinks, setQueueLinks, setRuntime, setTurn};
+use algorithms::PolicyRuntime;
+use codec::decode;
+use codec::key_of;
+use codec::links_of;
+use codec::queue_links_of;
+use codec::with_links;
+use codec::with_queue_links;
+use codec::with_runtime;
+use codec::with_turn;
+use thread::Links;
+use thread::QueueLinks;
+use thread::ThreadRecord;
+use thread::TreeKey;
+
+// Damaged, here and below: the number is not below the record count.
+pub enum LinksRead {
+    Got(Links),
+    Damaged,
+}
+
+pub enum KeyRead {
+    Got(TreeKey),
+    Damaged,
+}
+
+pub enum QueueLinksRead {
+    Got(QueueLinks),
+    Damaged,
+}
+
+pub enum RecordRead {
+    Got(ThreadRecord),
+    Damaged,
+}
+
+// Whether a store was made; where not, nothing changed.
+pub enum Change {
+    Made,
+    Damaged,
+}
+
+pub fn links_at(t: &[[u64; 32]], i: u64) -> LinksRead
+    ensures { λ r. ⌜ r ≡ linksAt (table (now (t .entry))) i ⌝ }
+{
+    let k = i as usize;
+    if k < t.len() {
+        let row = t[k];
+        LinksRead::Got(links_of(row))
+    } else {
+        LinksRead::Damaged
+    }
+}
+
+pub fn key_at(t: &[[u64; 32]], i: u64) -> KeyRead
+    ensures { λ r. ⌜ r ≡ keyAt (table (now (t .entry))) i ⌝ }
+{
+    let k = i as usize;
+    if k < t.len() {
+        let row = t[k];
+        KeyRead::Got(key_of(row, i))
+    } else {
+        KeyRead::Damaged
+    }
+}
+
+pub fn queue_links_at(t: &[[u64; 32]], i: u64) -> QueueLinksRead
+    ensures { λ r. ⌜ r ≡ queueLinksAt (table (now (t .entry))) i ⌝ }
+{
+    let k = i as usize;
+    if k < t.len() {
+        let row = t[k];
+        QueueLinksRead::Got(queue_links_of(row))
+    } else {
+        QueueLinksRead::Damaged
+    }
+}
+
+pub fn record_at(t: &[[u64; 32]], i: u64) -> RecordRead
+    ensures { λ r. ⌜ r ≡ recordAt (table (now (t .entry))) i ⌝ }
+{
+    let k = i as usize;
+    if k < t.len() {
+        let row = t[k];
+        RecordRead::Got(decode(row))
+    } else {
+        RecordRead::Damaged
+    }
+}
+
+pub fn set_links(t: &mut [[u64; 32]], i: u64, links: Links) -> Change
+    ensures { λ r. ⌜ out r (table (now (t .exit))) ≡ setLinks (table (now (t .entry))) i links ⌝ }
+{
+    let k = i as usize;
+    if k < t.len() {
+        let row = t[k];
+        t[k] = with_links(row, links);
+        Change::Made
+    } else {
+        Change::Damaged
+    }
+}
+
+pub fn set_queue_links(t: &mut [[u64; 32]], i: u64, links: QueueLinks) -> Change
+    ensures { λ r. ⌜ out r (table (now (t .exit))) ≡ setQueueLinks (table (now (t .entry))) i links ⌝ }
+{
+    let k = i as usize;
+    if k < t.len() {
+        let row = t[k];
+        t[k] = with_queue_links(row, links);
+        Change::Made
+    } else {
+        Change::Damaged
+    }
+}
+
+pub fn set_runtime(t: &mut [[u64; 32]], i: u64, runtime: PolicyRuntime) -> Change
+    ensures { λ r. ⌜ out r (table (now (t .exit))) ≡ setRuntime (table (now (t .entry))) i runtime ⌝ }
+{
+    let k = i as usize;
+    if k < t.len() {
+        let row = t[k];
+        t[k] = with_runtime(row, runtime);
+        Change::Made
+    } else {
+        Change::Damaged
+    }
+}
+
+pub fn set_turn(t: &mut [[u64; 32]], i: u64, turn: u64) -> Change
+    ensures { λ r. ⌜ out r (table (now (t .exit))) ≡ setTurn (table (now (t .entry))) i turn ⌝ }
+{
+    let k = i as usize;
+    if k < t.len() {
+        let row = t[k];
+        t[k] = with_turn(row, turn);
+        Change::Made
+    } else {
+        Change::Damaged
+    }
+}

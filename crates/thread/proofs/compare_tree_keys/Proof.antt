@@ -1,0 +1,22 @@
+-- The four joined comparisons are the comparison of the parts, and a last part that is Equal decides nothing.
+use Rattle.thread.specs.TreeKeyLaws.{part-by-part}
+use borrow.Author.Needs.{needs}
+use Rattle.thread.proofs.compare_tree_keys.Statement.{statement}
+use Rattle.thread.proofs.compare_tree_keys.Tie as tie
+
+pub compare-tree-keys-spec : {M : Type 1} → statement M
+compare-tree-keys-spec =
+    tie.close
+    (tie.spec
+    (λ c κs. search needs)
+    (λ c κs. search needs)
+    (λ c κs. search needs)
+    (λ c κs. search needs)
+    (λ c κs. search needs)
+    (λ c κs. search needs)
+    (λ c κs. search needs)
+    (λ c κs. search needs)
+    (λ c κs. search needs)
+    (λ c κs. search needs)
+    (λ c κs. search needs)
+    (λ c. search part-by-part depth 4))

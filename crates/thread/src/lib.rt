@@ -1,0 +1,474 @@
+// A thread's record: links, memberships, keys, filing and the judgement of it. After task/thread.rs, task/wait.rs and scheduler/queue.rs.
+ghost use mathlib.Core.Path.{_≡_};
+ghost use Rattle.thread.specs.Membership.{emptyQueue, isNone, pointsTo, isUnqueued, isReadyRealTime, isReadyFair, isWaiting, isTerminated, sameMembership, readyCpu, isReadyOn};
+ghost use Rattle.thread.specs.TreeKey.{algorithmKey, treeKey, readyIndexKey, compareTreeKeys};
+ghost use Rattle.thread.specs.Judgement.{hasBudget, isBadBudget, isBadRecord};
+ghost use Rattle.thread.specs.Filing.{budgetAvailable, roleIndex, indexFor};
+use algorithms::PolicyRuntime;
+use algorithms::Wide;
+use algorithms::same_kind;
+use order::Ordering;
+use order::compare_numbers;
+use order::then_by;
+use policy::BudgetOption;
+use policy::FairBackend;
+use policy::SchedulingParameters;
+use policy::SchedulingPolicy;
+use policy::SchedulingRole;
+
+// A thread's number: its record's place in the table.
+pub struct ThreadId(pub u64);
+
+impl ThreadId {
+    pub fn new(value: u64) -> Self
+        ensures { λ r. ⌜ r .0 ≡ value ⌝ }
+    {
+        Self(value)
+    }
+
+    pub fn get(self) -> u64
+        ensures { λ r. ⌜ r ≡ self .0 ⌝ }
+    {
+        self.0
+    }
+}
+
+// A processor's number.
+pub struct CpuIndex(pub u8);
+
+impl CpuIndex {
+    pub fn new(value: u8) -> Self
+        ensures { λ r. ⌜ r .0 ≡ value ⌝ }
+    {
+        Self(value)
+    }
+
+    pub fn get(self) -> u8
+        ensures { λ r. ⌜ r ≡ self .0 ⌝ }
+    {
+        self.0
+    }
+}
+
+// A record's number, or none: the source's `Option<ThreadId>` inside records.
+pub enum Link {
+    None,
+    Some(u64),
+}
+
+// A record's links within its tree. After `ReadyTreeLinks`.
+pub struct Links {
+    pub left: Link,
+    pub right: Link,
+    pub height: u8,
+}
+
+impl Links {
+    // A tree of one.
+    pub const EMPTY: Self = Self {
+        left: Link::None,
+        right: Link::None,
+        height: 1,
+    };
+}
+
+// The list that a record stands in.
+pub enum QueueMembership {
+    None,
+    ReadyRealTime { cpu: CpuIndex, priority: u8 },
+    ReadyFair { cpu: CpuIndex },
+    Waiting { queue: u64 },
+    Terminated,
+}
+
+// A record's neighbours within its list, and which list that is.
+pub struct QueueLinks {
+    pub previous: Link,
+    pub next: Link,
+    pub membership: QueueMembership,
+}
+
+impl QueueLinks {
+    // In no list.
+    pub const EMPTY: Self = Self {
+        previous: Link::None,
+        next: Link::None,
+        membership: QueueMembership::None,
+    };
+}
+
+// A list by its ends. After task/wait.rs.
+pub struct ThreadQueue {
+    pub head: Link,
+    pub tail: Link,
+    pub len: u64,
+}
+
+impl ThreadQueue {
+    pub fn new() -> Self
+        ensures { λ r. ⌜ r ≡ emptyQueue ⌝ }
+    {
+        Self {
+            head: Link::None,
+            tail: Link::None,
+            len: 0,
+        }
+    }
+}
+
+// What the scheduler keeps of a thread. After `ThreadScheduleState`; `cpu` is the processor it is assigned to.
+pub struct ThreadRecord {
+    pub parameters: SchedulingParameters,
+    pub runtime: PolicyRuntime,
+    pub ready_turn: u64,
+    pub ready_tree: Links,
+    pub queue_links: QueueLinks,
+    pub cpu: CpuIndex,
+}
+
+// What a tree is ordered by: algorithm, band, turn, number.
+pub struct TreeKey {
+    pub algorithm: Wide,
+    pub band: u8,
+    pub turn: u64,
+    pub id: u64,
+}
+
+// The processor of a ready membership, or none.
+pub enum CpuOption {
+    None,
+    Some(CpuIndex),
+}
+
+// The number of the tree that a record is filed in, or none: an Idle record stands in no tree.
+pub enum IndexFor {
+    Index(u64),
+    None,
+}
+
+impl Link {
+    pub fn is_none(self) -> bool
+        ensures { λ r. ⌜ r ≡ isNone self ⌝ }
+    {
+        let link = self;
+        match link {
+            Link::None => true,
+            Link::Some(_) => false,
+        }
+    }
+
+    // Whether it is `Some(id)`.
+    pub fn points_to(self, id: u64) -> bool
+        ensures { λ r. ⌜ r ≡ pointsTo self id ⌝ }
+    {
+        let link = self;
+        match link {
+            Link::None => false,
+            Link::Some(number) => {
+                if number == id {
+                    return true;
+                }
+                false
+            }
+        }
+    }
+}
+
+impl QueueMembership {
+    // In no list.
+    pub fn is_unqueued(self) -> bool
+        ensures { λ r. ⌜ r ≡ isUnqueued self ⌝ }
+    {
+        let membership = self;
+        match membership {
+            QueueMembership::None => true,
+            QueueMembership::ReadyRealTime {
+                cpu: _,
+                priority: _,
+            } => false,
+            QueueMembership::ReadyFair { cpu: _ } => false,
+            QueueMembership::Waiting { queue: _ } => false,
+            QueueMembership::Terminated => false,
+        }
+    }
+
+    fn is_ready_real_time(self, cpu: CpuIndex, priority: u8) -> bool
+        ensures { λ r. ⌜ r ≡ isReadyRealTime self cpu priority ⌝ }
+    {
+        let membership = self;
+        match membership {
+            QueueMembership::None => false,
+            QueueMembership::ReadyRealTime {
+                cpu: other,
+                priority: level,
+            } => {
+                if cpu.0 == other.0 {
+                    if priority == level {
+                        return true;
+                    }
+                    return false;
+                }
+                false
+            }
+            QueueMembership::ReadyFair { cpu: _ } => false,
+            QueueMembership::Waiting { queue: _ } => false,
+            QueueMembership::Terminated => false,
+        }
+    }
+
+    fn is_ready_fair(self, cpu: CpuIndex) -> bool
+        ensures { λ r. ⌜ r ≡ isReadyFair self cpu ⌝ }
+    {
+        let membership = self;
+        match membership {
+            QueueMembership::None => false,
+            QueueMembership::ReadyRealTime {
+                cpu: _,
+                priority: _,
+            } => false,
+            QueueMembership::ReadyFair { cpu: other } => {
+                if cpu.0 == other.0 {
+                    return true;
+                }
+                false
+            }
+            QueueMembership::Waiting { queue: _ } => false,
+            QueueMembership::Terminated => false,
+        }
+    }
+
+    fn is_waiting(self, queue: u64) -> bool
+        ensures { λ r. ⌜ r ≡ isWaiting self queue ⌝ }
+    {
+        let membership = self;
+        match membership {
+            QueueMembership::None => false,
+            QueueMembership::ReadyRealTime {
+                cpu: _,
+                priority: _,
+            } => false,
+            QueueMembership::ReadyFair { cpu: _ } => false,
+            QueueMembership::Waiting { queue: other } => {
+                if queue == other {
+                    return true;
+                }
+                false
+            }
+            QueueMembership::Terminated => false,
+        }
+    }
+
+    fn is_terminated(self) -> bool
+        ensures { λ r. ⌜ r ≡ isTerminated self ⌝ }
+    {
+        let membership = self;
+        match membership {
+            QueueMembership::None => false,
+            QueueMembership::ReadyRealTime {
+                cpu: _,
+                priority: _,
+            } => false,
+            QueueMembership::ReadyFair { cpu: _ } => false,
+            QueueMembership::Waiting { queue: _ } => false,
+            QueueMembership::Terminated => true,
+        }
+    }
+}
+
+// Whether the two are equal.
+pub fn same_membership(membership: QueueMembership, other: QueueMembership) -> bool
+    ensures { λ r. ⌜ r ≡ sameMembership membership other ⌝ }
+{
+    match membership {
+        QueueMembership::None => other.is_unqueued(),
+        QueueMembership::ReadyRealTime { cpu, priority } => other.is_ready_real_time(cpu, priority),
+        QueueMembership::ReadyFair { cpu } => other.is_ready_fair(cpu),
+        QueueMembership::Waiting { queue } => other.is_waiting(queue),
+        QueueMembership::Terminated => other.is_terminated(),
+    }
+}
+
+pub fn ready_cpu(membership: QueueMembership) -> CpuOption
+    ensures { λ r. ⌜ r ≡ readyCpu membership ⌝ }
+{
+    match membership {
+        QueueMembership::None => CpuOption::None,
+        QueueMembership::ReadyRealTime { cpu, priority: _ } => CpuOption::Some(cpu),
+        QueueMembership::ReadyFair { cpu } => CpuOption::Some(cpu),
+        QueueMembership::Waiting { queue: _ } => CpuOption::None,
+        QueueMembership::Terminated => CpuOption::None,
+    }
+}
+
+// Whether the membership is ready on this processor.
+pub fn is_ready_on(membership: QueueMembership, cpu: CpuIndex) -> bool
+    ensures { λ r. ⌜ r ≡ isReadyOn membership cpu ⌝ }
+{
+    let CpuOption::Some(other) = ready_cpu(membership) else {
+        return false;
+    };
+    if other.0 == cpu.0 {
+        return true;
+    }
+    false
+}
+
+// A byte as a word, so that every part of a key is compared as a number.
+fn wide(value: u8) -> u64
+    ensures { λ r. ⌜ r ≡ value ⌝ }
+{
+    value as u64
+}
+
+// The priority for FIFO, the pass for Stride, otherwise the turn.
+fn algorithm_key(parameters: SchedulingParameters, runtime: PolicyRuntime, turn: u64) -> Wide
+    ensures { λ r. ⌜ r ≡ algorithmKey parameters runtime turn ⌝ }
+{
+    let policy = parameters.policy;
+    let backend = parameters.fair_backend;
+    let by_turn = Wide { high: 0, low: turn };
+    match policy {
+        SchedulingPolicy::Fifo { priority } => Wide {
+            high: 0,
+            low: priority.0 as u64,
+        },
+        SchedulingPolicy::Fair => match backend {
+            FairBackend::Stride => {
+                let key = runtime.candidate_key(parameters, turn);
+                key.pass
+            }
+            FairBackend::RoundRobin => by_turn,
+        },
+        SchedulingPolicy::Budget => by_turn,
+        SchedulingPolicy::Idle => by_turn,
+    }
+}
+
+// `ready_index_key` of a record's parts, for whoever has only these at hand.
+pub fn tree_key(
+    parameters: SchedulingParameters,
+    runtime: PolicyRuntime,
+    turn: u64,
+    id: u64,
+) -> TreeKey
+    ensures { λ r. ⌜ r ≡ treeKey parameters runtime turn id ⌝ }
+{
+    let band = parameters.band;
+    TreeKey {
+        algorithm: algorithm_key(parameters, runtime, turn),
+        band: band.0,
+        turn,
+        id,
+    }
+}
+
+pub fn ready_index_key(thread: ThreadRecord, id: u64) -> TreeKey
+    ensures { λ r. ⌜ r ≡ readyIndexKey thread id ⌝ }
+{
+    let parameters = thread.parameters;
+    let runtime = thread.runtime;
+    tree_key(parameters, runtime, thread.ready_turn, id)
+}
+
+// Algorithm, band, turn, number; a later part decides only where all before it are equal.
+pub fn compare_tree_keys(a: TreeKey, b: TreeKey) -> Ordering
+    ensures { λ r. ⌜ r ≡ compareTreeKeys a b ⌝ }
+{
+    let left = a.algorithm;
+    let right = b.algorithm;
+    let high = compare_numbers(left.high, right.high);
+    let low = compare_numbers(left.low, right.low);
+    let band = compare_numbers(wide(a.band), wide(b.band));
+    let turn = compare_numbers(a.turn, b.turn);
+    let id = compare_numbers(a.id, b.id);
+    then_by(high, then_by(low, then_by(band, then_by(turn, id))))
+}
+
+fn has_budget(budget: BudgetOption) -> bool
+    ensures { λ r. ⌜ r ≡ hasBudget budget ⌝ }
+{
+    match budget {
+        BudgetOption::None => false,
+        BudgetOption::Some(_) => true,
+    }
+}
+
+fn is_bad_budget(budget: BudgetOption) -> bool
+    ensures { λ r. ⌜ r ≡ isBadBudget budget ⌝ }
+{
+    match budget {
+        BudgetOption::None => true,
+        BudgetOption::Some(parameters) => {
+            if parameters.is_sound() {
+                return false;
+            }
+            true
+        }
+    }
+}
+
+// Whether policy, budget and runtime disagree, or the budget is bad.
+pub fn is_bad_record(thread: ThreadRecord) -> bool
+    ensures { λ r. ⌜ r ≡ isBadRecord thread ⌝ }
+{
+    let parameters = thread.parameters;
+    let policy = parameters.policy;
+    let budget = parameters.budget;
+    let runtime = thread.runtime;
+    if !same_kind(runtime, policy) {
+        return true;
+    }
+    match policy {
+        SchedulingPolicy::Fifo { priority: _ } => has_budget(budget),
+        SchedulingPolicy::Fair => has_budget(budget),
+        SchedulingPolicy::Budget => is_bad_budget(budget),
+        SchedulingPolicy::Idle => has_budget(budget),
+    }
+}
+
+// Whether the runtime is a budget's with time left. After `ReadySnapshot::budget_available`.
+pub fn budget_available(runtime: PolicyRuntime) -> bool
+    ensures { λ r. ⌜ r ≡ budgetAvailable runtime ⌝ }
+{
+    match runtime {
+        PolicyRuntime::Fifo => false,
+        PolicyRuntime::Fair(_) => false,
+        PolicyRuntime::Budget(budget) => {
+            if budget.remaining_ns == 0 {
+                return false;
+            }
+            true
+        }
+        PolicyRuntime::Idle => false,
+    }
+}
+
+fn role_index(role: SchedulingRole) -> u64
+    ensures { λ r. ⌜ r ≡ roleIndex role ⌝ }
+{
+    match role {
+        SchedulingRole::Ordinary => 0,
+        SchedulingRole::Priority => 1,
+        SchedulingRole::Protected => 2,
+    }
+}
+
+// The tree's number among the twelve.
+pub fn index_for(parameters: SchedulingParameters, runtime: PolicyRuntime) -> IndexFor
+    ensures { λ r. ⌜ r ≡ indexFor parameters runtime ⌝ }
+{
+    let policy = parameters.policy;
+    let its_role = parameters.role;
+    let role = role_index(its_role);
+    match policy {
+        SchedulingPolicy::Fifo { priority: _ } => IndexFor::Index(role),
+        SchedulingPolicy::Fair => IndexFor::Index(3 + role),
+        SchedulingPolicy::Budget => {
+            if budget_available(runtime) {
+                return IndexFor::Index(6 + role);
+            }
+            IndexFor::Index(9 + role)
+        }
+        SchedulingPolicy::Idle => IndexFor::None,
+    }
+}
