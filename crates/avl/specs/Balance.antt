@@ -138,6 +138,7 @@ balance-by-height Right l i leaf k = absurd (omega arith)
 balance-by-height Right l i (node a j b) k = omega (arith, right-height (ltb (height b) (height a)) l i a j b refl k)
 balance-by-height Even l i r k = omega arith
 
+-- Balancing a node raises no height by more than the node itself.
 pub balance-height : (l : Tree) (i : ℕ) (r : Tree) → height (balance l i r) ≤ suc (max (height l) (height r))
 unfolding balance
 balance-height l i r = balance-by-height (leanOf (height l) (height r)) l i r (leans (height l) (height r))

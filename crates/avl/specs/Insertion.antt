@@ -1,10 +1,10 @@
 -- Insertion keeps balance and adds one thread in its place.
-use mathlib.Core.Path.{_≡_, refl, ap, _∙_}
-use Prim.Native.Nat.{ℕ, _+_, _≤_}
+use mathlib.Core.Path.{_∙_}
+use Prim.Native.Nat.{ℕ}
 use native.Mathlib.Omega.{arith}
-use mathlib.Core.List.{List, [], _∷_, _++_, append-assoc}
-use Rattle.avl.specs.Tree.{Tree, leaf, node, height, inOrder, Balanced}
-use Rattle.avl.specs.Path.{Frame, plug, rebuild, before, after}
+use mathlib.Core.List.{List, append-assoc}
+use Rattle.avl.specs.Tree.{leaf, node, inOrder, Balanced}
+use Rattle.avl.specs.Path.{Frame, plug, before, after}
 use Rattle.avl.specs.Operations.{insertAt, Added}
 use Rattle.avl.specs.InOrder.{plug-in-order, rebuild-in-order}
 use Rattle.avl.specs.Rebuild.{rebuild-balanced, balanced-at}

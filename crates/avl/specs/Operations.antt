@@ -16,6 +16,7 @@ pub record Successor : Type 0 where
   pub thread : ℕ
   pub right : Tree
 
+-- Down the left sides from a node, z being the path to that node.
 abbrev pub successorFrom : List Frame → Tree → ℕ → Tree → Successor
 successorFrom z leaf i r = record { path = z; thread = i; right = r }
 successorFrom z (node a j b) i r = successorFrom (leftOf i r ∷ z) a j b

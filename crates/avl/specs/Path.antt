@@ -1,7 +1,7 @@
 -- A path into a tree: one frame for each node on the way, the last first, each with the side that the path left alone.
 use Prim.Native.Nat.{ℕ, suc, max}
 use mathlib.Core.List.{List, [], _∷_, _++_}
-use Rattle.avl.specs.Tree.{Tree, leaf, node, height, inOrder, Near, Balanced}
+use Rattle.avl.specs.Tree.{Tree, node, height, inOrder, Near, Balanced}
 use Rattle.avl.specs.Rotation.{balance}
 
 -- The path went to the left of i, whose right side is r; or to the right of i, whose left side is l.

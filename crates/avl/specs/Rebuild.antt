@@ -1,11 +1,10 @@
 -- Rebuilding along a path of a balanced tree gives a balanced tree.
-use Prim.Native.Nat.{ℕ, suc, _+_, _≤_, max}
 use native.Mathlib.Omega.{arith}
 use mathlib.Core.List.{List, [], _∷_}
-use Rattle.avl.specs.Tree.{Tree, leaf, node, height, Near, Balanced}
+use Rattle.avl.specs.Tree.{Tree, node, height, Near, Balanced}
 use Rattle.avl.specs.Rotation.{balance}
 use Rattle.avl.specs.Path.{Frame, leftOf, rightOf, plug, rebuild, BalancedAround}
-use Rattle.avl.specs.Balance.{Rebalanced, balance-balanced}
+use Rattle.avl.specs.Balance.{balance-balanced}
 
 -- The tree with t in the place of x is balanced, and its height differs by at most one from what it was.
 pub record Replaced (z : List Frame) (x t : Tree) : Type 0 where

@@ -1,14 +1,13 @@
 -- Removal keeps balance and takes out one thread.
 use mathlib.Core.Path.{_≡_, refl, sym, ap, _∙_, subst}
-use Prim.Native.Nat.{ℕ, suc, _+_, _≤_, max}
+use Prim.Native.Nat.{ℕ, _+_}
 use native.Mathlib.Omega.{arith}
 use mathlib.Core.List.{List, [], _∷_, _++_, append-assoc, append-nil}
 use Rattle.avl.specs.Tree.{Tree, leaf, node, height, inOrder, Near, Balanced, leftmost}
-use Rattle.avl.specs.Rotation.{balance}
-use Rattle.avl.specs.Path.{Frame, leftOf, rightOf, plug, rebuild, before, after}
+use Rattle.avl.specs.Path.{Frame, leftOf, plug, rebuild, before, after}
 use Rattle.avl.specs.Operations.{Successor, successorFrom, joinBy, join, removeAt, Added}
 use Rattle.avl.specs.InOrder.{balance-in-order, plug-in-order, rebuild-in-order}
-use Rattle.avl.specs.Balance.{Rebalanced, balance-balanced}
+use Rattle.avl.specs.Balance.{balance-balanced}
 use Rattle.avl.specs.Rebuild.{Replaced, rebuild-balanced, balanced-at}
 
 -- The successor's path leads to it and goes to the left only.
@@ -16,11 +15,13 @@ pub record SuccessorIn (z : List Frame) (x : Tree) (s : Successor) : Type 0 wher
   pub whole : plug (s .path) (node leaf (s .thread) (s .right)) ≡ plug z x
   pub first : before (s .path) ≡ before z
 
+-- So it is for every node.
 pub successor-in : (z : List Frame) (l : Tree) (i : ℕ) (r : Tree) → SuccessorIn z (node l i r) (successorFrom z l i r)
 unfolding before
 successor-in z leaf i r = record { whole = refl; first = refl }
 successor-in z (node a j b) i r = let s = successor-in (leftOf i r ∷ z) a j b in record { whole = s .whole; first = s .first }
 
+-- The successor is the leftmost thread.
 pub successor-leftmost : (z : List Frame) (l : Tree) (i : ℕ) (r : Tree) → successorFrom z l i r .thread ≡ leftmost l i r
 successor-leftmost z leaf i r = refl
 successor-leftmost z (node a j b) i r = successor-leftmost (leftOf i r ∷ z) a j b

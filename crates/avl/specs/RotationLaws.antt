@@ -17,6 +17,7 @@ Leans Left a b = b + 1 < a
 Leans Right a b = a + 1 < b
 Leans Even a b = Near a b
 
+-- The test answers what is so.
 pub leans : (a b : ℕ) → Leans (leanOf a b) a b
 unfolding leanOf ifLess choose
 leans a b = go (ltb b a) (ltb 1 (a - b)) (ltb 1 (b - a)) refl refl refl

@@ -2,6 +2,7 @@
 use Prim.Native.Nat.{ℕ, suc, _+_, _≤_, max}
 use mathlib.Core.List.{List, [], _∷_, _++_}
 
+-- A leaf, or a node with a left side, a thread and a right side.
 pub data Tree : Type 0 where
   leaf : Tree
   node : Tree → ℕ → Tree → Tree

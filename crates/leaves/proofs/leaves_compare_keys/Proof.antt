@@ -1,0 +1,14 @@
+-- The words stand for the arguments, the call answers by its own contract, and the answer goes back into words.
+use borrow.Author.Needs.{needs}
+use Rattle.leaves.proofs.leaves_compare_keys.Statement.{statement}
+use Rattle.leaves.proofs.leaves_compare_keys.Tie as tie
+
+pub leaves-compare-keys-spec : {M : Type 1} → statement M
+leaves-compare-keys-spec =
+    tie.close
+    (tie.spec
+    (λ c κs. search needs)
+    (λ c κs. search needs)
+    (λ c κs. search needs)
+    (λ c κs. search needs)
+    (λ c. cc))

@@ -1,0 +1,13 @@
+-- The words stand for the arguments, the call answers by its own contract, and the answer goes back into words.
+use borrow.Author.Needs.{needs}
+use Rattle.leaves.proofs.leaves_config_accepts.Statement.{statement}
+use Rattle.leaves.proofs.leaves_config_accepts.Tie as tie
+
+pub leaves-config-accepts-spec : {M : Type 1} → statement M
+leaves-config-accepts-spec =
+    tie.close
+    (tie.spec
+    (λ c κs. search needs)
+    (λ c κs. search needs)
+    (λ c κs. search needs)
+    (λ c. cc))

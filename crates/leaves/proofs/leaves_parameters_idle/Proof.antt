@@ -1,0 +1,12 @@
+-- The words stand for the arguments, the call answers by its own contract, and the answer goes back into words.
+use borrow.Author.Needs.{needs}
+use Rattle.leaves.proofs.leaves_parameters_idle.Statement.{statement}
+use Rattle.leaves.proofs.leaves_parameters_idle.Tie as tie
+
+pub leaves-parameters-idle-spec : {M : Type 1} → statement M
+leaves-parameters-idle-spec =
+    tie.close
+    (tie.spec
+    (λ c κs. search needs)
+    (λ c κs. search needs)
+    (λ c. cc))

@@ -1,0 +1,15 @@
+-- The words stand for the arguments, the call answers by its own contract, and the answer goes back into words.
+use borrow.Author.Needs.{needs}
+use Rattle.leaves.proofs.leaves_window_account_dispatch.Statement.{statement}
+use Rattle.leaves.proofs.leaves_window_account_dispatch.Tie as tie
+
+pub leaves-window-account-dispatch-spec : {M : Type 1} → statement M
+leaves-window-account-dispatch-spec =
+    tie.close
+    (tie.spec
+    (λ c κs. search needs)
+    (λ c κs. search needs)
+    (λ c κs. search needs)
+    (λ c κs. search needs)
+    (λ c κs. search needs)
+    (λ c. cc))

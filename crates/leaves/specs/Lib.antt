@@ -1,0 +1,2 @@
+-- Worked cases of document 01 on words.
+pub mod WorkedCases

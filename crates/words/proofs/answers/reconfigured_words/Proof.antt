@@ -1,0 +1,19 @@
+-- Each arm is the definition's clause for its variant.
+use Rattle.words.specs.AnswerWords.{reconfiguredWords}
+use borrow.Author.Needs.{needs}
+use Rattle.words.proofs.answers.reconfigured_words.Statement.{statement}
+use Rattle.words.proofs.answers.reconfigured_words.Tie as tie
+
+pub reconfigured-words-spec : {M : Type 1} → statement M
+unfolding reconfiguredWords
+reconfigured-words-spec =
+    tie.close
+    (tie.spec
+    (λ c. search needs)
+    (λ c κs. search needs)
+    (λ c. search needs)
+    (λ c. search needs)
+    (λ c κs. search needs)
+    (λ c. rw (c .before .before .answer .given .1) cc)
+    (λ c. rw (c .enum-told .given .1) cc)
+    (λ c. rw (c .before .before .answer2 .given .1) cc))

@@ -1,0 +1,18 @@
+-- Each arm is the definition's clause for its variant.
+use Rattle.words.specs.AnswerWords.{runtimeDeadlineWords}
+use borrow.Author.Needs.{needs}
+use Rattle.words.proofs.answers.runtime_deadline_words.Statement.{statement}
+use Rattle.words.proofs.answers.runtime_deadline_words.Tie as tie
+
+pub runtime-deadline-words-spec : {M : Type 1} → statement M
+unfolding runtimeDeadlineWords
+runtime-deadline-words-spec =
+    tie.close
+    (tie.spec
+    (λ c. search needs)
+    (λ c κs. search needs)
+    (λ c κs. search needs)
+    (λ c. search needs)
+    (λ c κs. search needs)
+    (λ c. rw (c .before .before .before .answer .given .1) cc)
+    (λ c. rw (c .before .before .answer2 .given .1) cc))

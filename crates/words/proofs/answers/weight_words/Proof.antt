@@ -1,0 +1,16 @@
+-- Each arm is the definition's clause for its variant.
+use Rattle.words.specs.AnswerWords.{weightWords}
+use borrow.Author.Needs.{needs}
+use Rattle.words.proofs.answers.weight_words.Statement.{statement}
+use Rattle.words.proofs.answers.weight_words.Tie as tie
+
+pub weight-words-spec : {M : Type 1} → statement M
+unfolding weightWords
+weight-words-spec =
+    tie.close
+    (tie.spec
+    (λ c. search needs)
+    (λ c. search needs)
+    (λ c. search needs)
+    (λ c. rw (c .before .before .answer .given .1) cc)
+    (λ c. rw (c .enum-told .given .1) cc))

@@ -1,0 +1,231 @@
+//! Seeded random runs: boundary values mixed with any number, and states that are carried along.
+
+use std::time::{Duration, Instant};
+
+use kernel::oracle::*;
+
+use crate::tally::Tally;
+use crate::values::Picks;
+
+/// A multiplicative generator over 64 bits of state (splitmix64).
+pub struct Random(u64);
+
+impl Random {
+    pub const fn new(seed: u64) -> Self {
+        Self(seed)
+    }
+
+    fn next(&mut self) -> u64 {
+        self.0 = self.0.wrapping_add(0x9e37_79b9_7f4a_7c15);
+        let mixed = (self.0 ^ self.0 >> 30).wrapping_mul(0xbf58_476d_1ce4_e5b9);
+        let mixed = (mixed ^ mixed >> 27).wrapping_mul(0x94d0_49bb_1331_11eb);
+        mixed ^ mixed >> 31
+    }
+
+    /// Any number, small ones and those near 2^64 more often.
+    fn number(&mut self) -> u64 {
+        let number = self.next() >> self.below(64);
+        if self.below(8) == 0 { !number } else { number }
+    }
+
+    /// A period that is mostly sound.
+    fn any_period(&mut self) -> u64 {
+        match self.below(4) {
+            0 => self.period(),
+            1 => self.below(20),
+            2 => 1 + self.below(1_000_000_000),
+            _ => self.number(),
+        }
+    }
+
+    fn any_budget(&mut self, period: u64) -> Budget {
+        if self.below(4) == 0 {
+            return self.budget(period);
+        }
+        Budget {
+            budget: self.number().checked_rem(period).map_or(0, |n| n + 1),
+            period,
+            burst: self.number().checked_rem(period).map_or(0, |n| n + 1),
+        }
+    }
+
+    /// A configuration that is mostly sound.
+    fn any_config(&mut self) -> Config {
+        match self.below(8) {
+            0 => return self.config(),
+            1 | 2 => return self.sound_config(),
+            _ => {}
+        }
+        let period = 2 + self.number() % 999_999_999;
+        let floor = 1 + self.number() % (period - 1);
+        Config {
+            period,
+            allowance: self.number() % (period - floor),
+            floor,
+            order: DEFAULT_ORDER,
+            prefer_fair: self.flag(),
+        }
+    }
+
+    /// A clock that goes on, mostly by parts of a period, and back at times.
+    fn later(&mut self, now: u64, period: u64) -> u64 {
+        match self.below(8) {
+            0 => self.reading(period),
+            1 => now.wrapping_sub(self.number().checked_rem(period).unwrap_or(1)),
+            2 => now.wrapping_add(period),
+            3 => self.number(),
+            _ => now.wrapping_add(self.number().checked_rem(period).unwrap_or(1)),
+        }
+    }
+
+    /// Damages one part of a window at times.
+    fn damaged(&mut self, window: Window) -> Window {
+        let mut window = window;
+        match self.below(40) {
+            0 => window.config.period = self.of([0, 1_000_000_001, u64::MAX]),
+            1 => window.config.floor = self.of([0, window.config.period, u64::MAX]),
+            2 => window.config.allowance = window.config.period,
+            3 => window.config.order = self.order(),
+            4 => window.epoch = self.of([None, Some(0), Some(u64::MAX)]),
+            5 => window.priority_remaining = self.number(),
+            6 => window.protected_remaining = self.number(),
+            _ => {}
+        }
+        window
+    }
+}
+
+impl Picks for Random {
+    fn below(&mut self, bound: u64) -> u64 {
+        (u128::from(self.next()) * u128::from(bound) >> 64) as u64
+    }
+}
+
+/// A budget's life: refreshed, charged, reconfigured.
+fn budget_run(tally: &mut Tally, random: &mut Random) {
+    let period = random.any_period();
+    let mut budget = random.any_budget(period);
+    let mut now = random.reading(period);
+    let mut runtime = random.budget_runtime(now, budget);
+    tally.budget_new(budget);
+    tally.budget_runtime_new(budget);
+    for _ in 0..16 {
+        let end = random.later(now, period);
+        tally.budget_period_deadline(end, budget);
+        tally.budget_refresh(runtime, end, budget);
+        tally.budget_account(runtime, now, end, budget);
+        tally.budget_finish_turn(runtime, budget);
+        let borrow = random.flag();
+        tally.budget_deadline(runtime, end, budget, borrow);
+        let other = if random.flag() {
+            period
+        } else {
+            random.any_period()
+        };
+        let new = random.any_budget(other);
+        tally.budget_reconfigure(runtime, budget, new);
+        if let Ok(after) = crate::port::budget_account_interval(runtime, now, end, budget) {
+            runtime = after;
+        }
+        if let Ok(Some(after)) = crate::port::budget_reconfigure(runtime, budget, new) {
+            (runtime, budget) = (after, new);
+        }
+        now = end;
+    }
+}
+
+/// Runtimes and policies, which may disagree.
+fn runtime_run(tally: &mut Tally, random: &mut Random) {
+    let period = random.any_period();
+    let budget = random.any_budget(period);
+    let held = if random.below(6) == 0 {
+        None
+    } else {
+        Some(budget)
+    };
+    let params = random.params(held);
+    let fair = Runtime::Fair {
+        pass: crate::words::whole(random.number(), random.number()),
+        remaining: random.number(),
+    };
+    tally.runtime_new(params, fair);
+    let mut now = random.reading(period);
+    let mut runtime = random.runtime(now, budget);
+    if random.below(3) != 0 {
+        runtime = crate::port::runtime_new(params, fair).unwrap_or(runtime);
+    }
+    for _ in 0..8 {
+        let end = random.later(now, period);
+        tally.runtime_account(runtime, params, now, end);
+        tally.runtime_epoch_refresh(runtime, end, params);
+        tally.runtime_finish_turn(runtime, params);
+        tally.runtime_candidate_key(runtime, params, random.number());
+        let (competition, borrow) = (random.below(4) != 0, random.flag());
+        tally.runtime_next_deadline(runtime, end, params, competition, borrow);
+        if let Ok(after) = crate::port::runtime_account(runtime, params, now, end) {
+            runtime = after;
+        }
+        now = end;
+    }
+}
+
+/// A window's life, with keys and deadlines on the way.
+fn window_run(tally: &mut Tally, random: &mut Random) {
+    let config = random.any_config();
+    let period = config.period;
+    tally.config_new(config);
+    tally.window_new(config);
+    let mut now = random.reading(period);
+    let mut window = random.window(config, now);
+    let mut last_key = None;
+    for _ in 0..16 {
+        let whole = window.config;
+        window = random.damaged(window);
+        let end = random.later(now, period);
+        let candidate = random.candidate(period);
+        let (demand, mode) = (random.demand(), random.mode());
+        tally.config_accepts(window.config, candidate.params);
+        let backend = random.backend();
+        tally.config_admits(window.config, candidate.params, backend);
+        tally.window_period_deadline(window, end);
+        tally.window_refresh(window, end);
+        tally.window_protection(window, end, demand.protected);
+        let competition = random.below(4) != 0;
+        tally.window_next_deadline(window, end, mode, competition, demand);
+        let (key, _) = tally.window_candidate_key(window, end, candidate, demand);
+        if let (Some(a), Some(b)) = (key, last_key) {
+            tally.key_compare(a, b);
+        }
+        let (a, b) = (random.key(), random.key());
+        tally.key_compare(a, key.unwrap_or(b));
+        last_key = key;
+        window = tally.window_account(window, now, end, candidate.params, mode);
+        window.config = whole;
+        now = end;
+    }
+}
+
+fn parameters_run(tally: &mut Tally, random: &mut Random) {
+    let (weight, quantum) = (random.next() as u16, random.number());
+    let (priority, band) = (random.next() as u8, random.next() as u8);
+    let (role, backend) = (random.role(), random.backend());
+    tally.weight_new(weight);
+    tally.params_fair(weight, quantum, band, role, backend);
+    tally.params_fifo(priority, band, role);
+    let period = random.any_period();
+    let budget = random.any_budget(period);
+    tally.params_budget(budget, band, role);
+}
+
+pub fn run(tally: &mut Tally, seed: u64, time: Duration) {
+    let began = Instant::now();
+    let mut random = Random::new(seed);
+    while began.elapsed() < time {
+        for _ in 0..64 {
+            parameters_run(tally, &mut random);
+            budget_run(tally, &mut random);
+            runtime_run(tally, &mut random);
+            window_run(tally, &mut random);
+        }
+    }
+}
