@@ -1,2 +1,6 @@
--- The ● cases of document 01 as one table of the definitions, with one proof over it.
+-- What a row of the table is.
+pub mod Rows
+-- The rows about budgets and windows.
+pub mod LeafCases
+-- The table of the ● cases, with one proof over it.
 pub mod WorkedCases

@@ -1,0 +1,23 @@
+-- The link, and the read that it asks for.
+use Rattle.thread.specs.MembershipLaws.{memberships}
+use Rattle.rows.specs.TableCases.{tables}
+use Rattle.lists.specs.Checks.{nextValid}
+use borrow.Author.Needs.{needs}
+use Rattle.lists.proofs.next_valid.Statement.{statement}
+use Rattle.lists.proofs.next_valid.Tie as tie
+
+pub next-valid-spec : {M : Type 1} → statement M
+unfolding nextValid
+next-valid-spec =
+    tie.close
+    (tie.spec
+    (λ c. search needs)
+    (λ c κs. search needs)
+    (λ c. search needs)
+    (λ c κs. search needs)
+    (λ c. search needs)
+    (λ c. search needs)
+    (λ c. search (memberships, tables) depth 8)
+    (λ c κs. search needs)
+    (λ c. search (memberships, tables) depth 8)
+    (λ c. search (memberships, tables) depth 8))

@@ -1,0 +1,66 @@
+-- The ● cases of document 01 about the ready index: the tree that a sequence of calls leaves, as numbers.
+use Prim.Native.Nat.{ℕ}
+use mathlib.Core.List.{List, [], _∷_}
+use Rattle.policy.specs.declared.SchedulingRole.the-variants as role
+use Rattle.policy.specs.Parameters.{ofFifo}
+use Rattle.algorithms.specs.declared.PolicyRuntime.the-variants as runtime
+use Rattle.thread.specs.declared.Link.{Link}
+use Rattle.thread.specs.declared.Link.the-variants as link
+use Rattle.thread.specs.declared.ThreadRecord.{ThreadRecord}
+use Rattle.thread.specs.Membership.{emptyLinks, emptyQueueLinks}
+use Rattle.rows.specs.declared.LinksRead.{LinksRead}
+use Rattle.rows.specs.declared.LinksRead.the-variants as links
+use Rattle.rows.specs.Table.{Out, out, linksAt}
+use Rattle.ready_index.specs.declared.Rooted.{Rooted}
+use Rattle.ready_index.specs.declared.Rooted.the-variants as rooted
+use Rattle.ready_index.specs.Index.{insert, remove}
+use Rattle.worked_cases.specs.Rows.{Row, row}
+
+-- A FIFO record whose turn decides among those of one priority.
+abbrev turning : ℕ → ThreadRecord
+turning n = record { parameters = ofFifo (record { 0 = 1 }) (record { 0 = 1 }) role.Ordinary; runtime = runtime.Fifo; «ready_turn» = n; «ready_tree» = emptyLinks; «queue_links» = emptyQueueLinks; cpu = record { 0 = 0 } }
+
+-- Records 0 to 7, the turn of each its number.
+abbrev eight : List ThreadRecord
+eight = turning 0 ∷ turning 1 ∷ turning 2 ∷ turning 3 ∷ turning 4 ∷ turning 5 ∷ turning 6 ∷ turning 7 ∷ []
+
+-- The next call, on the root that the last one left.
+abbrev then : (List ThreadRecord → Link → ℕ → Out Rooted) → ℕ → Out Rooted → Out Rooted
+then call i (out (rooted.Root root) t) = call t root i
+then call i (out rooted.Damaged t) = out rooted.Damaged t
+
+abbrev insertAll : List ℕ → Out Rooted → Out Rooted
+insertAll [] o = o
+insertAll (i ∷ rest) o = insertAll rest (then insert i o)
+
+-- 1 and the number, or 0.
+abbrev linked : Link → List ℕ → List ℕ
+linked link.None rest = 0 ∷ rest
+linked (link.Some n) rest = 1 ∷ n ∷ rest
+
+abbrev linksNumbers : LinksRead → List ℕ
+linksNumbers (links.Got l) = linked (l .left) (linked (l .right) (l .height ∷ []))
+linksNumbers links.Damaged = []
+
+-- The root, and the links and height of a record.
+abbrev seen : ℕ → Out Rooted → List ℕ
+seen i (out (rooted.Root root) t) = linked root (linksNumbers (linksAt t i))
+seen i (out rooted.Damaged t) = []
+
+abbrev empty : Out Rooted
+empty = out (rooted.Root link.None) eight
+
+abbrev seven : Out Rooted
+seven = insertAll (1 ∷ 2 ∷ 3 ∷ 4 ∷ 5 ∷ 6 ∷ 7 ∷ []) empty
+
+abbrev pub treeRows : List Row
+treeRows =
+    -- Keys 1, 2, 3 in that order: root 2, height 2. Keys 3, 1, 2: root 2, height 2.
+    row (seen 2 (insertAll (1 ∷ 2 ∷ 3 ∷ []) empty)) (1 ∷ 2 ∷ 1 ∷ 1 ∷ 1 ∷ 3 ∷ 2 ∷ [])
+    ∷ row (seen 2 (insertAll (3 ∷ 1 ∷ 2 ∷ []) empty)) (1 ∷ 2 ∷ 1 ∷ 1 ∷ 1 ∷ 3 ∷ 2 ∷ [])
+    -- Keys 1 to 7 in order: root 4, height 3.
+    ∷ row (seen 4 seven) (1 ∷ 4 ∷ 1 ∷ 2 ∷ 1 ∷ 6 ∷ 3 ∷ [])
+    -- From that, removing 4 leaves root 5, with 2 on its left and 6 on its right, height 3; record 4 has empty links.
+    ∷ row (seen 5 (then remove 4 seven)) (1 ∷ 5 ∷ 1 ∷ 2 ∷ 1 ∷ 6 ∷ 3 ∷ [])
+    ∷ row (seen 4 (then remove 4 seven)) (1 ∷ 5 ∷ 0 ∷ 0 ∷ 1 ∷ [])
+    ∷ []
