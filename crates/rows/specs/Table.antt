@@ -26,6 +26,9 @@ pub data Out (A : Type 0) : Type 0 where
   out : A → List ThreadRecord → Out A
 
 -- The table of the two.
+abbrev pub answer : {A : Type 0} → Out A → A
+answer (out a t) = a
+
 abbrev pub after : {A : Type 0} → Out A → List ThreadRecord
 after (out a t) = t
 
