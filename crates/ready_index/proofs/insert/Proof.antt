@@ -1,0 +1,21 @@
+-- The key is read, and the whole path is lent.
+use Rattle.ready_index.specs.CasesLaws.{answers}
+use Rattle.ready_index.specs.Index.{insert}
+use Rattle.ready_index.specs.WaysLaws.{insert-lent}
+use borrow.Author.Needs.{needs}
+use Rattle.ready_index.proofs.insert.Statement.{statement}
+use Rattle.ready_index.proofs.insert.Tie as tie
+
+pub insert-spec : {M : Type 1} → statement M
+unfolding insert
+insert-spec =
+    tie.close
+    (tie.spec
+    (λ c κs. search needs)
+    (λ c. search needs)
+    (λ c. search needs)
+    (λ c. search needs)
+    (λ c. search (answers, insert-lent) depth 8)
+    (λ c κs. search needs)
+    (λ c. search needs)
+    (λ c. search (answers, insert-lent) depth 8))

@@ -1,0 +1,28 @@
+-- The links are read, stored with the new subtree, and the node is balanced.
+use Rattle.ready_index.specs.CasesLaws.{answers}
+use Rattle.ready_index.specs.Index.{rebuildStep}
+use Rattle.ready_index.specs.LoopLaws.{hanging}
+use borrow.Author.Needs.{needs}
+use Rattle.ready_index.proofs.rebuild_step.Statement.{statement}
+use Rattle.ready_index.proofs.rebuild_step.Tie as tie
+
+pub rebuild-step-spec : {M : Type 1} → statement M
+unfolding rebuildStep
+rebuild-step-spec =
+    tie.close
+    (tie.spec
+    (λ c. search needs)
+    (λ c κs. search needs)
+    (λ c. search needs)
+    (λ c. search needs)
+    (λ c. search needs)
+    (λ c. search (answers, hanging) depth 8)
+    (λ c κs. search needs)
+    (λ c κs. search needs)
+    (λ c. search needs)
+    (λ c. search needs)
+    (λ c. search needs)
+    (λ c. search (answers, hanging) depth 8)
+    (λ c κs. search needs)
+    (λ c. search needs)
+    (λ c. search (answers, hanging) depth 8))

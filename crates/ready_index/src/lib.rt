@@ -1,0 +1,818 @@
+// The ready index: a balanced tree over the records of the thread table. After scheduler/algorithms/ready_index.rs.
+ghost use Prim.Native.Nat.{_+_, _-_, _≤_};
+ghost use mathlib.Core.List.{[]};
+ghost use mathlib.Core.Path.{_≡_};
+ghost use lib.ListN.{length};
+ghost use Rattle.avl.specs.Rotation.{leanOf};
+ghost use Rattle.rows.specs.Table.{table, out};
+ghost use Rattle.ready_index.specs.Balance as spec;
+ghost use Rattle.ready_index.specs.Index as index;
+ghost use Rattle.ready_index.specs.Path.{stepOf, stack, walkOf, walkSteps, lastSought, searchOf, searchSteps, successorOf, successorSteps};
+use avl::Lean;
+use avl::lean_of;
+use order::Ordering;
+use rows::Change;
+use rows::KeyRead;
+use rows::LinksRead;
+use rows::key_at;
+use rows::links_at;
+use rows::set_links;
+use thread::Link;
+use thread::Links;
+use thread::TreeKey;
+use thread::compare_tree_keys;
+
+// A 24-bit registry slot namespace cannot contain the 24,157,816 nodes that height 35 needs; forty entries include the removal's successor path.
+const MAX_PATH: usize = 40;
+
+// The stored height of a subtree.
+pub enum HeightRead {
+    Got(u8),
+    Damaged,
+}
+
+// The thread that a rotation or a balancing left on top.
+pub enum Turned {
+    Root(u64),
+    Damaged,
+}
+
+// The tree's root afterwards.
+pub enum Rooted {
+    Root(Link),
+    Damaged,
+}
+
+// The least thread of a tree.
+pub enum Least {
+    None,
+    Some(u64),
+    Damaged,
+}
+
+// Whether a tree holds a thread.
+pub enum Contained {
+    Yes,
+    No,
+    Damaged,
+}
+
+// A step of a path: the node, and whether the path went to its right.
+pub struct Step {
+    pub id: u64,
+    pub right: bool,
+}
+
+// Where a key goes on from a node.
+pub enum Way {
+    Left(Link),
+    Right(Link),
+    Equal,
+    Damaged,
+}
+
+// Where the search for a thread goes on from a node.
+pub enum Sought {
+    Left(Link),
+    Right(Link),
+    Found(Links),
+    Damaged,
+}
+
+// How many steps of the path lead to where a key is to stand.
+pub enum Walked {
+    Bottom(usize),
+    Damaged,
+}
+
+// How many steps of the path lead to a thread, and its links.
+pub enum Searched {
+    Found { steps: usize, links: Links },
+    Damaged,
+}
+
+// How many steps of the path lead to a right side's leftmost thread, that thread, and its right link.
+pub enum Succeeded {
+    Next { steps: usize, id: u64, right: Link },
+    Damaged,
+}
+
+fn height(t: &[[u64; 32]], l: Link) -> HeightRead
+    ensures { λ r. ⌜ r ≡ spec.height (table (now (t .entry))) l ⌝ }
+{
+    match l {
+        Link::None => HeightRead::Got(0),
+        Link::Some(i) => {
+            let LinksRead::Got(links) = links_at(t, i) else {
+                return HeightRead::Damaged;
+            };
+            HeightRead::Got(links.height)
+        }
+    }
+}
+
+fn larger(a: u8, b: u8) -> u8
+    ensures { λ r. ⌜ r ≡ spec.larger a b ⌝ }
+{
+    if a < b { b } else { a }
+}
+
+fn update(t: &mut [[u64; 32]], i: u64, links: Links) -> Change
+    ensures { λ r. ⌜ out r (table (now (t .exit))) ≡ spec.update (table (now (t .entry))) i links ⌝ }
+{
+    let left = links.left;
+    let right = links.right;
+    let HeightRead::Got(a) = height(t, left) else {
+        return Change::Damaged;
+    };
+    let HeightRead::Got(b) = height(t, right) else {
+        return Change::Damaged;
+    };
+    let m = larger(a, b);
+    if m < 255 {
+        return set_links(
+            t,
+            i,
+            Links {
+                left,
+                right,
+                height: m + 1,
+            },
+        );
+    }
+    Change::Damaged
+}
+
+fn rotate_left(t: &mut [[u64; 32]], i: u64) -> Turned
+    ensures { λ r. ⌜ out r (table (now (t .exit))) ≡ spec.rotateLeft (table (now (t .entry))) i ⌝ }
+{
+    let LinksRead::Got(links) = links_at(t, i) else {
+        return Turned::Damaged;
+    };
+    let right_link = links.right;
+    let Link::Some(right) = right_link else {
+        return Turned::Damaged;
+    };
+    let LinksRead::Got(replacement) = links_at(t, right) else {
+        return Turned::Damaged;
+    };
+    let outer = links.left;
+    let inner = replacement.left;
+    let other = replacement.right;
+    let Change::Made = update(
+        t,
+        i,
+        Links {
+            left: outer,
+            right: inner,
+            height: links.height,
+        },
+    ) else {
+        return Turned::Damaged;
+    };
+    let Change::Made = update(
+        t,
+        right,
+        Links {
+            left: Link::Some(i),
+            right: other,
+            height: replacement.height,
+        },
+    ) else {
+        return Turned::Damaged;
+    };
+    Turned::Root(right)
+}
+
+fn rotate_right(t: &mut [[u64; 32]], i: u64) -> Turned
+    ensures { λ r. ⌜ out r (table (now (t .exit))) ≡ spec.rotateRight (table (now (t .entry))) i ⌝ }
+{
+    let LinksRead::Got(links) = links_at(t, i) else {
+        return Turned::Damaged;
+    };
+    let left_link = links.left;
+    let Link::Some(left) = left_link else {
+        return Turned::Damaged;
+    };
+    let LinksRead::Got(replacement) = links_at(t, left) else {
+        return Turned::Damaged;
+    };
+    let outer = links.right;
+    let inner = replacement.right;
+    let other = replacement.left;
+    let Change::Made = update(
+        t,
+        i,
+        Links {
+            left: inner,
+            right: outer,
+            height: links.height,
+        },
+    ) else {
+        return Turned::Damaged;
+    };
+    let Change::Made = update(
+        t,
+        left,
+        Links {
+            left: other,
+            right: Link::Some(i),
+            height: replacement.height,
+        },
+    ) else {
+        return Turned::Damaged;
+    };
+    Turned::Root(left)
+}
+
+// The left child is rotated outward, and then the old copy of the links is written back with it.
+fn double_right(t: &mut [[u64; 32]], i: u64, links: Links, left: u64) -> Turned
+    ensures { λ r. ⌜ out r (table (now (t .exit))) ≡ spec.doubleRight (table (now (t .entry))) i links left ⌝ }
+{
+    let kept = links.right;
+    let Turned::Root(top) = rotate_left(t, left) else {
+        return Turned::Damaged;
+    };
+    let Change::Made = set_links(
+        t,
+        i,
+        Links {
+            left: Link::Some(top),
+            right: kept,
+            height: links.height,
+        },
+    ) else {
+        return Turned::Damaged;
+    };
+    rotate_right(t, i)
+}
+
+// The right child is rotated outward, and then the old copy of the links is written back with it.
+fn double_left(t: &mut [[u64; 32]], i: u64, links: Links, right: u64) -> Turned
+    ensures { λ r. ⌜ out r (table (now (t .exit))) ≡ spec.doubleLeft (table (now (t .entry))) i links right ⌝ }
+{
+    let kept = links.left;
+    let Turned::Root(top) = rotate_right(t, right) else {
+        return Turned::Damaged;
+    };
+    let Change::Made = set_links(
+        t,
+        i,
+        Links {
+            left: kept,
+            right: Link::Some(top),
+            height: links.height,
+        },
+    ) else {
+        return Turned::Damaged;
+    };
+    rotate_left(t, i)
+}
+
+// The left side is too high: its inner side is brought outward first where that is the higher.
+fn balance_left(t: &mut [[u64; 32]], i: u64, links: Links) -> Turned
+    ensures { λ r. ⌜ out r (table (now (t .exit))) ≡ spec.balanceLeft (table (now (t .entry))) i links ⌝ }
+{
+    let left_link = links.left;
+    let Link::Some(left) = left_link else {
+        return Turned::Damaged;
+    };
+    let LinksRead::Got(child) = links_at(t, left) else {
+        return Turned::Damaged;
+    };
+    let outer = child.left;
+    let inner = child.right;
+    let HeightRead::Got(a) = height(t, outer) else {
+        return Turned::Damaged;
+    };
+    let HeightRead::Got(b) = height(t, inner) else {
+        return Turned::Damaged;
+    };
+    if a < b {
+        return double_right(t, i, links, left);
+    }
+    rotate_right(t, i)
+}
+
+// The right side is too high.
+fn balance_right(t: &mut [[u64; 32]], i: u64, links: Links) -> Turned
+    ensures { λ r. ⌜ out r (table (now (t .exit))) ≡ spec.balanceRight (table (now (t .entry))) i links ⌝ }
+{
+    let right_link = links.right;
+    let Link::Some(right) = right_link else {
+        return Turned::Damaged;
+    };
+    let LinksRead::Got(child) = links_at(t, right) else {
+        return Turned::Damaged;
+    };
+    let outer = child.right;
+    let inner = child.left;
+    let HeightRead::Got(a) = height(t, outer) else {
+        return Turned::Damaged;
+    };
+    let HeightRead::Got(b) = height(t, inner) else {
+        return Turned::Damaged;
+    };
+    if a < b {
+        return double_left(t, i, links, right);
+    }
+    rotate_left(t, i)
+}
+
+// Bytes compared as words.
+fn lean(left: u8, right: u8) -> Lean
+    ensures { λ r. ⌜ r ≡ leanOf left right ⌝ }
+{
+    lean_of(left as u64, right as u64)
+}
+
+fn balance(t: &mut [[u64; 32]], i: u64) -> Turned
+    ensures { λ r. ⌜ out r (table (now (t .exit))) ≡ spec.balance (table (now (t .entry))) i ⌝ }
+{
+    let LinksRead::Got(links) = links_at(t, i) else {
+        return Turned::Damaged;
+    };
+    let left = links.left;
+    let right = links.right;
+    let HeightRead::Got(a) = height(t, left) else {
+        return Turned::Damaged;
+    };
+    let HeightRead::Got(b) = height(t, right) else {
+        return Turned::Damaged;
+    };
+    match lean(a, b) {
+        Lean::Left => balance_left(t, i, links),
+        Lean::Right => balance_right(t, i, links),
+        Lean::Even => {
+            let Change::Made = update(t, i, links) else {
+                return Turned::Damaged;
+            };
+            Turned::Root(i)
+        }
+    }
+}
+
+// Down the left links. The loop of `Tree::first`.
+fn descend(t: &[[u64; 32]], start: u64) -> Least
+    ensures { λ r. ⌜ r ≡ index.descend index.maxPath (table (now (t .entry))) start ⌝ }
+{
+    let mut id = start;
+    let mut room = MAX_PATH;
+    while 0 < room {
+        let LinksRead::Got(links) = links_at(t, id) else {
+            return Least::Damaged;
+        };
+        let left = links.left;
+        let Link::Some(next) = left else {
+            return Least::Some(id);
+        };
+        id = next;
+        room -= 1;
+    }
+    Least::Damaged
+}
+
+// The least thread of the tree under a root. After `Tree::first`.
+pub fn first(t: &[[u64; 32]], root: Link) -> Least
+    ensures { λ r. ⌜ r ≡ index.first (table (now (t .entry))) root ⌝ }
+{
+    match root {
+        Link::None => Least::None,
+        Link::Some(id) => descend(t, id),
+    }
+}
+
+// Where a key goes on from a node.
+fn way_at(t: &[[u64; 32]], key: TreeKey, node: u64) -> Way
+    ensures { λ r. ⌜ r ≡ index.wayAt (table (now (t .entry))) key node ⌝ }
+{
+    let KeyRead::Got(other) = key_at(t, node) else {
+        return Way::Damaged;
+    };
+    match compare_tree_keys(key, other) {
+        Ordering::Less => {
+            let LinksRead::Got(links) = links_at(t, node) else {
+                return Way::Damaged;
+            };
+            let left = links.left;
+            Way::Left(left)
+        }
+        Ordering::Equal => Way::Equal,
+        Ordering::Greater => {
+            let LinksRead::Got(links) = links_at(t, node) else {
+                return Way::Damaged;
+            };
+            let right = links.right;
+            Way::Right(right)
+        }
+    }
+}
+
+// Down from the root by the key. The loop of `Tree::contains`.
+fn look_for(t: &[[u64; 32]], key: TreeKey, id: u64, root: Link) -> Contained
+    ensures { λ r. ⌜ r ≡ index.lookFor index.maxPath (table (now (t .entry))) key id root ⌝ }
+{
+    let mut current = root;
+    let mut room = MAX_PATH;
+    while 0 < room {
+        let Link::Some(node) = current else {
+            return Contained::No;
+        };
+        match way_at(t, key, node) {
+            Way::Left(next) => {
+                current = next;
+                room -= 1;
+            }
+            Way::Right(next) => {
+                current = next;
+                room -= 1;
+            }
+            Way::Equal => {
+                if node == id {
+                    return Contained::Yes;
+                }
+                return Contained::No;
+            }
+            Way::Damaged => {
+                return Contained::Damaged;
+            }
+        }
+    }
+    Contained::Damaged
+}
+
+// Whether the tree under a root holds a thread. After `Tree::contains`.
+pub fn contains(t: &[[u64; 32]], root: Link, id: u64) -> Contained
+    ensures { λ r. ⌜ r ≡ index.contains (table (now (t .entry))) root id ⌝ }
+{
+    let KeyRead::Got(key) = key_at(t, id) else {
+        return Contained::Damaged;
+    };
+    look_for(t, key, id, root)
+}
+
+// Down from the root to where a key is to stand; each step is stored on the path. The loop of `insert_at`.
+fn walk(t: &[[u64; 32]], path: &mut [[u64; 2]], key: TreeKey, root: Link) -> Walked
+    ensures { λ r. ⌜ walkOf r (now (path .exit)) ≡ index.walk (length (now (path .entry))) (table (now (t .entry))) key root [] ⌝ }
+    ensures { λ r. ⌜ walkSteps r ≤ length (now (path .exit)) ⌝ }
+{
+    let mut current = root;
+    let mut len: usize = 0;
+    while len < path.len() {
+        let Link::Some(parent) = current else {
+            return Walked::Bottom(len);
+        };
+        match way_at(t, key, parent) {
+            Way::Left(next) => {
+                path[len] = [parent, 0];
+                current = next;
+                len += 1;
+            }
+            Way::Right(next) => {
+                path[len] = [parent, 1];
+                current = next;
+                len += 1;
+            }
+            Way::Equal => {
+                return Walked::Damaged;
+            }
+            Way::Damaged => {
+                return Walked::Damaged;
+            }
+        }
+    }
+    match current {
+        Link::None => Walked::Bottom(len),
+        Link::Some(_) => Walked::Damaged,
+    }
+}
+
+// The links with a new subtree where the step led.
+fn hung(step: [u64; 2], links: Links, sub: Link) -> Links
+    ensures { λ r. ⌜ r ≡ index.hung (stepOf step) links sub ⌝ }
+{
+    let left = links.left;
+    let right = links.right;
+    if step[1] == 0 {
+        return Links {
+            left: sub,
+            right,
+            height: links.height,
+        };
+    }
+    Links {
+        left,
+        right: sub,
+        height: links.height,
+    }
+}
+
+// One step up: the new subtree is hung under the node, which is then balanced.
+fn rebuild_step(t: &mut [[u64; 32]], step: [u64; 2], sub: Link) -> Turned
+    ensures { λ r. ⌜ out r (table (now (t .exit))) ≡ index.rebuildStep (table (now (t .entry))) (stepOf step) sub ⌝ }
+{
+    let parent = step[0];
+    let LinksRead::Got(links) = links_at(t, parent) else {
+        return Turned::Damaged;
+    };
+    let linked = hung(step, links, sub);
+    let Change::Made = set_links(t, parent, linked) else {
+        return Turned::Damaged;
+    };
+    balance(t, parent)
+}
+
+// Up along so many steps of the path, those from the row `start` on. After `rebuild`.
+fn rebuild(
+    t: &mut [[u64; 32]],
+    path: &[[u64; 2]],
+    start: usize,
+    steps: usize,
+    subtree: Link,
+) -> Rooted
+    requires { ⌜ start + steps ≤ length (now path) ⌝ }
+    ensures { λ r. ⌜ out r (table (now (t .exit))) ≡ index.rebuild (stack (now (path .entry)) start steps) (table (now (t .entry))) subtree ⌝ }
+{
+    let mut len = steps;
+    let mut sub = subtree;
+    while 0 < len {
+        len -= 1;
+        let k = start + len;
+        let step = path[k];
+        let Turned::Root(top) = rebuild_step(t, step, sub) else {
+            return Rooted::Damaged;
+        };
+        sub = Link::Some(top);
+    }
+    Rooted::Root(sub)
+}
+
+// Duplicates and overlong paths are refused before an existing record is changed. After `insert_at`.
+fn insert_at(
+    t: &mut [[u64; 32]],
+    path: &mut [[u64; 2]],
+    key: TreeKey,
+    root: Link,
+    id: u64,
+) -> Rooted
+    ensures { λ r. ⌜ out r (table (now (t .exit))) ≡ index.insertAt (table (now (t .entry))) (length (now (path .entry))) key root id ⌝ }
+{
+    let Walked::Bottom(steps) = walk(t, path, key, root) else {
+        return Rooted::Damaged;
+    };
+    let Change::Made = set_links(t, id, Links::EMPTY) else {
+        return Rooted::Damaged;
+    };
+    rebuild(t, path, 0, steps, Link::Some(id))
+}
+
+// A thread put into the tree under a root, by a path that is lent for the time of the call. After `Tree::insert`.
+pub fn insert(t: &mut [[u64; 32]], path: &mut [[u64; 2]; MAX_PATH], root: Link, id: u64) -> Rooted
+    ensures { λ r. ⌜ out r (table (now (t .exit))) ≡ index.insert (table (now (t .entry))) root id ⌝ }
+{
+    let KeyRead::Got(key) = key_at(t, id) else {
+        return Rooted::Damaged;
+    };
+    insert_at(t, path, key, root, id)
+}
+
+// Where the search for a thread goes on from a node.
+fn sought_at(t: &[[u64; 32]], key: TreeKey, id: u64, node: u64) -> Sought
+    ensures { λ r. ⌜ r ≡ index.soughtAt (table (now (t .entry))) key id node ⌝ }
+{
+    let LinksRead::Got(links) = links_at(t, node) else {
+        return Sought::Damaged;
+    };
+    let KeyRead::Got(other) = key_at(t, node) else {
+        return Sought::Damaged;
+    };
+    match compare_tree_keys(key, other) {
+        Ordering::Less => {
+            let left = links.left;
+            Sought::Left(left)
+        }
+        Ordering::Equal => {
+            if node == id {
+                return Sought::Found(links);
+            }
+            Sought::Damaged
+        }
+        Ordering::Greater => {
+            let right = links.right;
+            Sought::Right(right)
+        }
+    }
+}
+
+// The end of a search whose path is full: the thread stands here or is not found.
+fn last_sought(t: &[[u64; 32]], key: TreeKey, id: u64, at: Link, steps: usize) -> Searched
+    ensures { λ r. ⌜ r ≡ lastSought (table (now (t .entry))) key id at steps ⌝ }
+{
+    let Link::Some(node) = at else {
+        return Searched::Damaged;
+    };
+    match sought_at(t, key, id, node) {
+        Sought::Left(_) => Searched::Damaged,
+        Sought::Right(_) => Searched::Damaged,
+        Sought::Found(links) => Searched::Found { steps, links },
+        Sought::Damaged => Searched::Damaged,
+    }
+}
+
+// Down from the root to a thread; each step is stored on the path. The first loop of `remove_at`.
+fn search(t: &[[u64; 32]], path: &mut [[u64; 2]], key: TreeKey, id: u64, root: Link) -> Searched
+    ensures { λ r. ⌜ searchOf r (now (path .exit)) ≡ index.search (length (now (path .entry))) (table (now (t .entry))) key id root [] ⌝ }
+    ensures { λ r. ⌜ searchSteps r ≤ length (now (path .exit)) ⌝ }
+{
+    let mut current = root;
+    let mut len: usize = 0;
+    while len < path.len() {
+        let Link::Some(parent) = current else {
+            return Searched::Damaged;
+        };
+        match sought_at(t, key, id, parent) {
+            Sought::Left(next) => {
+                path[len] = [parent, 0];
+                current = next;
+                len += 1;
+            }
+            Sought::Right(next) => {
+                path[len] = [parent, 1];
+                current = next;
+                len += 1;
+            }
+            Sought::Found(links) => {
+                return Searched::Found { steps: len, links };
+            }
+            Sought::Damaged => {
+                return Searched::Damaged;
+            }
+        }
+    }
+    last_sought(t, key, id, current, len)
+}
+
+// Down the left links to the leftmost thread; each step is stored on the path from the row `start` on. The second loop of `remove_at`.
+fn successor(t: &[[u64; 32]], path: &mut [[u64; 2]], start: usize, node: u64) -> Succeeded
+    requires { ⌜ start ≤ length (now path) ⌝ }
+    ensures { λ r. ⌜ successorOf r (now (path .exit)) start ≡ index.successor (length (now (path .entry)) - start) (table (now (t .entry))) node [] ⌝ }
+    ensures { λ r. ⌜ start + successorSteps r ≤ length (now (path .exit)) ⌝ }
+    ensures { λ r. ⌜ stack (now (path .exit)) 0 start ≡ stack (now (path .entry)) 0 start ⌝ }
+{
+    let mut id = node;
+    let mut len: usize = 0;
+    loop {
+        let LinksRead::Got(links) = links_at(t, id) else {
+            return Succeeded::Damaged;
+        };
+        let left = links.left;
+        let right = links.right;
+        let Link::Some(next) = left else {
+            return Succeeded::Next {
+                steps: len,
+                id,
+                right,
+            };
+        };
+        let k = start + len;
+        if path.len() <= k {
+            return Succeeded::Damaged;
+        }
+        path[k] = [id, 0];
+        id = next;
+        len += 1;
+    }
+}
+
+// These links stored at a record, which is then balanced.
+fn store_balanced(t: &mut [[u64; 32]], i: u64, links: Links) -> Rooted
+    ensures { λ r. ⌜ out r (table (now (t .exit))) ≡ index.storeBalanced (table (now (t .entry))) i links ⌝ }
+{
+    let Change::Made = set_links(t, i, links) else {
+        return Rooted::Damaged;
+    };
+    let Turned::Root(top) = balance(t, i) else {
+        return Rooted::Damaged;
+    };
+    Rooted::Root(Link::Some(top))
+}
+
+// A removed thread with two sides is replaced by its successor, whose own path is rebuilt first; that lies above the first steps of the path.
+fn replace_by_successor(
+    t: &mut [[u64; 32]],
+    path: &mut [[u64; 2]],
+    steps: usize,
+    left: u64,
+    right: u64,
+) -> Rooted
+    requires { ⌜ steps ≤ length (now path) ⌝ }
+    ensures { λ r. ⌜ out r (table (now (t .exit))) ≡ index.replaceBySuccessor (table (now (t .entry))) (length (now (path .entry)) - steps) left right ⌝ }
+    ensures { λ r. ⌜ stack (now (path .exit)) 0 steps ≡ stack (now (path .entry)) 0 steps ⌝ }
+{
+    let Succeeded::Next {
+        steps: more,
+        id,
+        right: rest,
+    } = successor(t, path, steps, right)
+    else {
+        return Rooted::Damaged;
+    };
+    let Rooted::Root(sub) = rebuild(t, path, steps, more, rest) else {
+        return Rooted::Damaged;
+    };
+    store_balanced(
+        t,
+        id,
+        Links {
+            left: Link::Some(left),
+            right: sub,
+            height: 1,
+        },
+    )
+}
+
+// What takes the place of a removed thread with these links.
+fn replace(
+    t: &mut [[u64; 32]],
+    path: &mut [[u64; 2]],
+    steps: usize,
+    left: Link,
+    right: Link,
+) -> Rooted
+    requires { ⌜ steps ≤ length (now path) ⌝ }
+    ensures { λ r. ⌜ out r (table (now (t .exit))) ≡ index.replace (table (now (t .entry))) (length (now (path .entry)) - steps) left right ⌝ }
+    ensures { λ r. ⌜ stack (now (path .exit)) 0 steps ≡ stack (now (path .entry)) 0 steps ⌝ }
+{
+    let Link::Some(a) = left else {
+        return Rooted::Root(right);
+    };
+    let Link::Some(b) = right else {
+        return Rooted::Root(Link::Some(a));
+    };
+    replace_by_successor(t, path, steps, a, b)
+}
+
+// The path to a removed thread is rebuilt over what took its place, and the thread's own links are emptied last.
+fn rebuild_removed(
+    t: &mut [[u64; 32]],
+    path: &[[u64; 2]],
+    steps: usize,
+    sub: Link,
+    id: u64,
+) -> Rooted
+    requires { ⌜ steps ≤ length (now path) ⌝ }
+    ensures { λ r. ⌜ out r (table (now (t .exit))) ≡ index.rebuildRemoved (table (now (t .entry))) (stack (now (path .entry)) 0 steps) sub id ⌝ }
+{
+    let Rooted::Root(top) = rebuild(t, path, 0, steps, sub) else {
+        return Rooted::Damaged;
+    };
+    let Change::Made = set_links(t, id, Links::EMPTY) else {
+        return Rooted::Damaged;
+    };
+    Rooted::Root(top)
+}
+
+// The thread that so many steps lead to is replaced, and the path to it rebuilt.
+fn remove_found(
+    t: &mut [[u64; 32]],
+    path: &mut [[u64; 2]],
+    steps: usize,
+    links: Links,
+    id: u64,
+) -> Rooted
+    requires { ⌜ steps ≤ length (now path) ⌝ }
+    ensures { λ r. ⌜ out r (table (now (t .exit))) ≡ index.removeFound (table (now (t .entry))) (stack (now (path .entry)) 0 steps) links (length (now (path .entry)) - steps) id ⌝ }
+{
+    let left = links.left;
+    let right = links.right;
+    let Rooted::Root(sub) = replace(t, path, steps, left, right) else {
+        return Rooted::Damaged;
+    };
+    rebuild_removed(t, path, steps, sub, id)
+}
+
+// After `remove_at`.
+fn remove_at(
+    t: &mut [[u64; 32]],
+    path: &mut [[u64; 2]],
+    key: TreeKey,
+    root: Link,
+    id: u64,
+) -> Rooted
+    ensures { λ r. ⌜ out r (table (now (t .exit))) ≡ index.removeAt (table (now (t .entry))) (length (now (path .entry))) key root id ⌝ }
+{
+    let Searched::Found { steps, links } = search(t, path, key, id, root) else {
+        return Rooted::Damaged;
+    };
+    remove_found(t, path, steps, links, id)
+}
+
+// A thread taken out of the tree under a root, by a path that is lent for the time of the call. After `Tree::remove`.
+pub fn remove(t: &mut [[u64; 32]], path: &mut [[u64; 2]; MAX_PATH], root: Link, id: u64) -> Rooted
+    ensures { λ r. ⌜ out r (table (now (t .exit))) ≡ index.remove (table (now (t .entry))) root id ⌝ }
+{
+    let KeyRead::Got(key) = key_at(t, id) else {
+        return Rooted::Damaged;
+    };
+    remove_at(t, path, key, root, id)
+}
