@@ -1,6 +1,7 @@
 // Runs the worked cases of document 01 on the code, prints each answer beside its case, and ends with how many differ.
 mod budgets;
 mod report;
+mod trees;
 mod windows;
 
 fn main() {
@@ -14,10 +15,11 @@ fn main() {
     let ledgers = windows::ledgers();
     let due = windows::due();
     let keys = windows::keys();
+    let trees = report::sum(trees::paths(), trees::damage());
     let budgets = report::sum(
         report::sum(policies, refills),
         report::sum(charges, report::sum(deadlines, runtimes)),
     );
     let windows = report::sum(report::sum(settings, ledgers), report::sum(due, keys));
-    report::total(report::sum(budgets, windows));
+    report::total(report::sum(report::sum(budgets, windows), trees));
 }

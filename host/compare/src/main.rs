@@ -7,6 +7,7 @@ mod boundary;
 mod calls;
 mod checks;
 mod expected;
+mod generator;
 mod port;
 mod random;
 mod tally;

@@ -93,7 +93,17 @@ pub(in crate::task::scheduler) fn index_insert(
     id: ThreadId,
 ) -> Result<(), Error> {
     let mut scratch = MutationScratch::new(ThreadId::BOOTSTRAP);
-    tree.insert(&mut IndexNodes(threads), id, &mut scratch)
+    index_insert_by(threads, tree, id, &mut scratch)
+}
+
+/// `Tree::insert` over the table's records, by a path that is kept.
+pub(in crate::task::scheduler) fn index_insert_by(
+    threads: &mut impl ReadyQueueAccess,
+    tree: &mut Tree<ThreadId>,
+    id: ThreadId,
+    scratch: &mut MutationScratch<ThreadId>,
+) -> Result<(), Error> {
+    tree.insert(&mut IndexNodes(threads), id, scratch)
 }
 
 /// `Tree::remove` over the table's records.
@@ -103,7 +113,17 @@ pub(in crate::task::scheduler) fn index_remove(
     id: ThreadId,
 ) -> Result<(), Error> {
     let mut scratch = MutationScratch::new(ThreadId::BOOTSTRAP);
-    tree.remove(&mut IndexNodes(threads), id, &mut scratch)
+    index_remove_by(threads, tree, id, &mut scratch)
+}
+
+/// `Tree::remove` over the table's records, by a path that is kept.
+pub(in crate::task::scheduler) fn index_remove_by(
+    threads: &mut impl ReadyQueueAccess,
+    tree: &mut Tree<ThreadId>,
+    id: ThreadId,
+    scratch: &mut MutationScratch<ThreadId>,
+) -> Result<(), Error> {
+    tree.remove(&mut IndexNodes(threads), id, scratch)
 }
 
 /// `ready_index_key`.

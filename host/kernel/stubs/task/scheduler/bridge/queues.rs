@@ -1,9 +1,10 @@
 //! Run queues, their lists and their trees over plain records, run by the source.
 
 use super::super::Error;
-use super::super::algorithms::ready_index::Tree;
+use super::super::algorithms::ready_index::{MutationScratch, Tree};
 use super::super::queue::access;
-use super::super::queue::{CpuRunQueue, Selection as SourceSelection};
+use super::super::queue::{CpuRunQueue, LocalReadyQueueAuthority, Selection as SourceSelection};
+use super::super::registry::CpuThreadTableAuthority;
 use super::*;
 use crate::oracle::{
     Candidate, Demand, Policy, Ready, Runtime, Selection, TreeKey, Window, budget_new,
@@ -236,4 +237,35 @@ pub fn index_remove(root: &mut Option<u64>, records: &mut [Record], place: u64) 
     });
     *root = tree.root().map(number);
     result
+}
+
+/// A tree over records that stay the source's own between calls, through the source's own access: for counts of instructions.
+pub struct KeptTree {
+    records: Vec<ThreadScheduleState>,
+    tree: Tree<ThreadId>,
+    scratch: MutationScratch<ThreadId>,
+}
+
+impl KeptTree {
+    pub fn of(records: &[Record]) -> Self {
+        Self {
+            records: records_to_source(records),
+            tree: Tree::of_any(None),
+            scratch: MutationScratch::new(thread(0)),
+        }
+    }
+
+    pub fn insert(&mut self, place: u64) -> Answer<()> {
+        let cpu = CpuThreadTableAuthority::new(CpuIndex::from(0), &mut self.records);
+        let threads = &mut LocalReadyQueueAuthority::new(cpu);
+        access::index_insert_by(threads, &mut self.tree, thread(place), &mut self.scratch)
+            .map_err(refusal)
+    }
+
+    pub fn remove(&mut self, place: u64) -> Answer<()> {
+        let cpu = CpuThreadTableAuthority::new(CpuIndex::from(0), &mut self.records);
+        let threads = &mut LocalReadyQueueAuthority::new(cpu);
+        access::index_remove_by(threads, &mut self.tree, thread(place), &mut self.scratch)
+            .map_err(refusal)
+    }
 }

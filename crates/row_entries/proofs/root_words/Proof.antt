@@ -1,0 +1,16 @@
+-- Each arm is the definition's clause for its variant.
+use Rattle.row_entries.specs.Words.{rootWords}
+use borrow.Author.Needs.{needs}
+use Rattle.row_entries.proofs.root_words.Statement.{statement}
+use Rattle.row_entries.proofs.root_words.Tie as tie
+
+pub root-words-spec : {M : Type 1} → statement M
+unfolding rootWords
+root-words-spec =
+    tie.close
+    (tie.spec
+    (λ c. search needs)
+    (λ c κs. search needs)
+    (λ c. search needs)
+    (λ c. rw (c .before .before .answer .given .1) cc)
+    (λ c. rw (c .enum-told .given .1) cc))

@@ -1,0 +1,13 @@
+-- The numbers stand for the arguments, the call answers by its own contract, and the answer goes back into numbers.
+use borrow.Author.Needs.{needs}
+use Rattle.row_entries.proofs.rows_index_first.Statement.{statement}
+use Rattle.row_entries.proofs.rows_index_first.Tie as tie
+
+pub rows-index-first-spec : {M : Type 1} → statement M
+rows-index-first-spec =
+    tie.close
+    (tie.spec
+    (λ c κs. search needs)
+    (λ c κs. search needs)
+    (λ c κs. search needs)
+    (λ c. cc))

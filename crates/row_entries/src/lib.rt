@@ -1,0 +1,298 @@
+// C calls on rows of numbers, through which the Rust host compares lists and trees with the kernel's source. Each is the call of its name on what the numbers stand for.
+ghost use mathlib.Core.Path.{_≡_};
+ghost use Rattle.codec.specs.Codec.{linkFrom, membershipFrom};
+ghost use Rattle.rows.specs.Table.{table, out};
+ghost use Rattle.lists.specs.Answers.{listed};
+ghost use Rattle.lists.specs.Lists as lists;
+ghost use Rattle.ready_index.specs.Index as index;
+ghost use Rattle.row_entries.specs.Words.{listFrom, linkWords, listWords, leastWords, containedWords, rootWords, inWords};
+use lists::Listed;
+use lists::push;
+use lists::push_front;
+use ready_index::Contained;
+use ready_index::Least;
+use ready_index::Rooted;
+use ready_index::contains;
+use ready_index::first;
+use ready_index::insert;
+use thread::CpuIndex;
+use thread::Link;
+use thread::QueueMembership;
+use thread::ThreadQueue;
+
+// A record's number, or none.
+#[repr(C)]
+pub struct LinkWords {
+    pub some: u64,
+    pub number: u64,
+}
+
+impl LinkWords {
+    pub const NONE: Self = Self { some: 0, number: 0 };
+}
+
+// A list after a call.
+#[repr(C)]
+pub struct ListAnswer {
+    pub number: u64,
+    pub head: LinkWords,
+    pub tail: LinkWords,
+    pub len: u64,
+}
+
+// The least thread of a tree, or its root after a call.
+#[repr(C)]
+pub struct IndexAnswer {
+    pub number: u64,
+    pub thread: LinkWords,
+}
+
+// Whether a tree holds a thread: 1 where it does.
+#[repr(C)]
+pub struct ContainsAnswer {
+    pub number: u64,
+    pub holds: u64,
+}
+
+fn link_of(some: u64, number: u64) -> Link
+    ensures { λ r. ⌜ r ≡ linkFrom some number ⌝ }
+{
+    if some == 0 {
+        return Link::None;
+    }
+    Link::Some(number)
+}
+
+fn membership_of(tag: u64, first: u64, second: u64) -> QueueMembership
+    ensures { λ r. ⌜ r ≡ membershipFrom tag first second ⌝ }
+{
+    if tag == 0 {
+        return QueueMembership::None;
+    }
+    if tag == 1 {
+        return QueueMembership::ReadyRealTime {
+            cpu: CpuIndex((first % 256) as u8),
+            priority: (second % 256) as u8,
+        };
+    }
+    if tag == 2 {
+        return QueueMembership::ReadyFair {
+            cpu: CpuIndex((first % 256) as u8),
+        };
+    }
+    if tag == 3 {
+        return QueueMembership::Waiting { queue: first };
+    }
+    QueueMembership::Terminated
+}
+
+fn list_of(head_some: u64, head: u64, tail_some: u64, tail: u64, len: u64) -> ThreadQueue
+    ensures { λ r. ⌜ r ≡ listFrom «head_some» head «tail_some» tail len ⌝ }
+{
+    ThreadQueue {
+        head: link_of(head_some, head),
+        tail: link_of(tail_some, tail),
+        len,
+    }
+}
+
+fn link_words(link: Link) -> LinkWords
+    ensures { λ r. ⌜ r ≡ linkWords link ⌝ }
+{
+    match link {
+        Link::None => LinkWords::NONE,
+        Link::Some(number) => LinkWords { some: 1, number },
+    }
+}
+
+fn list_words(answer: Listed) -> ListAnswer
+    ensures { λ r. ⌜ r ≡ listWords (listed answer) ⌝ }
+{
+    match answer {
+        Listed::List(list) => {
+            let head = list.head;
+            let tail = list.tail;
+            ListAnswer {
+                number: 0,
+                head: link_words(head),
+                tail: link_words(tail),
+                len: list.len,
+            }
+        }
+        Listed::Refused(refusal) => ListAnswer {
+            number: refusal.number(),
+            head: LinkWords::NONE,
+            tail: LinkWords::NONE,
+            len: 0,
+        },
+    }
+}
+
+// lists::push
+#[no_mangle]
+pub extern "C" fn rows_list_push(
+    t: &mut [[u64; 32]],
+    head_some: u64,
+    head: u64,
+    tail_some: u64,
+    tail: u64,
+    len: u64,
+    id: u64,
+    tag: u64,
+    first: u64,
+    second: u64,
+) -> ListAnswer
+    ensures { λ r. ⌜ out r (table (now (t .exit))) ≡ inWords listWords (lists.push (table (now (t .entry))) (listFrom «head_some» head «tail_some» tail len) id (membershipFrom tag first second)) ⌝ }
+{
+    let list = list_of(head_some, head, tail_some, tail, len);
+    let membership = membership_of(tag, first, second);
+    list_words(push(t, list, id, membership))
+}
+
+// lists::push_front
+#[no_mangle]
+pub extern "C" fn rows_list_push_front(
+    t: &mut [[u64; 32]],
+    head_some: u64,
+    head: u64,
+    tail_some: u64,
+    tail: u64,
+    len: u64,
+    id: u64,
+    tag: u64,
+    first: u64,
+    second: u64,
+) -> ListAnswer
+    ensures { λ r. ⌜ out r (table (now (t .exit))) ≡ inWords listWords (lists.pushFront (table (now (t .entry))) (listFrom «head_some» head «tail_some» tail len) id (membershipFrom tag first second)) ⌝ }
+{
+    let list = list_of(head_some, head, tail_some, tail, len);
+    let membership = membership_of(tag, first, second);
+    list_words(push_front(t, list, id, membership))
+}
+
+// lists::remove
+#[no_mangle]
+pub extern "C" fn rows_list_remove(
+    t: &mut [[u64; 32]],
+    head_some: u64,
+    head: u64,
+    tail_some: u64,
+    tail: u64,
+    len: u64,
+    id: u64,
+    tag: u64,
+    first: u64,
+    second: u64,
+) -> ListAnswer
+    ensures { λ r. ⌜ out r (table (now (t .exit))) ≡ inWords listWords (lists.remove (table (now (t .entry))) (listFrom «head_some» head «tail_some» tail len) id (membershipFrom tag first second)) ⌝ }
+{
+    let list = list_of(head_some, head, tail_some, tail, len);
+    let membership = membership_of(tag, first, second);
+    list_words(lists::remove(t, list, id, membership))
+}
+
+fn least_words(answer: Least) -> IndexAnswer
+    ensures { λ r. ⌜ r ≡ leastWords answer ⌝ }
+{
+    match answer {
+        Least::None => IndexAnswer {
+            number: 0,
+            thread: LinkWords::NONE,
+        },
+        Least::Some(number) => IndexAnswer {
+            number: 0,
+            thread: LinkWords { some: 1, number },
+        },
+        Least::Damaged => IndexAnswer {
+            number: 1,
+            thread: LinkWords::NONE,
+        },
+    }
+}
+
+fn contained_words(answer: Contained) -> ContainsAnswer
+    ensures { λ r. ⌜ r ≡ containedWords answer ⌝ }
+{
+    match answer {
+        Contained::Yes => ContainsAnswer {
+            number: 0,
+            holds: 1,
+        },
+        Contained::No => ContainsAnswer {
+            number: 0,
+            holds: 0,
+        },
+        Contained::Damaged => ContainsAnswer {
+            number: 1,
+            holds: 0,
+        },
+    }
+}
+
+fn root_words(answer: Rooted) -> IndexAnswer
+    ensures { λ r. ⌜ r ≡ rootWords answer ⌝ }
+{
+    match answer {
+        Rooted::Root(root) => IndexAnswer {
+            number: 0,
+            thread: link_words(root),
+        },
+        Rooted::Damaged => IndexAnswer {
+            number: 1,
+            thread: LinkWords::NONE,
+        },
+    }
+}
+
+// ready_index::first
+#[no_mangle]
+pub extern "C" fn rows_index_first(t: &[[u64; 32]], some: u64, number: u64) -> IndexAnswer
+    ensures { λ r. ⌜ r ≡ leastWords (index.first (table (now (t .entry))) (linkFrom some number)) ⌝ }
+{
+    let root = link_of(some, number);
+    least_words(first(t, root))
+}
+
+// ready_index::contains
+#[no_mangle]
+pub extern "C" fn rows_index_contains(
+    t: &[[u64; 32]],
+    some: u64,
+    number: u64,
+    id: u64,
+) -> ContainsAnswer
+    ensures { λ r. ⌜ r ≡ containedWords (index.contains (table (now (t .entry))) (linkFrom some number) id) ⌝ }
+{
+    let root = link_of(some, number);
+    contained_words(contains(t, root, id))
+}
+
+// ready_index::insert, with a path that the caller lends.
+#[no_mangle]
+pub extern "C" fn rows_index_insert(
+    t: &mut [[u64; 32]],
+    path: &mut [[u64; 2]; 40],
+    some: u64,
+    number: u64,
+    id: u64,
+) -> IndexAnswer
+    ensures { λ r. ⌜ out r (table (now (t .exit))) ≡ inWords rootWords (index.insert (table (now (t .entry))) (linkFrom some number) id) ⌝ }
+{
+    let root = link_of(some, number);
+    root_words(insert(t, path, root, id))
+}
+
+// ready_index::remove, with a path that the caller lends.
+#[no_mangle]
+pub extern "C" fn rows_index_remove(
+    t: &mut [[u64; 32]],
+    path: &mut [[u64; 2]; 40],
+    some: u64,
+    number: u64,
+    id: u64,
+) -> IndexAnswer
+    ensures { λ r. ⌜ out r (table (now (t .exit))) ≡ inWords rootWords (index.remove (table (now (t .entry))) (linkFrom some number) id) ⌝ }
+{
+    let root = link_of(some, number);
+    root_words(ready_index::remove(t, path, root, id))
+}

@@ -1,0 +1,81 @@
+//! One call of a list on both sides.
+
+use kernel::oracle::*;
+
+use crate::calls::{rows_list_push, rows_list_push_front, rows_list_remove};
+use crate::port::{self, Answer};
+use crate::table::{Table, expected};
+use crate::tally::Tally;
+
+#[derive(Clone, Copy, Debug)]
+pub enum Call {
+    Push,
+    PushFront,
+    Remove,
+}
+
+impl Call {
+    pub const ALL: [Self; 3] = [Self::Push, Self::PushFront, Self::Remove];
+
+    fn name(self, given: Answer<()>) -> &'static str {
+        match (self, given.is_ok()) {
+            (Self::Push, true) => "push",
+            (Self::Push, false) => "push, refused",
+            (Self::PushFront, true) => "push_front",
+            (Self::PushFront, false) => "push_front, refused",
+            (Self::Remove, true) => "remove",
+            (Self::Remove, false) => "remove, refused",
+        }
+    }
+
+    fn by_port(self, table: &mut Table, list: &mut List, id: u64, m: Membership) -> Answer<()> {
+        let call = match self {
+            Self::Push => rows_list_push,
+            Self::PushFront => rows_list_push_front,
+            Self::Remove => rows_list_remove,
+        };
+        port::list(call, &mut table.rows, list, id, m)
+    }
+
+    fn by_source(self, table: &mut Table, list: &mut List, id: u64, m: Membership) -> Answer<()> {
+        let records = &mut table.records;
+        expected(match self {
+            Self::Push => list_push(list, records, id, m),
+            Self::PushFront => list_push_front(list, records, id, m),
+            Self::Remove => list_remove(list, records, id, m),
+        })
+    }
+}
+
+/// A list over records.
+#[derive(Clone)]
+pub struct Listed {
+    pub table: Table,
+    pub list: List,
+}
+
+impl Listed {
+    /// Makes the call on both sides and goes on from the source's table.
+    pub fn call(&mut self, tally: &mut Tally, call: Call, id: u64, m: Membership) -> Answer<()> {
+        let before = (call, id, m, self.list, self.table.shown());
+        let (mut by_port, mut by_source) = (self.list, self.list);
+        let port = call.by_port(&mut self.table, &mut by_port, id, m);
+        let source = call.by_source(&mut self.table, &mut by_source, id, m);
+        let difference = self.table.difference();
+        let (left, wanted) = difference.map_or((None, None), |(place, a, b)| {
+            (Some((place, a)), Some((place, b)))
+        });
+        let name = call.name(source);
+        tally.compare(
+            name,
+            before,
+            (port, by_port, left),
+            (source, by_source, wanted),
+        );
+        if difference.is_some() {
+            self.table = Table::of(self.table.records.clone());
+        }
+        self.list = by_source;
+        source
+    }
+}
