@@ -1,0 +1,42 @@
+-- The twelve trees of a queue in one table, and what a call on one of them is to leave.
+use mathlib.Core.Path.{_≡_}
+use mathlib.Core.Logic.{_≢_}
+use mathlib.Core.List.{List}
+use Prim.Native.Nat.{ℕ, _≤_, _<_}
+use lib.ListN.{length, getD, set}
+use lib.Dec.{eqb}
+use Rattle.refusal.specs.Cases.{choose}
+use Rattle.avl.specs.Tree.{Tree, inOrder, Balanced}
+use Rattle.thread.specs.declared.Link.{Link}
+use Rattle.thread.specs.declared.ThreadRecord.{ThreadRecord}
+use Rattle.rows.specs.Table.{Out, out, recordAt}
+use Rattle.ready_index.specs.declared.Rooted.{Rooted}
+use Rattle.ready_index.specs.declared.Rooted.the-variants as rooted
+use Rattle.sound_index.specs.Holds.{root, Holds, has, besidesLinks}
+use Rattle.queue.specs.declared.Root.{Root}
+use Rattle.queue.specs.Queue.{emptyRoot}
+
+-- The table holds twelve balanced trees under these roots. `place` gives the tree in which a thread stands, 12 or more where it stands in none:
+-- each tree has exactly the threads placed in it, so that no two have one in common.
+pub record Forest (roots : List Root) (t : List ThreadRecord) (place : ℕ → ℕ) : Type 0 where
+  pub trees : ℕ → Tree
+  pub small : length t ≤ 4096
+  pub twelve : length roots ≡ 12
+  pub rooted : (k : ℕ) → k < 12 → getD roots k emptyRoot .root ≡ root (trees k)
+  pub holds : (k : ℕ) → k < 12 → Holds t (trees k)
+  pub balanced : (k : ℕ) → k < 12 → Balanced (trees k)
+  pub exact : (j k : ℕ) → k < 12 → has j (inOrder (trees k)) ≡ eqb (place j) k
+
+-- Thread i placed at k, every other as it was.
+unfoldable pub placed : ℕ → ℕ → (ℕ → ℕ) → ℕ → ℕ
+placed i k place j = choose (eqb j i) k (place j)
+
+-- An accepted call for thread i on tree k: a root is answered, with which the twelve trees then stand as `after` places the threads.
+-- Of every record only the tree links changed, and no record changed at all that is neither i nor in a tree.
+pub record Replanted (roots : List Root) (t : List ThreadRecord) (k i : ℕ) (place after : ℕ → ℕ) (o : Out Rooted) : Type 0 where
+  pub table : List ThreadRecord
+  pub link : Link
+  pub is : o ≡ out (rooted.Root link) table
+  pub forest : Forest (set roots k (record { root = link })) table after
+  pub besides : besidesLinks table ≡ besidesLinks t
+  pub others : (j : ℕ) → 12 ≤ place j → j ≢ i → recordAt table j ≡ recordAt t j

@@ -1,0 +1,81 @@
+-- A small sound queue, by computation: the premises of the theorems can be met, and a budget thread does stand in a partner tree.
+use Prim.Native.Nat.{ℕ}
+use mathlib.Core.Path.{_≡_, refl}
+use mathlib.Core.Bool.{true, false, Bool}
+use mathlib.Core.List.{[], _∷_}
+use Rattle.refusal.specs.Cases.{choose, ifLess, ifEqual, given}
+use Rattle.order.specs.Order.{compareNumbers, thenBy, compareParts, onOrdering}
+use Rattle.policy.specs.PolicyCases.{onPolicy, onRole, onBackend, onBudget}
+use Rattle.policy.specs.Budget.{soundBudget}
+use Rattle.algorithms.specs.Runtime.{onRuntime, sameKind, candidateKey}
+use Rattle.avl.specs.Rotation.{leanOf, onLean}
+use Rattle.thread.specs.Membership.{onLink, onMembership, onCpu, isNone, pointsTo, isUnqueued, isReadyRealTime, isReadyFair, isWaiting, isTerminated, sameMembership, readyCpu}
+use Rattle.thread.specs.Judgement.{hasBudget, isBadBudget, isBadRecord}
+use Rattle.thread.specs.Filing.{budgetAvailable, roleIndex, indexFor, onIndex}
+use Rattle.thread.specs.Records.{withRuntime}
+use Rattle.thread.specs.TreeKey.{algorithmKey, treeKey, readyIndexKey, parts, compareTreeKeys}
+use Rattle.rows.specs.Table.{recordOf, changed, reading, storing, linksAt, keyAt, queueLinksAt, recordAt, setLinks, setQueueLinks}
+use Rattle.rows.specs.TableCases.{onLinks, onKey, onQueueLinks, onRecord, onMade}
+use Rattle.lists.specs.Checks.{assignedTo, headAgrees, tailAgrees, endsAgree, preflightInsert, previousValid, nextValid, validateNeighbors}
+use Rattle.lists.specs.Lists.{onAnswer, onOut, setNext, setPrevious, commitInsert, commitRemove, append, prepend, push, pushFront, updatePreviousLink, updateNextLink, unlink}
+use Rattle.lists.specs.Lists as list
+use Rattle.ready_index.specs.Cases.{onHeight, onTurned, onRooted, onWay, onSought}
+use Rattle.ready_index.specs.Balance.{height, larger, update, rotateLeft, rotateRight, balanceLeft, balanceRight, balance}
+use Rattle.ready_index.specs.Index.{wayAt, lookFor, contains, onWalk, walk, hung, rebuildStep, rebuild, insert, soughtAt, onSearch, search, onSuccessor, successor, replace}
+use Rattle.ready_index.specs.Index as index
+use Rattle.queue.specs.Work.{countedIn, countedOut, totalIn, totalOut, pushAt, insertWork, removeWork}
+use Rattle.queue.specs.Queue.{newQueue, listOf, partsOf, withParts, worked, isFifo, isBudget, membershipFor, judged, enqueueCall, partner, onContained, treeWith, removeReady, removeFrom, removeCall}
+use Rattle.queue.specs.Samples.{nine, enqueueAt, Left, made, andAfter, then, leftBy, budgetThread, cpu}
+use native.Mathlib.Omega.{arith}
+use Rattle.sound_queue.specs.Sound.{Sound, including, excluding, Accepted, MayEnqueue}
+use Rattle.sound_queue.specs.Reached.{nobody, Reached}
+use Rattle.sound_queue.specs.Reached as reached
+use Rattle.sound_queue.specs.Calls.{reached-sound, remove-accepted}
+use Rattle.sound_queue.specs.Runtimes.{refresh-sound}
+
+-- One FIFO thread, then a budget thread with time left at the front.
+abbrev one : Left
+one = leftBy (enqueueAt false 0 ∷ []) newQueue nine
+
+abbrev two : Left
+two = leftBy (enqueueAt false 0 ∷ enqueueAt true 2 ∷ []) newQueue nine
+
+-- The two are queued.
+abbrev pair : ℕ → Bool
+pair = including 2 (including 0 nobody)
+
+-- No rule refuses the FIFO thread of the sample table, nor the fair one, nor either budget thread.
+pub may-enqueue : (MayEnqueue (cpu 0) nine 0) × (MayEnqueue (cpu 0) nine 1) × (MayEnqueue (cpu 0) nine 2) × (MayEnqueue (cpu 0) nine 3)
+unfolding choose ifLess ifEqual given compareNumbers thenBy compareParts onOrdering onPolicy onRole onBackend onBudget soundBudget onRuntime sameKind candidateKey leanOf onLean onLink onMembership onCpu isNone pointsTo isUnqueued isReadyRealTime isReadyFair isWaiting isTerminated sameMembership readyCpu hasBudget isBadBudget isBadRecord budgetAvailable roleIndex indexFor onIndex algorithmKey treeKey readyIndexKey parts compareTreeKeys recordOf changed reading storing linksAt keyAt queueLinksAt recordAt setLinks setQueueLinks onLinks onKey onQueueLinks onRecord onMade assignedTo headAgrees tailAgrees endsAgree preflightInsert previousValid nextValid validateNeighbors onAnswer onOut setNext setPrevious commitInsert commitRemove append prepend push pushFront updatePreviousLink updateNextLink unlink list.remove onHeight onTurned onRooted onWay onSought height larger update rotateLeft rotateRight balanceLeft balanceRight balance wayAt lookFor contains onWalk walk hung rebuildStep rebuild insert soughtAt onSearch search onSuccessor successor replace index.remove countedIn countedOut totalIn totalOut pushAt insertWork removeWork listOf partsOf withParts worked isFifo isBudget membershipFor judged enqueueCall partner onContained treeWith removeReady removeFrom removeCall made andAfter then leftBy
+may-enqueue = (
+  record { below = omega arith; judged = refl; notIdle = λ e. let z : _≡_ {A = ℕ} 0 1 = cc in omega arith; unqueued = refl; assigned = refl; fits = omega arith },
+  record { below = omega arith; judged = refl; notIdle = λ e. let z : _≡_ {A = ℕ} 0 1 = cc in omega arith; unqueued = refl; assigned = refl; fits = tt },
+  record { below = omega arith; judged = refl; notIdle = λ e. let z : _≡_ {A = ℕ} 0 1 = cc in omega arith; unqueued = refl; assigned = refl; fits = tt },
+  record { below = omega arith; judged = refl; notIdle = λ e. let z : _≡_ {A = ℕ} 0 1 = cc in omega arith; unqueued = refl; assigned = refl; fits = tt },
+)
+
+-- Two accepted calls lead there,
+pub two-reached : Reached (cpu 0) pair (two .queue) (two .table)
+unfolding choose ifLess ifEqual given compareNumbers thenBy compareParts onOrdering onPolicy onRole onBackend onBudget soundBudget onRuntime sameKind candidateKey leanOf onLean onLink onMembership onCpu isNone pointsTo isUnqueued isReadyRealTime isReadyFair isWaiting isTerminated sameMembership readyCpu hasBudget isBadBudget isBadRecord budgetAvailable roleIndex indexFor onIndex algorithmKey treeKey readyIndexKey parts compareTreeKeys recordOf changed reading storing linksAt keyAt queueLinksAt recordAt setLinks setQueueLinks onLinks onKey onQueueLinks onRecord onMade assignedTo headAgrees tailAgrees endsAgree preflightInsert previousValid nextValid validateNeighbors onAnswer onOut setNext setPrevious commitInsert commitRemove append prepend push pushFront updatePreviousLink updateNextLink unlink list.remove onHeight onTurned onRooted onWay onSought height larger update rotateLeft rotateRight balanceLeft balanceRight balance wayAt lookFor contains onWalk walk hung rebuildStep rebuild insert soughtAt onSearch search onSuccessor successor replace index.remove countedIn countedOut totalIn totalOut pushAt insertWork removeWork listOf partsOf withParts worked isFifo isBudget membershipFor judged enqueueCall partner onContained treeWith removeReady removeFrom removeCall made andAfter then leftBy
+two-reached =
+    reached.enqueued (including 0 nobody) (one .queue) (two .queue) (one .table) (two .table) true 2
+    (reached.enqueued nobody newQueue (one .queue) nine (one .table) false 0 (reached.new nine (omega arith)) (omega arith) refl) tt refl
+
+-- so the queue is sound,
+pub two-sound : Sound (cpu 0) pair (two .queue) (two .table)
+two-sound = reached-sound two-reached
+
+-- also when the budget thread's time has run out, so that it stands in the partner of the tree of its filing;
+pub exhausted-sound : Sound (cpu 0) pair (two .queue) (changed (two .table) 2 (withRuntime (budgetThread 0 .runtime)))
+unfolding choose ifLess ifEqual given compareNumbers thenBy compareParts onOrdering onPolicy onRole onBackend onBudget soundBudget onRuntime sameKind candidateKey leanOf onLean onLink onMembership onCpu isNone pointsTo isUnqueued isReadyRealTime isReadyFair isWaiting isTerminated sameMembership readyCpu hasBudget isBadBudget isBadRecord budgetAvailable roleIndex indexFor onIndex algorithmKey treeKey readyIndexKey parts compareTreeKeys recordOf changed reading storing linksAt keyAt queueLinksAt recordAt setLinks setQueueLinks onLinks onKey onQueueLinks onRecord onMade assignedTo headAgrees tailAgrees endsAgree preflightInsert previousValid nextValid validateNeighbors onAnswer onOut setNext setPrevious commitInsert commitRemove append prepend push pushFront updatePreviousLink updateNextLink unlink list.remove onHeight onTurned onRooted onWay onSought height larger update rotateLeft rotateRight balanceLeft balanceRight balance wayAt lookFor contains onWalk walk hung rebuildStep rebuild insert soughtAt onSearch search onSuccessor successor replace index.remove countedIn countedOut totalIn totalOut pushAt insertWork removeWork listOf partsOf withParts worked isFifo isBudget membershipFor judged enqueueCall partner onContained treeWith removeReady removeFrom removeCall made andAfter then leftBy including
+exhausted-sound = refresh-sound two-sound 2 (budgetThread 0 .runtime) refl refl refl
+
+-- from there it is removed, and the FIFO thread alone is queued.
+pub exhausted-removed : Accepted (cpu 0) pair (excluding 2 pair) 2 (changed (two .table) 2 (withRuntime (budgetThread 0 .runtime)))
+    (removeCall (changed (two .table) 2 (withRuntime (budgetThread 0 .runtime))) (two .queue) 2 (cpu 0))
+unfolding including choose
+exhausted-removed = remove-accepted exhausted-sound 2 refl
+
+pub alone-queued : (excluding 2 pair 0 ≡ true) × (excluding 2 pair 2 ≡ false) × (excluding 2 pair 1 ≡ false)
+unfolding including excluding choose
+alone-queued = (refl, refl, refl)

@@ -1,0 +1,45 @@
+-- The 257 lists of a queue in one table: list 0 is the fair one, list 1 + p that of priority p.
+use mathlib.Core.Path.{_≡_}
+use mathlib.Core.Bool.{Bool}
+use mathlib.Core.List.{List}
+use Prim.Native.Nat.{ℕ, zero, suc, _<_}
+use lib.ListN.{getD}
+use lib.Dec.{eqb}
+use Rattle.refusal.specs.Cases.{choose}
+use Rattle.policy.specs.declared.SchedulingPolicy.{SchedulingPolicy}
+use Rattle.policy.specs.PolicyCases.{onPolicy}
+use Rattle.thread.specs.declared.CpuIndex.{CpuIndex}
+use Rattle.thread.specs.declared.QueueMembership.{QueueMembership}
+use Rattle.thread.specs.declared.QueueMembership.the-variants as membership
+use Rattle.thread.specs.declared.ThreadQueue.{ThreadQueue}
+use Rattle.thread.specs.declared.ThreadRecord.{ThreadRecord}
+use Rattle.thread.specs.Membership.{emptyQueue}
+use Rattle.rows.specs.Table.{recordOf}
+use Rattle.sound_lists.specs.Members.{has}
+use Rattle.sound_lists.specs.Sound.{HoldsList}
+use Rattle.queue.specs.declared.CpuRunQueue.{CpuRunQueue}
+
+-- A list of a queue.
+unfoldable pub listAt : CpuRunQueue → ℕ → ThreadQueue
+listAt q zero = q .fair
+listAt q (suc priority) = getD (q .realtime) priority emptyQueue
+
+-- The membership of a list's threads.
+unfoldable pub membershipAt : CpuIndex → ℕ → QueueMembership
+membershipAt cpu zero = membership.ReadyFair cpu
+membershipAt cpu (suc priority) = membership.ReadyRealTime cpu priority
+
+-- The list of a policy: FIFO threads by their priority, Fair and Budget threads in one; Idle in none.
+unfoldable pub listFor : SchedulingPolicy → ℕ
+listFor p = onPolicy p (λ priority. suc (priority .0)) 0 0 257
+
+-- The list in which a thread is to stand; 257 for one that is not queued.
+unfoldable pub rowOf : (ℕ → Bool) → List ThreadRecord → ℕ → ℕ
+rowOf queued t j = choose (queued j) (listFor (recordOf t j .parameters .policy)) 257
+
+-- The table holds these 257 lists. `row` gives the list in which a thread stands, 257 or more where it stands in none:
+-- each list has exactly the threads whose row it is, so that no two have one in common.
+pub record Lists (lists : ℕ → ThreadQueue) (cpu : CpuIndex) (t : List ThreadRecord) (row : ℕ → ℕ) : Type 0 where
+  pub members : ℕ → List ℕ
+  pub holds : (n : ℕ) → n < 257 → HoldsList t (lists n) (members n) (membershipAt cpu n)
+  pub exact : (j n : ℕ) → n < 257 → has j (members n) ≡ eqb (row j) n
