@@ -45,7 +45,11 @@ fn row(turn: u64, right: Link) -> [u64; 32] {
 // What stands to the right of a record in a line of n.
 fn after(turn: u64, n: u64) -> Link {
     let next = sum(turn, 1);
-    if next < n { Link::Some(next) } else { Link::None }
+    if next < n {
+        Link::Some(next)
+    } else {
+        Link::None
+    }
 }
 
 // Records 0 to n - 1 in line, each on the right of the one before; the others alone.

@@ -2,6 +2,14 @@
 pub mod Work
 -- The queue's calls, with every refusal and what each leaves behind.
 pub mod Queue
+-- A call in two halves: its plan and its work.
+pub mod Plan
+-- What the answers stand for.
+pub mod Answers
+-- Laws by which the functions on parts meet the definitions.
+pub mod WorkLaws
+-- A call in two halves is the call, and laws by which the functions meet the definitions.
+pub mod PlanLaws
 -- A small table and lists of calls on it.
 pub mod Samples
 -- The calls on that table, by computation.

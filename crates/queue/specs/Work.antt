@@ -1,7 +1,7 @@
 -- The work of enqueue and remove on the parts of a queue that a call touches: a list, the FIFO total, a root, the number of budget threads.
 -- Where the source halts, the parts are as it had stored them. After `CpuRunQueue::insert` and `remove` of scheduler/queue.rs.
 use Prim.Native.Nat.{ℕ, _+_, _-_}
-use mathlib.Core.Bool.{Bool}
+use mathlib.Core.Bool.{Bool, true, false}
 use mathlib.Core.List.{List}
 use Rattle.refusal.specs.Answer.{Answer, value, refused, numberOf}
 use Rattle.refusal.specs.Cases.{choose, ifEqual}
@@ -15,6 +15,8 @@ use Rattle.lists.specs.Lists as list
 use Rattle.ready_index.specs.Cases.{onRooted}
 use Rattle.ready_index.specs.Index as index
 use Rattle.queue.specs.declared.Parts.{Parts}
+use Rattle.queue.specs.declared.Total.{Total}
+use Rattle.queue.specs.declared.Total.the-variants as total
 use Rattle.queue.specs.declared.Worked.{Worked}
 use Rattle.queue.specs.declared.Worked.the-variants as worked
 
@@ -29,6 +31,10 @@ abbrev pub workOf : Worked → Work
 workOf (worked.Done p) = done p
 workOf (worked.Refused n) = turnedDown (numberOf n)
 workOf (worked.Halted p) = halts p
+
+abbrev pub totalAnswer : Total → Answer ℕ
+totalAnswer (total.Length n) = value n
+totalAnswer (total.Refused n) = refused (numberOf n)
 
 abbrev pub withBudgetThreads : Parts → ℕ → Parts
 withBudgetThreads p n = record { list = p .list; «realtime_len» = p .«realtime_len»; root = p .root; «budget_threads» = n }
@@ -66,6 +72,20 @@ listStored p q len = record { list = q; «realtime_len» = len; root = p .root; 
 -- The same with the new root.
 abbrev pub treeStored : Parts → ThreadQueue → ℕ → Link → Parts
 treeStored p q len root = record { list = q; «realtime_len» = len; root = root; «budget_threads» = p .«budget_threads» }
+
+-- With list and total stored: into the tree, then counted. Any error in the tree halts.
+abbrev pub treeInserted : Bool → List ThreadRecord → Parts → ℕ → Out Work
+treeInserted budgeted t p id =
+    onRooted (index.insert t (p .root) id)
+    (λ t₁. out (halts p) t₁)
+    (λ root t₁. out (countedIn budgeted (treeStored p (p .list) (p .«realtime_len») root)) t₁)
+
+-- With list and total stored: out of the tree, then out of the count.
+abbrev pub treeRemoved : Bool → List ThreadRecord → Parts → ℕ → Out Work
+treeRemoved budgeted t p id =
+    onRooted (index.remove t (p .root) id)
+    (λ t₁. out (halts p) t₁)
+    (λ root t₁. out (countedOut budgeted (treeStored p (p .list) (p .«realtime_len») root)) t₁)
 
 -- A judged thread put into its list, then its tree, then counted (`CpuRunQueue::insert`). Any error in the tree halts.
 unfoldable pub insertWork : Bool → Bool → Bool → List ThreadRecord → Parts → ℕ → QueueMembership → Out Work

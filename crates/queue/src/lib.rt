@@ -1,9 +1,32 @@
 // The ready queue of one processor: enqueue at either end and remove. After `CpuRunQueue` of scheduler/queue.rs.
+mod work;
+
+pub use work::insert_work;
+pub use work::remove_work;
+ghost use Prim.Native.Nat.{_<_};
+ghost use mathlib.Core.Bool.{true, false};
 ghost use mathlib.Core.Path.{_≡_};
-use lists::Listed;
+ghost use lib.ListN.{set};
+ghost use Rattle.rows.specs.Table.{table, out};
+ghost use Rattle.queue.specs.Work as work;
+ghost use Rattle.queue.specs.Queue as calls;
+ghost use Rattle.queue.specs.Plan as plans;
+ghost use Rattle.queue.specs.Answers.{judgementAnswer, treeAnswer, plannedAnswer, stepOf};
+use policy::SchedulingPolicy;
+use ready_index::Contained;
+use ready_index::contains;
 use refusal::Refusal;
+use rows::RecordRead;
+use rows::record_at;
+use thread::CpuIndex;
+use thread::IndexFor;
 use thread::Link;
+use thread::QueueMembership;
+use thread::ThreadId;
 use thread::ThreadQueue;
+use thread::ThreadRecord;
+use thread::index_for;
+use thread::is_bad_record;
 use time::Epoch;
 
 // The root of one tree.
@@ -23,6 +46,48 @@ pub struct CpuRunQueue {
     pub halted: bool,
 }
 
+// Whether a call was made.
+pub enum Verdict {
+    Accepted,
+    Refused(Refusal),
+}
+
+// The queue as a call leaves it.
+pub struct QueueStep {
+    pub answer: Verdict,
+    pub queue: CpuRunQueue,
+}
+
+// A judged thread, and the number of the tree that it is filed in.
+pub struct Filed {
+    pub thread: ThreadRecord,
+    pub index: u64,
+}
+
+pub enum Judgement {
+    Filed(Filed),
+    Refused(Refusal),
+}
+
+// The number of the tree that holds a thread.
+pub enum TreeFound {
+    Index(u64),
+    Refused(Refusal),
+}
+
+// What a call is to do: the list by its membership, the tree by its number, and what the thread counts as.
+pub struct Plan {
+    pub membership: QueueMembership,
+    pub index: u64,
+    pub fifo: bool,
+    pub budgeted: bool,
+}
+
+pub enum Planned {
+    Plan(Plan),
+    Refused(Refusal),
+}
+
 // What one call touches of a queue: a list, the FIFO total, a tree's root, the number of budget threads.
 pub struct Parts {
     pub list: ThreadQueue,
@@ -36,4 +101,555 @@ pub enum Worked {
     Done(Parts),
     Refused(Refusal),
     Halted(Parts),
+}
+
+// The FIFO total afterwards, or its refusal.
+enum Total {
+    Length(u64),
+    Refused(Refusal),
+}
+
+// The named thread is judged: table, mark, number, record and policy, in this order.
+pub fn judge(t: &[[u64; 32]], halted: bool, id: u64) -> Judgement
+    ensures { λ r. ⌜ judgementAnswer r ≡ plans.judgement (table (now (t .entry))) halted id ⌝ }
+{
+    if 4096 < t.len() {
+        return Judgement::Refused(Refusal::BadTable);
+    }
+    if halted {
+        return Judgement::Refused(Refusal::Halted);
+    }
+    let RecordRead::Got(thread) = record_at(t, id) else {
+        return Judgement::Refused(Refusal::NoThread);
+    };
+    if is_bad_record(thread) {
+        return Judgement::Refused(Refusal::BadRecord);
+    }
+    let parameters = thread.parameters;
+    let runtime = thread.runtime;
+    let filing = index_for(parameters, runtime);
+    match filing {
+        IndexFor::None => Judgement::Refused(Refusal::BadState),
+        IndexFor::Index(index) => Judgement::Filed(Filed { thread, index }),
+    }
+}
+
+fn is_fifo(policy: SchedulingPolicy) -> bool
+    ensures { λ r. ⌜ r ≡ calls.isFifo policy ⌝ }
+{
+    match policy {
+        SchedulingPolicy::Fifo { priority: _ } => true,
+        SchedulingPolicy::Fair => false,
+        SchedulingPolicy::Budget => false,
+        SchedulingPolicy::Idle => false,
+    }
+}
+
+fn is_budget(policy: SchedulingPolicy) -> bool
+    ensures { λ r. ⌜ r ≡ calls.isBudget policy ⌝ }
+{
+    match policy {
+        SchedulingPolicy::Fifo { priority: _ } => false,
+        SchedulingPolicy::Fair => false,
+        SchedulingPolicy::Budget => true,
+        SchedulingPolicy::Idle => false,
+    }
+}
+
+// The list in which a thread of a policy stands.
+fn membership_for(policy: SchedulingPolicy, cpu: CpuIndex) -> QueueMembership
+    ensures { λ r. ⌜ r ≡ calls.membershipFor policy cpu ⌝ }
+{
+    match policy {
+        SchedulingPolicy::Fifo { priority } => QueueMembership::ReadyRealTime {
+            cpu,
+            priority: priority.0,
+        },
+        SchedulingPolicy::Fair => QueueMembership::ReadyFair { cpu },
+        SchedulingPolicy::Budget => QueueMembership::ReadyFair { cpu },
+        SchedulingPolicy::Idle => QueueMembership::None,
+    }
+}
+
+// A judged thread is in no list, and assigned to this processor.
+fn plan_insertion(filed: Filed, cpu: CpuIndex) -> Planned
+    ensures { λ r. ⌜ plannedAnswer r ≡ plans.planInsertion filed cpu ⌝ }
+{
+    let thread = filed.thread;
+    let links = thread.queue_links;
+    let current = links.membership;
+    let assigned = thread.cpu;
+    let parameters = thread.parameters;
+    let policy = parameters.policy;
+    if !current.is_unqueued() {
+        return Planned::Refused(Refusal::Already);
+    }
+    if assigned.0 == cpu.0 {
+        let membership = membership_for(policy, cpu);
+        let fifo = is_fifo(policy);
+        let budgeted = is_budget(policy);
+        return Planned::Plan(Plan {
+            membership,
+            index: filed.index,
+            fifo,
+            budgeted,
+        });
+    }
+    Planned::Refused(Refusal::BadState)
+}
+
+// What an enqueue is to do.
+pub fn insertion_plan(t: &[[u64; 32]], halted: bool, id: u64, cpu: CpuIndex) -> Planned
+    ensures { λ r. ⌜ plannedAnswer r ≡ plans.insertionPlan (table (now (t .entry))) halted id cpu ⌝ }
+{
+    let judgement = judge(t, halted, id);
+    match judgement {
+        Judgement::Refused(refusal) => Planned::Refused(refusal),
+        Judgement::Filed(filed) => plan_insertion(filed, cpu),
+    }
+}
+
+// The other budget tree of a role.
+pub fn partner(index: u64) -> u64
+    ensures { λ r. ⌜ r ≡ calls.partner index ⌝ }
+{
+    if index < 9 {
+        return index + 3;
+    }
+    index - 3
+}
+
+// The tree that holds the thread: that of its filing, or of a budget the partner.
+fn tree_found(
+    t: &[[u64; 32]],
+    root: Link,
+    other: Link,
+    id: u64,
+    budgeted: bool,
+    index: u64,
+) -> TreeFound
+    ensures { λ r. ⌜ treeAnswer r ≡ plans.treeFound (table (now (t .entry))) root other id budgeted index ⌝ }
+{
+    let held = contains(t, root, id);
+    match held {
+        Contained::Yes => TreeFound::Index(index),
+        Contained::No => {
+            if budgeted {
+                let beside = contains(t, other, id);
+                return match beside {
+                    Contained::Yes => TreeFound::Index(partner(index)),
+                    Contained::No => TreeFound::Refused(Refusal::Damaged),
+                    Contained::Damaged => TreeFound::Refused(Refusal::Damaged),
+                };
+            }
+            TreeFound::Refused(Refusal::Damaged)
+        }
+        Contained::Damaged => TreeFound::Refused(Refusal::Damaged),
+    }
+}
+
+// A ready membership is of this processor.
+fn plan_ready(
+    fifo: bool,
+    cpu: CpuIndex,
+    ready_cpu: CpuIndex,
+    budgeted: bool,
+    index: u64,
+    membership: QueueMembership,
+) -> Planned
+    ensures { λ r. ⌜ plannedAnswer r ≡ plans.planReady fifo cpu «ready_cpu» budgeted index membership ⌝ }
+{
+    if ready_cpu.0 == cpu.0 {
+        return Planned::Plan(Plan {
+            membership,
+            index,
+            fifo,
+            budgeted,
+        });
+    }
+    Planned::Refused(Refusal::Damaged)
+}
+
+// The thread's own membership names its list.
+fn plan_removal(filed: Filed, index: u64, cpu: CpuIndex) -> Planned
+    ensures { λ r. ⌜ plannedAnswer r ≡ plans.planRemoval filed index cpu ⌝ }
+{
+    let thread = filed.thread;
+    let links = thread.queue_links;
+    let parameters = thread.parameters;
+    let policy = parameters.policy;
+    let budgeted = is_budget(policy);
+    let membership = links.membership;
+    match membership {
+        QueueMembership::None => Planned::Refused(Refusal::Damaged),
+        QueueMembership::ReadyRealTime {
+            cpu: ready_cpu,
+            priority,
+        } => plan_ready(
+            true,
+            cpu,
+            ready_cpu,
+            budgeted,
+            index,
+            QueueMembership::ReadyRealTime {
+                cpu: ready_cpu,
+                priority,
+            },
+        ),
+        QueueMembership::ReadyFair { cpu: ready_cpu } => plan_ready(
+            false,
+            cpu,
+            ready_cpu,
+            budgeted,
+            index,
+            QueueMembership::ReadyFair { cpu: ready_cpu },
+        ),
+        QueueMembership::Waiting { queue: _ } => Planned::Refused(Refusal::Damaged),
+        QueueMembership::Terminated => Planned::Refused(Refusal::Damaged),
+    }
+}
+
+// What a removal of a judged thread is to do, by the roots of the tree of its filing and of the partner.
+pub fn removal_plan(
+    t: &[[u64; 32]],
+    filed: Filed,
+    root: Link,
+    other: Link,
+    id: u64,
+    cpu: CpuIndex,
+) -> Planned
+    ensures { λ r. ⌜ plannedAnswer r ≡ plans.removalPlan (table (now (t .entry))) filed root other id cpu ⌝ }
+{
+    let thread = filed.thread;
+    let parameters = thread.parameters;
+    let policy = parameters.policy;
+    let budgeted = is_budget(policy);
+    let found = tree_found(t, root, other, id, budgeted, filed.index);
+    match found {
+        TreeFound::Refused(refusal) => Planned::Refused(refusal),
+        TreeFound::Index(index) => plan_removal(filed, index, cpu),
+    }
+}
+
+fn root_of(queue: CpuRunQueue, index: u64) -> Link
+    requires { ⌜ index < 12 ⌝ }
+    ensures { λ r. ⌜ r ≡ calls.rootOf queue index ⌝ }
+{
+    let tree = index as usize;
+    let entry = queue.indices[tree];
+    entry.root
+}
+
+fn parts_of(queue: CpuRunQueue, membership: QueueMembership, index: u64) -> Parts
+    requires { ⌜ index < 12 ⌝ }
+    ensures { λ r. ⌜ r ≡ calls.partsOf queue membership index ⌝ }
+{
+    let tree = index as usize;
+    let entry = queue.indices[tree];
+    let root = entry.root;
+    let list = list_of(queue, membership);
+    Parts {
+        list,
+        realtime_len: queue.realtime_len,
+        root,
+        budget_threads: queue.budget_threads,
+    }
+}
+
+// The list that a ready membership names.
+fn list_of(queue: CpuRunQueue, membership: QueueMembership) -> ThreadQueue
+    ensures { λ r. ⌜ r ≡ calls.listOf queue membership ⌝ }
+{
+    match membership {
+        QueueMembership::None => queue.fair,
+        QueueMembership::ReadyRealTime { cpu: _, priority } => {
+            let at = priority as usize;
+            queue.realtime[at]
+        }
+        QueueMembership::ReadyFair { cpu: _ } => queue.fair,
+        QueueMembership::Waiting { queue: _ } => queue.fair,
+        QueueMembership::Terminated => queue.fair,
+    }
+}
+
+fn with_real_time(queue: CpuRunQueue, priority: u8, index: u64, parts: Parts) -> CpuRunQueue
+    requires { ⌜ index < 12 ⌝ }
+    ensures { λ r. ⌜ r ≡ calls.stored queue index parts (set (queue .realtime) priority (parts .list)) (queue .fair) ⌝ }
+{
+    let list = parts.list;
+    let root = parts.root;
+    let fair = queue.fair;
+    let budget_epoch = queue.budget_epoch;
+    let at = priority as usize;
+    let tree = index as usize;
+    let mut realtime = queue.realtime;
+    realtime[at] = list;
+    let mut indices = queue.indices;
+    indices[tree] = Root { root };
+    CpuRunQueue {
+        realtime,
+        realtime_len: parts.realtime_len,
+        fair,
+        indices,
+        budget_epoch,
+        budget_threads: parts.budget_threads,
+        halted: queue.halted,
+    }
+}
+
+fn with_fair(queue: CpuRunQueue, index: u64, parts: Parts) -> CpuRunQueue
+    requires { ⌜ index < 12 ⌝ }
+    ensures { λ r. ⌜ r ≡ calls.stored queue index parts (queue .realtime) (parts .list) ⌝ }
+{
+    let fair = parts.list;
+    let root = parts.root;
+    let budget_epoch = queue.budget_epoch;
+    let tree = index as usize;
+    let realtime = queue.realtime;
+    let mut indices = queue.indices;
+    indices[tree] = Root { root };
+    CpuRunQueue {
+        realtime,
+        realtime_len: parts.realtime_len,
+        fair,
+        indices,
+        budget_epoch,
+        budget_threads: parts.budget_threads,
+        halted: queue.halted,
+    }
+}
+
+// The parts stored back.
+fn with_parts(
+    queue: CpuRunQueue,
+    membership: QueueMembership,
+    index: u64,
+    parts: Parts,
+) -> CpuRunQueue
+    requires { ⌜ index < 12 ⌝ }
+    ensures { λ r. ⌜ r ≡ calls.withParts queue membership index parts ⌝ }
+{
+    match membership {
+        QueueMembership::None => queue,
+        QueueMembership::ReadyRealTime { cpu: _, priority } => {
+            with_real_time(queue, priority, index, parts)
+        }
+        QueueMembership::ReadyFair { cpu: _ } => with_fair(queue, index, parts),
+        QueueMembership::Waiting { queue: _ } => queue,
+        QueueMembership::Terminated => queue,
+    }
+}
+
+fn marked(queue: CpuRunQueue) -> CpuRunQueue
+    ensures { λ r. ⌜ r ≡ calls.marked queue ⌝ }
+{
+    let realtime = queue.realtime;
+    let fair = queue.fair;
+    let indices = queue.indices;
+    let budget_epoch = queue.budget_epoch;
+    CpuRunQueue {
+        realtime,
+        realtime_len: queue.realtime_len,
+        fair,
+        indices,
+        budget_epoch,
+        budget_threads: queue.budget_threads,
+        halted: true,
+    }
+}
+
+// A call's work put back into the queue; where the source halts, with the mark.
+fn settled(queue: CpuRunQueue, membership: QueueMembership, index: u64, worked: Worked) -> QueueStep
+    requires { ⌜ index < 12 ⌝ }
+    ensures { λ r. ⌜ stepOf r ≡ plans.settled queue membership index (work.workOf worked) ⌝ }
+{
+    match worked {
+        Worked::Done(parts) => QueueStep {
+            answer: Verdict::Accepted,
+            queue: with_parts(queue, membership, index, parts),
+        },
+        Worked::Refused(refusal) => QueueStep {
+            answer: Verdict::Refused(refusal),
+            queue,
+        },
+        Worked::Halted(parts) => QueueStep {
+            answer: Verdict::Refused(Refusal::Halted),
+            queue: marked(with_parts(queue, membership, index, parts)),
+        },
+    }
+}
+
+fn insert_by(
+    queue: CpuRunQueue,
+    t: &mut [[u64; 32]],
+    path: &mut [[u64; 2]; 40],
+    id: u64,
+    plan: Plan,
+    front: bool,
+) -> QueueStep
+    requires { ⌜ plan .index < 12 ⌝ }
+    ensures { λ r. ⌜ out (stepOf r) (table (now (t .exit))) ≡ plans.insertBy front (table (now (t .entry))) queue id plan ⌝ }
+{
+    let membership = plan.membership;
+    let parts = parts_of(queue, membership, plan.index);
+    let worked = insert_work(
+        t,
+        path,
+        parts,
+        id,
+        membership,
+        front,
+        plan.fifo,
+        plan.budgeted,
+    );
+    settled(queue, membership, plan.index, worked)
+}
+
+fn remove_by(
+    queue: CpuRunQueue,
+    t: &mut [[u64; 32]],
+    path: &mut [[u64; 2]; 40],
+    id: u64,
+    plan: Plan,
+) -> QueueStep
+    requires { ⌜ plan .index < 12 ⌝ }
+    ensures { λ r. ⌜ out (stepOf r) (table (now (t .exit))) ≡ plans.removeBy (table (now (t .entry))) queue id plan ⌝ }
+{
+    let membership = plan.membership;
+    let parts = parts_of(queue, membership, plan.index);
+    let worked = remove_work(t, path, parts, id, membership, plan.fifo, plan.budgeted);
+    settled(queue, membership, plan.index, worked)
+}
+
+// At the back, or at the front.
+fn insert(
+    queue: CpuRunQueue,
+    t: &mut [[u64; 32]],
+    path: &mut [[u64; 2]; 40],
+    id: u64,
+    cpu: CpuIndex,
+    front: bool,
+) -> QueueStep
+    ensures { λ r. ⌜ out (stepOf r) (table (now (t .exit))) ≡ calls.enqueueCall front (table (now (t .entry))) queue id cpu ⌝ }
+{
+    let planned = insertion_plan(t, queue.halted, id, cpu);
+    match planned {
+        Planned::Refused(refusal) => QueueStep {
+            answer: Verdict::Refused(refusal),
+            queue,
+        },
+        Planned::Plan(plan) => insert_by(queue, t, path, id, plan, front),
+    }
+}
+
+// Out of the tree and the list of a judged thread.
+fn remove_filed(
+    queue: CpuRunQueue,
+    t: &mut [[u64; 32]],
+    path: &mut [[u64; 2]; 40],
+    id: u64,
+    cpu: CpuIndex,
+    filed: Filed,
+) -> QueueStep
+    requires { ⌜ filed .index < 12 ⌝ }
+    ensures { λ r. ⌜ out (stepOf r) (table (now (t .exit))) ≡ plans.removeFiled (table (now (t .entry))) queue id cpu filed ⌝ }
+{
+    let root = root_of(queue, filed.index);
+    let beside = partner(filed.index);
+    let other = root_of(queue, beside);
+    let planned = removal_plan(t, filed, root, other, id, cpu);
+    match planned {
+        Planned::Refused(refusal) => QueueStep {
+            answer: Verdict::Refused(refusal),
+            queue,
+        },
+        Planned::Plan(plan) => remove_by(queue, t, path, id, plan),
+    }
+}
+
+impl CpuRunQueue {
+    // Empty lists and trees, no epoch, not halted.
+    pub fn new() -> Self
+        ensures { λ r. ⌜ r ≡ calls.newQueue ⌝ }
+    {
+        let list = ThreadQueue::new();
+        let root = Root { root: Link::None };
+        let realtime = [list; 256];
+        let indices = [root; 12];
+        Self {
+            realtime,
+            realtime_len: 0,
+            fair: ThreadQueue::new(),
+            indices,
+            budget_epoch: Epoch::None,
+            budget_threads: 0,
+            halted: false,
+        }
+    }
+
+    pub fn real_time_len(self) -> u64
+        ensures { λ r. ⌜ r ≡ calls.realTimeLen self ⌝ }
+    {
+        self.realtime_len
+    }
+
+    pub fn fair_len(self) -> u64
+        ensures { λ r. ⌜ r ≡ calls.fairLen self ⌝ }
+    {
+        let fair = self.fair;
+        fair.len
+    }
+
+    pub fn budget_len(self) -> u64
+        ensures { λ r. ⌜ r ≡ calls.budgetLen self ⌝ }
+    {
+        self.budget_threads
+    }
+
+    // The thread becomes the last of its list.
+    pub fn enqueue(
+        self,
+        t: &mut [[u64; 32]],
+        path: &mut [[u64; 2]; 40],
+        id: ThreadId,
+        cpu: CpuIndex,
+    ) -> QueueStep
+        ensures { λ r. ⌜ out (stepOf r) (table (now (t .exit))) ≡ calls.enqueueCall false (table (now (t .entry))) self (id .0) cpu ⌝ }
+    {
+        insert(self, t, path, id.0, cpu, false)
+    }
+
+    // The thread becomes the first of its list.
+    pub fn enqueue_front(
+        self,
+        t: &mut [[u64; 32]],
+        path: &mut [[u64; 2]; 40],
+        id: ThreadId,
+        cpu: CpuIndex,
+    ) -> QueueStep
+        ensures { λ r. ⌜ out (stepOf r) (table (now (t .exit))) ≡ calls.enqueueCall true (table (now (t .entry))) self (id .0) cpu ⌝ }
+    {
+        insert(self, t, path, id.0, cpu, true)
+    }
+
+    // The thread leaves its list and the tree that holds it.
+    pub fn remove(
+        self,
+        t: &mut [[u64; 32]],
+        path: &mut [[u64; 2]; 40],
+        id: ThreadId,
+        cpu: CpuIndex,
+    ) -> QueueStep
+        ensures { λ r. ⌜ out (stepOf r) (table (now (t .exit))) ≡ calls.removeCall (table (now (t .entry))) self (id .0) cpu ⌝ }
+    {
+        let queue = self;
+        let judgement = judge(t, queue.halted, id.0);
+        match judgement {
+            Judgement::Refused(refusal) => QueueStep {
+                answer: Verdict::Refused(refusal),
+                queue,
+            },
+            Judgement::Filed(filed) => remove_filed(queue, t, path, id.0, cpu, filed),
+        }
+    }
 }

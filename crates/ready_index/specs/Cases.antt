@@ -26,6 +26,7 @@ unfoldable pub onTurned : {A : Type 0} → Out Turned → (List ThreadRecord →
 onTurned (out (turned.Root i) t) a f = f i t
 onTurned (out turned.Damaged t) a f = a t
 
+-- The same by the root.
 unfoldable pub onRooted : {A : Type 0} → Out Rooted → (List ThreadRecord → A) → (Link → List ThreadRecord → A) → A
 onRooted (out (rooted.Root l) t) a f = f l t
 onRooted (out rooted.Damaged t) a f = a t

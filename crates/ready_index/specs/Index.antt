@@ -69,6 +69,7 @@ pub data Walk : Type 0 where
   bottom : List Step → Walk
   lost : Walk
 
+-- Refused first.
 unfoldable pub onWalk : {A : Type 0} → Walk → A → (List Step → A) → A
 onWalk (bottom s) a f = f s
 onWalk lost a f = a
@@ -126,6 +127,7 @@ pub data Search : Type 0 where
   found : List Step → Links → ℕ → Search
   missing : Search
 
+-- Refused first.
 unfoldable pub onSearch : {A : Type 0} → Search → A → (List Step → Links → ℕ → A) → A
 onSearch (found s l room) a f = f s l room
 onSearch missing a f = a
@@ -146,6 +148,7 @@ pub data Successor : Type 0 where
   next : List Step → ℕ → Link → Successor
   none : Successor
 
+-- Refused first.
 unfoldable pub onSuccessor : {A : Type 0} → Successor → A → (List Step → ℕ → Link → A) → A
 onSuccessor (next s i r) a f = f s i r
 onSuccessor none a f = a

@@ -510,7 +510,8 @@ fn rebuild_removed(
     let Rooted::Root(top) = rebuild(t, path, 0, steps, sub) else {
         return Rooted::Damaged;
     };
-    let Change::Made = set_links(t, id, Links::EMPTY) else {
+    let emptied = Links::EMPTY;
+    let Change::Made = set_links(t, id, emptied) else {
         return Rooted::Damaged;
     };
     Rooted::Root(top)

@@ -3,7 +3,7 @@ use Prim.Native.Nat.{ℕ}
 use mathlib.Core.List.{List, [], _∷_}
 use Rattle.refusal.specs.Cases.{given}
 use Rattle.order.specs.declared.Ordering.{Ordering}
-use Rattle.order.specs.Order.{compareParts}
+use Rattle.order.specs.Order.{compareNumbers, thenBy, compareParts}
 use Rattle.policy.specs.declared.SchedulingParameters.{SchedulingParameters}
 use Rattle.policy.specs.PolicyCases.{onPolicy, onBackend}
 use Rattle.algorithms.specs.declared.Wide.{Wide}
@@ -38,3 +38,13 @@ parts k = k .algorithm .high ∷ k .algorithm .low ∷ k .band ∷ k .turn ∷ k
 
 unfoldable pub compareTreeKeys : TreeKey → TreeKey → Ordering
 compareTreeKeys a b = compareParts (parts a) (parts b)
+
+-- The comparison from a later part on.
+unfoldable pub compareFromTurn : TreeKey → TreeKey → Ordering
+compareFromTurn a b = thenBy (compareNumbers (a .turn) (b .turn)) (compareNumbers (a .id) (b .id))
+
+unfoldable pub compareFromBand : TreeKey → TreeKey → Ordering
+compareFromBand a b = thenBy (compareNumbers (a .band) (b .band)) (compareFromTurn a b)
+
+unfoldable pub compareFromLow : TreeKey → TreeKey → Ordering
+compareFromLow a b = thenBy (compareNumbers (a .algorithm .low) (b .algorithm .low)) (compareFromBand a b)

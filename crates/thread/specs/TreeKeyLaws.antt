@@ -6,7 +6,7 @@ use Rattle.order.specs.declared.Ordering.{Ordering}
 use Rattle.order.specs.declared.Ordering.the-variants.{Less, Equal, Greater}
 use Rattle.order.specs.Order.{compareNumbers, thenBy, compareParts}
 use Rattle.thread.specs.declared.TreeKey.{TreeKey}
-use Rattle.thread.specs.TreeKey.{parts, compareTreeKeys}
+use Rattle.thread.specs.TreeKey.{parts, compareFromTurn, compareFromBand, compareFromLow, compareTreeKeys}
 
 then-nothing : (x : Ordering) → thenBy x Equal ≡ x
 unfolding thenBy
@@ -14,12 +14,23 @@ then-nothing Less = refl
 then-nothing Equal = refl
 then-nothing Greater = refl
 
--- The five comparisons, the first part first; the bands are compared as words.
-pub part-by-part : (a b : TreeKey) {o high low band turn id after-high after-low after-band : Ordering} {x y : ℕ}
-    → o ≡ thenBy high after-high → after-high ≡ thenBy low after-low → after-low ≡ thenBy band after-band → after-band ≡ thenBy turn id
-    → high ≡ compareNumbers (a .algorithm .high) (b .algorithm .high) → low ≡ compareNumbers (a .algorithm .low) (b .algorithm .low)
-    → band ≡ compareNumbers x y → x ≡ a .band → y ≡ b .band → turn ≡ compareNumbers (a .turn) (b .turn) → id ≡ compareNumbers (a .id) (b .id)
-    → o ≡ compareTreeKeys a b
-unfolding compareTreeKeys parts compareParts
-part-by-part a b e₁ e₂ e₃ e₄ high low band x y turn id =
-    rw (then-nothing (compareNumbers (a .id) (b .id)), sym high, sym low, sym x, sym y, sym band, sym turn, sym id, sym e₄, sym e₃, sym e₂) e₁
+-- By what the comparison of a part said: it decides, or the later parts do.
+module _ {y r x : Ordering} (z : Ordering) where
+  pub decided-less : r ≡ x → r ≡ Less → y ≡ Less → y ≡ thenBy x z
+  unfolding thenBy
+  decided-less e m h = rw (sym e ∙ m) h
+
+  pub decided-greater : r ≡ x → r ≡ Greater → y ≡ Greater → y ≡ thenBy x z
+  unfolding thenBy
+  decided-greater e m h = rw (sym e ∙ m) h
+
+  pub left-open : r ≡ x → r ≡ Equal → y ≡ z → y ≡ thenBy x z
+  unfolding thenBy
+  left-open e m h = rw (sym e ∙ m) h
+
+-- The first part of a whole key, and then the others.
+pub whole-key : (a b : TreeKey) {y : Ordering} → y ≡ thenBy (compareNumbers (a .algorithm .high) (b .algorithm .high)) (compareFromLow a b) → y ≡ compareTreeKeys a b
+unfolding compareTreeKeys parts compareParts compareFromLow compareFromBand compareFromTurn
+whole-key a b h = rw (then-nothing (compareNumbers (a .id) (b .id))) h
+
+pub ruleset part-by-part = (decided-less, decided-greater, left-open, whole-key)

@@ -1,7 +1,8 @@
 // A thread's record: links, memberships, keys, filing and the judgement of it. After task/thread.rs, task/wait.rs and scheduler/queue.rs.
 ghost use mathlib.Core.Path.{_≡_};
 ghost use Rattle.thread.specs.Membership.{emptyQueue, isNone, pointsTo, isUnqueued, isReadyRealTime, isReadyFair, isWaiting, isTerminated, sameMembership, readyCpu, isReadyOn};
-ghost use Rattle.thread.specs.TreeKey.{algorithmKey, treeKey, readyIndexKey, compareTreeKeys};
+ghost use Rattle.order.specs.Order.{compareNumbers};
+ghost use Rattle.thread.specs.TreeKey.{algorithmKey, treeKey, readyIndexKey, compareFromTurn, compareFromBand, compareFromLow, compareTreeKeys};
 ghost use Rattle.thread.specs.Judgement.{hasBudget, isBadBudget, isBadRecord};
 ghost use Rattle.thread.specs.Filing.{budgetAvailable, roleIndex, indexFor};
 use algorithms::PolicyRuntime;
@@ -9,7 +10,6 @@ use algorithms::Wide;
 use algorithms::same_kind;
 use order::Ordering;
 use order::compare_numbers;
-use order::then_by;
 use policy::BudgetOption;
 use policy::FairBackend;
 use policy::SchedulingParameters;
@@ -370,18 +370,56 @@ pub fn ready_index_key(thread: ThreadRecord, id: u64) -> TreeKey
     tree_key(parameters, runtime, thread.ready_turn, id)
 }
 
+fn compare_bands(a: u8, b: u8) -> Ordering
+    ensures { λ r. ⌜ r ≡ compareNumbers a b ⌝ }
+{
+    compare_numbers(wide(a), wide(b))
+}
+
+// Turn and number. Here and below, a later part is looked at only where all before it are equal.
+fn compare_from_turn(a: TreeKey, b: TreeKey) -> Ordering
+    ensures { λ r. ⌜ r ≡ compareFromTurn a b ⌝ }
+{
+    match compare_numbers(a.turn, b.turn) {
+        Ordering::Less => Ordering::Less,
+        Ordering::Equal => compare_numbers(a.id, b.id),
+        Ordering::Greater => Ordering::Greater,
+    }
+}
+
+fn compare_from_band(a: TreeKey, b: TreeKey) -> Ordering
+    ensures { λ r. ⌜ r ≡ compareFromBand a b ⌝ }
+{
+    match compare_bands(a.band, b.band) {
+        Ordering::Less => Ordering::Less,
+        Ordering::Equal => compare_from_turn(a, b),
+        Ordering::Greater => Ordering::Greater,
+    }
+}
+
+fn compare_from_low(a: TreeKey, b: TreeKey) -> Ordering
+    ensures { λ r. ⌜ r ≡ compareFromLow a b ⌝ }
+{
+    let left = a.algorithm;
+    let right = b.algorithm;
+    match compare_numbers(left.low, right.low) {
+        Ordering::Less => Ordering::Less,
+        Ordering::Equal => compare_from_band(a, b),
+        Ordering::Greater => Ordering::Greater,
+    }
+}
+
 // Algorithm, band, turn, number; a later part decides only where all before it are equal.
 pub fn compare_tree_keys(a: TreeKey, b: TreeKey) -> Ordering
     ensures { λ r. ⌜ r ≡ compareTreeKeys a b ⌝ }
 {
     let left = a.algorithm;
     let right = b.algorithm;
-    let high = compare_numbers(left.high, right.high);
-    let low = compare_numbers(left.low, right.low);
-    let band = compare_numbers(wide(a.band), wide(b.band));
-    let turn = compare_numbers(a.turn, b.turn);
-    let id = compare_numbers(a.id, b.id);
-    then_by(high, then_by(low, then_by(band, then_by(turn, id))))
+    match compare_numbers(left.high, right.high) {
+        Ordering::Less => Ordering::Less,
+        Ordering::Equal => compare_from_low(a, b),
+        Ordering::Greater => Ordering::Greater,
+    }
 }
 
 fn has_budget(budget: BudgetOption) -> bool

@@ -16,7 +16,7 @@ rebuild-step-spec =
     (λ c. search needs)
     (λ c. search needs)
     (λ c. search needs)
-    (λ c. search (answers, hanging) depth 8)
+    (λ c. search answers depth 8)
     (λ c κs. search needs)
     (λ c κs. search needs)
     (λ c. search needs)

@@ -15,7 +15,7 @@ remove-spec =
     (λ c. search needs)
     (λ c. search needs)
     (λ c. search needs)
-    (λ c. search (answers, remove-lent) depth 8)
+    (λ c. search answers depth 8)
     (λ c κs. search needs)
     (λ c. search needs)
     (λ c. search (answers, remove-lent) depth 8))

@@ -14,7 +14,7 @@ remove-found-spec =
     (λ c. search needs)
     (λ c. search needs)
     (λ c. search needs)
-    (λ c. search (answers, same-steps) depth 8)
+    (λ c. search answers depth 8)
     (λ c κs. search needs)
     (λ c. search needs)
     (λ c. search needs)

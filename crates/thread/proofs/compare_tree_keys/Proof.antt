@@ -1,4 +1,4 @@
--- The four joined comparisons are the comparison of the parts, and a last part that is Equal decides nothing.
+-- The first part decides, or the later ones do.
 use Rattle.thread.specs.TreeKeyLaws.{part-by-part}
 use borrow.Author.Needs.{needs}
 use Rattle.thread.proofs.compare_tree_keys.Statement.{statement}
@@ -9,14 +9,10 @@ compare-tree-keys-spec =
     tie.close
     (tie.spec
     (λ c κs. search needs)
+    (λ c. search needs)
+    (λ c. search needs)
     (λ c κs. search needs)
-    (λ c κs. search needs)
-    (λ c κs. search needs)
-    (λ c κs. search needs)
-    (λ c κs. search needs)
-    (λ c κs. search needs)
-    (λ c κs. search needs)
-    (λ c κs. search needs)
-    (λ c κs. search needs)
-    (λ c κs. search needs)
-    (λ c. search part-by-part depth 4))
+    (λ c. search needs)
+    (λ c. search part-by-part depth 5)
+    (λ c. search part-by-part depth 5)
+    (λ c. search part-by-part depth 5))

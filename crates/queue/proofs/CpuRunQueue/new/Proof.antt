@@ -1,0 +1,12 @@
+-- Each list and each root is the empty one.
+use borrow.Author.Needs.{needs}
+use Rattle.queue.proofs.CpuRunQueue.new.Statement.{statement}
+use Rattle.queue.proofs.CpuRunQueue.new.Tie as tie
+
+pub new-spec : {M : Type 1} → statement M
+new-spec =
+    tie.close
+    (tie.spec
+    (λ c κs. search needs)
+    (λ c κs. search needs)
+    (λ c. cc))

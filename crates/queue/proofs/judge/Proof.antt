@@ -1,0 +1,28 @@
+-- The five tests, in order.
+use Rattle.refusal.specs.Cases.{cases}
+use Rattle.rows.specs.TableCases.{tables}
+use Rattle.thread.specs.FilingLaws.{filings}
+use Rattle.queue.specs.PlanLaws.{plannings}
+use Rattle.queue.specs.Plan.{judgement}
+use borrow.Author.Needs.{needs}
+use Rattle.queue.proofs.judge.Statement.{statement}
+use Rattle.queue.proofs.judge.Tie as tie
+
+pub judge-spec : {M : Type 1} → statement M
+unfolding judgement
+judge-spec =
+    tie.close
+    (tie.spec
+    (λ c. search (cases, tables, filings, plannings) depth 8)
+    (λ c. search (cases, tables, filings, plannings) depth 8)
+    (λ c κs. search needs)
+    (λ c. search needs)
+    (λ c. search needs)
+    (λ c. search (cases, tables, filings, plannings) depth 8)
+    (λ c κs. search needs)
+    (λ c. search (cases, tables, filings, plannings) depth 8)
+    (λ c κs. search needs)
+    (λ c. search needs)
+    (λ c. search needs)
+    (λ c. search (cases, tables, filings, plannings) depth 8)
+    (λ c. search (cases, tables, filings, plannings) depth 8))
