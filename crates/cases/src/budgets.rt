@@ -118,12 +118,6 @@ pub fn charges() -> u64 {
     let full = runtime(Epoch::Some(0), 2_000_000);
     let across = full.account_interval(9_000_000, 11_000_000, share());
     let edge = full.account_interval(9_000_000, 10_000_000, share());
-    let empty = runtime(Epoch::Some(0), 5_000_000).account_interval(3_000_000, 3_000_000, share());
-    let bad = BudgetParameters {
-        budget_ns: 0,
-        period_ns: 10,
-        burst_ns: 1,
-    };
     let a = case(
         b"account: across an edge leaves",
         remaining(across),
@@ -140,6 +134,17 @@ pub fn charges() -> u64 {
         burst(edge),
         4_000_000,
     );
+    sum(sum(a, b), sum(c, d))
+}
+
+pub fn intervals() -> u64 {
+    let full = runtime(Epoch::Some(0), 2_000_000);
+    let empty = runtime(Epoch::Some(0), 5_000_000).account_interval(3_000_000, 3_000_000, share());
+    let bad = BudgetParameters {
+        budget_ns: 0,
+        period_ns: 10,
+        burst_ns: 1,
+    };
     let e = case(
         b"account: an empty interval cuts to",
         remaining(empty),
@@ -155,7 +160,7 @@ pub fn charges() -> u64 {
         remaining(full.account_interval(2, 1, bad)),
         REFUSED + 6,
     );
-    sum(sum(sum(a, b), sum(c, d)), sum(sum(e, f), g))
+    sum(e, sum(f, g))
 }
 
 // The deadline's time, 0 where there is none.

@@ -8,13 +8,13 @@ fn main() {
     report::proved(worked_cases::count());
     let policies = budgets::parameters();
     let refills = budgets::refills();
-    let charges = budgets::charges();
+    let charges = report::sum(budgets::charges(), budgets::intervals());
     let deadlines = budgets::deadlines();
     let runtimes = budgets::runtimes();
     let settings = windows::settings();
     let ledgers = windows::ledgers();
     let due = windows::due();
-    let keys = windows::keys();
+    let keys = report::sum(windows::keys(), windows::orders());
     let trees = report::sum(trees::paths(), trees::damage());
     let budgets = report::sum(
         report::sum(policies, refills),

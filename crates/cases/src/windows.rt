@@ -230,24 +230,7 @@ fn sign(order: Ordering) -> u64 {
 pub fn keys() -> u64 {
     let w = window(Epoch::None);
     let late = exhausted(SchedulingRole::Protected);
-    let plain = key_of(w.candidate_key(7_000_000, late, demand(true, false, false)));
-    let noticed = key_of(w.candidate_key(7_000_000, late, demand(true, false, true)));
-    let before = DispatchKey {
-        urgency: 2,
-        rank: 1,
-        algorithm_rank: 1,
-        algorithm: Wide { high: 0, low: 9 },
-        band: 200,
-        turn: 3,
-    };
-    let after = DispatchKey {
-        urgency: 2,
-        rank: 1,
-        algorithm_rank: 1,
-        algorithm: Wide { high: 1, low: 0 },
-        band: 100,
-        turn: 3,
-    };
+    let plain = demand(true, false, false);
     let a = case(
         b"key: exhausted with a FIFO current",
         urgency(w.candidate_key(7_000_000, late, demand(true, true, false))),
@@ -255,23 +238,46 @@ pub fn keys() -> u64 {
     );
     let b = case(
         b"key: exhausted, protected and due",
-        urgency(w.candidate_key(7_000_000, late, demand(true, false, false))),
+        urgency(w.candidate_key(7_000_000, late, plain)),
         2,
     );
     let c = case(
         b"key: FIFO, protected and due",
-        urgency(w.candidate_key(
-            7_000_000,
-            Candidate {
-                parameters: fifo(SchedulingRole::Protected),
-                fair_pass: Wide { high: 0, low: 0 },
-                turn: 1,
-                budget_available: false,
-            },
-            demand(true, true, false),
-        )),
+        urgency(w.candidate_key(7_000_000, waiting(), demand(true, true, false))),
         1,
     );
+    sum(a, sum(b, c))
+}
+
+// A protected FIFO thread.
+fn waiting() -> Candidate {
+    Candidate {
+        parameters: fifo(SchedulingRole::Protected),
+        fair_pass: Wide { high: 0, low: 0 },
+        turn: 1,
+        budget_available: false,
+    }
+}
+
+fn key_with(algorithm: Wide, band: u8) -> DispatchKey {
+    DispatchKey {
+        urgency: 2,
+        rank: 1,
+        algorithm_rank: 1,
+        algorithm,
+        band,
+        turn: 3,
+    }
+}
+
+// `window_sensitive` and `any_budget` change no key; the algorithm compares before the band.
+pub fn orders() -> u64 {
+    let w = window(Epoch::None);
+    let late = exhausted(SchedulingRole::Protected);
+    let plain = key_of(w.candidate_key(7_000_000, late, demand(true, false, false)));
+    let noticed = key_of(w.candidate_key(7_000_000, late, demand(true, false, true)));
+    let before = key_with(Wide { high: 0, low: 9 }, 200);
+    let after = key_with(Wide { high: 1, low: 0 }, 100);
     let d = case(
         b"key: window_sensitive and any_budget change",
         sign(compare_keys(plain, noticed)),
@@ -282,5 +288,5 @@ pub fn keys() -> u64 {
         sign(compare_keys(before, after)),
         0,
     );
-    sum(sum(a, b), sum(c, sum(d, e)))
+    sum(d, e)
 }

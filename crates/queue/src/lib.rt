@@ -1,6 +1,11 @@
 // The ready queue of one processor: enqueue at either end and remove. After `CpuRunQueue` of scheduler/queue.rs.
+mod plan;
 mod work;
 
+pub use plan::insertion_plan;
+pub use plan::judge;
+pub use plan::partner;
+pub use plan::removal_plan;
 pub use work::insert_work;
 pub use work::remove_work;
 ghost use Prim.Native.Nat.{_<_};
@@ -11,22 +16,14 @@ ghost use Rattle.rows.specs.Table.{table, out};
 ghost use Rattle.queue.specs.Work as work;
 ghost use Rattle.queue.specs.Queue as calls;
 ghost use Rattle.queue.specs.Plan as plans;
-ghost use Rattle.queue.specs.Answers.{judgementAnswer, treeAnswer, plannedAnswer, stepOf};
-use policy::SchedulingPolicy;
-use ready_index::Contained;
-use ready_index::contains;
+ghost use Rattle.queue.specs.Answers.{stepOf};
 use refusal::Refusal;
-use rows::RecordRead;
-use rows::record_at;
 use thread::CpuIndex;
-use thread::IndexFor;
 use thread::Link;
 use thread::QueueMembership;
 use thread::ThreadId;
 use thread::ThreadQueue;
 use thread::ThreadRecord;
-use thread::index_for;
-use thread::is_bad_record;
 use time::Epoch;
 
 // The root of one tree.
@@ -107,228 +104,6 @@ pub enum Worked {
 enum Total {
     Length(u64),
     Refused(Refusal),
-}
-
-// The named thread is judged: table, mark, number, record and policy, in this order.
-pub fn judge(t: &[[u64; 32]], halted: bool, id: u64) -> Judgement
-    ensures { λ r. ⌜ judgementAnswer r ≡ plans.judgement (table (now (t .entry))) halted id ⌝ }
-{
-    if 4096 < t.len() {
-        return Judgement::Refused(Refusal::BadTable);
-    }
-    if halted {
-        return Judgement::Refused(Refusal::Halted);
-    }
-    let RecordRead::Got(thread) = record_at(t, id) else {
-        return Judgement::Refused(Refusal::NoThread);
-    };
-    if is_bad_record(thread) {
-        return Judgement::Refused(Refusal::BadRecord);
-    }
-    let parameters = thread.parameters;
-    let runtime = thread.runtime;
-    let filing = index_for(parameters, runtime);
-    match filing {
-        IndexFor::None => Judgement::Refused(Refusal::BadState),
-        IndexFor::Index(index) => Judgement::Filed(Filed { thread, index }),
-    }
-}
-
-fn is_fifo(policy: SchedulingPolicy) -> bool
-    ensures { λ r. ⌜ r ≡ calls.isFifo policy ⌝ }
-{
-    match policy {
-        SchedulingPolicy::Fifo { priority: _ } => true,
-        SchedulingPolicy::Fair => false,
-        SchedulingPolicy::Budget => false,
-        SchedulingPolicy::Idle => false,
-    }
-}
-
-fn is_budget(policy: SchedulingPolicy) -> bool
-    ensures { λ r. ⌜ r ≡ calls.isBudget policy ⌝ }
-{
-    match policy {
-        SchedulingPolicy::Fifo { priority: _ } => false,
-        SchedulingPolicy::Fair => false,
-        SchedulingPolicy::Budget => true,
-        SchedulingPolicy::Idle => false,
-    }
-}
-
-// The list in which a thread of a policy stands.
-fn membership_for(policy: SchedulingPolicy, cpu: CpuIndex) -> QueueMembership
-    ensures { λ r. ⌜ r ≡ calls.membershipFor policy cpu ⌝ }
-{
-    match policy {
-        SchedulingPolicy::Fifo { priority } => QueueMembership::ReadyRealTime {
-            cpu,
-            priority: priority.0,
-        },
-        SchedulingPolicy::Fair => QueueMembership::ReadyFair { cpu },
-        SchedulingPolicy::Budget => QueueMembership::ReadyFair { cpu },
-        SchedulingPolicy::Idle => QueueMembership::None,
-    }
-}
-
-// A judged thread is in no list, and assigned to this processor.
-fn plan_insertion(filed: Filed, cpu: CpuIndex) -> Planned
-    ensures { λ r. ⌜ plannedAnswer r ≡ plans.planInsertion filed cpu ⌝ }
-{
-    let thread = filed.thread;
-    let links = thread.queue_links;
-    let current = links.membership;
-    let assigned = thread.cpu;
-    let parameters = thread.parameters;
-    let policy = parameters.policy;
-    if !current.is_unqueued() {
-        return Planned::Refused(Refusal::Already);
-    }
-    if assigned.0 == cpu.0 {
-        let membership = membership_for(policy, cpu);
-        let fifo = is_fifo(policy);
-        let budgeted = is_budget(policy);
-        return Planned::Plan(Plan {
-            membership,
-            index: filed.index,
-            fifo,
-            budgeted,
-        });
-    }
-    Planned::Refused(Refusal::BadState)
-}
-
-// What an enqueue is to do.
-pub fn insertion_plan(t: &[[u64; 32]], halted: bool, id: u64, cpu: CpuIndex) -> Planned
-    ensures { λ r. ⌜ plannedAnswer r ≡ plans.insertionPlan (table (now (t .entry))) halted id cpu ⌝ }
-{
-    let judgement = judge(t, halted, id);
-    match judgement {
-        Judgement::Refused(refusal) => Planned::Refused(refusal),
-        Judgement::Filed(filed) => plan_insertion(filed, cpu),
-    }
-}
-
-// The other budget tree of a role.
-pub fn partner(index: u64) -> u64
-    ensures { λ r. ⌜ r ≡ calls.partner index ⌝ }
-{
-    if index < 9 {
-        return index + 3;
-    }
-    index - 3
-}
-
-// The tree that holds the thread: that of its filing, or of a budget the partner.
-fn tree_found(
-    t: &[[u64; 32]],
-    root: Link,
-    other: Link,
-    id: u64,
-    budgeted: bool,
-    index: u64,
-) -> TreeFound
-    ensures { λ r. ⌜ treeAnswer r ≡ plans.treeFound (table (now (t .entry))) root other id budgeted index ⌝ }
-{
-    let held = contains(t, root, id);
-    match held {
-        Contained::Yes => TreeFound::Index(index),
-        Contained::No => {
-            if budgeted {
-                let beside = contains(t, other, id);
-                return match beside {
-                    Contained::Yes => TreeFound::Index(partner(index)),
-                    Contained::No => TreeFound::Refused(Refusal::Damaged),
-                    Contained::Damaged => TreeFound::Refused(Refusal::Damaged),
-                };
-            }
-            TreeFound::Refused(Refusal::Damaged)
-        }
-        Contained::Damaged => TreeFound::Refused(Refusal::Damaged),
-    }
-}
-
-// A ready membership is of this processor.
-fn plan_ready(
-    fifo: bool,
-    cpu: CpuIndex,
-    ready_cpu: CpuIndex,
-    budgeted: bool,
-    index: u64,
-    membership: QueueMembership,
-) -> Planned
-    ensures { λ r. ⌜ plannedAnswer r ≡ plans.planReady fifo cpu «ready_cpu» budgeted index membership ⌝ }
-{
-    if ready_cpu.0 == cpu.0 {
-        return Planned::Plan(Plan {
-            membership,
-            index,
-            fifo,
-            budgeted,
-        });
-    }
-    Planned::Refused(Refusal::Damaged)
-}
-
-// The thread's own membership names its list.
-fn plan_removal(filed: Filed, index: u64, cpu: CpuIndex) -> Planned
-    ensures { λ r. ⌜ plannedAnswer r ≡ plans.planRemoval filed index cpu ⌝ }
-{
-    let thread = filed.thread;
-    let links = thread.queue_links;
-    let parameters = thread.parameters;
-    let policy = parameters.policy;
-    let budgeted = is_budget(policy);
-    let membership = links.membership;
-    match membership {
-        QueueMembership::None => Planned::Refused(Refusal::Damaged),
-        QueueMembership::ReadyRealTime {
-            cpu: ready_cpu,
-            priority,
-        } => plan_ready(
-            true,
-            cpu,
-            ready_cpu,
-            budgeted,
-            index,
-            QueueMembership::ReadyRealTime {
-                cpu: ready_cpu,
-                priority,
-            },
-        ),
-        QueueMembership::ReadyFair { cpu: ready_cpu } => plan_ready(
-            false,
-            cpu,
-            ready_cpu,
-            budgeted,
-            index,
-            QueueMembership::ReadyFair { cpu: ready_cpu },
-        ),
-        QueueMembership::Waiting { queue: _ } => Planned::Refused(Refusal::Damaged),
-        QueueMembership::Terminated => Planned::Refused(Refusal::Damaged),
-    }
-}
-
-// What a removal of a judged thread is to do, by the roots of the tree of its filing and of the partner.
-pub fn removal_plan(
-    t: &[[u64; 32]],
-    filed: Filed,
-    root: Link,
-    other: Link,
-    id: u64,
-    cpu: CpuIndex,
-) -> Planned
-    ensures { λ r. ⌜ plannedAnswer r ≡ plans.removalPlan (table (now (t .entry))) filed root other id cpu ⌝ }
-{
-    let thread = filed.thread;
-    let parameters = thread.parameters;
-    let policy = parameters.policy;
-    let budgeted = is_budget(policy);
-    let found = tree_found(t, root, other, id, budgeted, filed.index);
-    match found {
-        TreeFound::Refused(refusal) => Planned::Refused(refusal),
-        TreeFound::Index(index) => plan_removal(filed, index, cpu),
-    }
 }
 
 fn root_of(queue: CpuRunQueue, index: u64) -> Link
