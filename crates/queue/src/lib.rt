@@ -1,11 +1,11 @@
 // The ready queue of one processor: enqueue at either end and remove. After `CpuRunQueue` of scheduler/queue.rs.
-mod plan;
+mod planning;
 mod work;
 
-pub use plan::insertion_plan;
-pub use plan::judge;
-pub use plan::partner;
-pub use plan::removal_plan;
+pub use planning::insertion_plan;
+pub use planning::judge;
+pub use planning::partner;
+pub use planning::removal_plan;
 pub use work::insert_work;
 pub use work::remove_work;
 ghost use Prim.Native.Nat.{_<_};

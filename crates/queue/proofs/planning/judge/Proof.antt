@@ -5,8 +5,8 @@ use Rattle.thread.specs.FilingLaws.{filings}
 use Rattle.queue.specs.PlanLaws.{plannings}
 use Rattle.queue.specs.Plan.{judgement}
 use borrow.Author.Needs.{needs}
-use Rattle.queue.proofs.plan.judge.Statement.{statement}
-use Rattle.queue.proofs.plan.judge.Tie as tie
+use Rattle.queue.proofs.planning.judge.Statement.{statement}
+use Rattle.queue.proofs.planning.judge.Tie as tie
 
 pub judge-spec : {M : Type 1} → statement M
 unfolding judgement

@@ -3,8 +3,8 @@ use Rattle.refusal.specs.Cases.{cases}
 use Rattle.queue.specs.PlanLaws.{plannings}
 use Rattle.queue.specs.Plan.{treeFound}
 use borrow.Author.Needs.{needs}
-use Rattle.queue.proofs.plan.tree_found.Statement.{statement}
-use Rattle.queue.proofs.plan.tree_found.Tie as tie
+use Rattle.queue.proofs.planning.tree_found.Statement.{statement}
+use Rattle.queue.proofs.planning.tree_found.Tie as tie
 
 pub tree-found-spec : {M : Type 1} → statement M
 unfolding treeFound

@@ -3,8 +3,8 @@ use Rattle.refusal.specs.Cases.{cases}
 use Rattle.thread.specs.MembershipLaws.{memberships}
 use Rattle.queue.specs.Plan.{planRemoval}
 use borrow.Author.Needs.{needs}
-use Rattle.queue.proofs.plan.plan_removal.Statement.{statement}
-use Rattle.queue.proofs.plan.plan_removal.Tie as tie
+use Rattle.queue.proofs.planning.plan_removal.Statement.{statement}
+use Rattle.queue.proofs.planning.plan_removal.Tie as tie
 
 pub plan-removal-spec : {M : Type 1} → statement M
 unfolding planRemoval

@@ -1,13 +1,13 @@
 -- One case for each policy.
 use Rattle.policy.specs.PolicyCases.{policies}
-use Rattle.queue.specs.Queue.{isBudget}
+use Rattle.queue.specs.Queue.{isFifo}
 use borrow.Author.Needs.{needs}
-use Rattle.queue.proofs.plan.is_budget.Statement.{statement}
-use Rattle.queue.proofs.plan.is_budget.Tie as tie
+use Rattle.queue.proofs.planning.is_fifo.Statement.{statement}
+use Rattle.queue.proofs.planning.is_fifo.Tie as tie
 
-pub is-budget-spec : {M : Type 1} → statement M
-unfolding isBudget
-is-budget-spec =
+pub is-fifo-spec : {M : Type 1} → statement M
+unfolding isFifo
+is-fifo-spec =
     tie.close
     (tie.spec
     (λ c. search needs)

@@ -2,8 +2,8 @@
 use Rattle.refusal.specs.Cases.{cases}
 use Rattle.queue.specs.Queue.{partner}
 use borrow.Author.Needs.{needs}
-use Rattle.queue.proofs.plan.partner.Statement.{statement}
-use Rattle.queue.proofs.plan.partner.Tie as tie
+use Rattle.queue.proofs.planning.partner.Statement.{statement}
+use Rattle.queue.proofs.planning.partner.Tie as tie
 
 pub partner-spec : {M : Type 1} → statement M
 unfolding partner

@@ -2,8 +2,8 @@
 use Rattle.policy.specs.PolicyCases.{policies}
 use Rattle.queue.specs.Queue.{membershipFor}
 use borrow.Author.Needs.{needs}
-use Rattle.queue.proofs.plan.membership_for.Statement.{statement}
-use Rattle.queue.proofs.plan.membership_for.Tie as tie
+use Rattle.queue.proofs.planning.membership_for.Statement.{statement}
+use Rattle.queue.proofs.planning.membership_for.Tie as tie
 
 pub membership-for-spec : {M : Type 1} → statement M
 unfolding membershipFor

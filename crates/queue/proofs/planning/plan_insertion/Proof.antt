@@ -2,8 +2,8 @@
 use Rattle.refusal.specs.Cases.{cases}
 use Rattle.queue.specs.Plan.{planInsertion}
 use borrow.Author.Needs.{needs}
-use Rattle.queue.proofs.plan.plan_insertion.Statement.{statement}
-use Rattle.queue.proofs.plan.plan_insertion.Tie as tie
+use Rattle.queue.proofs.planning.plan_insertion.Statement.{statement}
+use Rattle.queue.proofs.planning.plan_insertion.Tie as tie
 
 pub plan-insertion-spec : {M : Type 1} → statement M
 unfolding planInsertion

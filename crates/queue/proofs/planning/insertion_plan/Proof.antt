@@ -2,8 +2,8 @@
 use Rattle.queue.specs.PlanLaws.{plannings}
 use Rattle.queue.specs.Plan.{insertionPlan}
 use borrow.Author.Needs.{needs}
-use Rattle.queue.proofs.plan.insertion_plan.Statement.{statement}
-use Rattle.queue.proofs.plan.insertion_plan.Tie as tie
+use Rattle.queue.proofs.planning.insertion_plan.Statement.{statement}
+use Rattle.queue.proofs.planning.insertion_plan.Tie as tie
 
 pub insertion-plan-spec : {M : Type 1} → statement M
 unfolding insertionPlan

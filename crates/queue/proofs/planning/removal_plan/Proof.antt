@@ -3,8 +3,8 @@ use Rattle.refusal.specs.Cases.{cases}
 use Rattle.queue.specs.PlanLaws.{plannings}
 use Rattle.queue.specs.Plan.{removalPlan}
 use borrow.Author.Needs.{needs}
-use Rattle.queue.proofs.plan.removal_plan.Statement.{statement}
-use Rattle.queue.proofs.plan.removal_plan.Tie as tie
+use Rattle.queue.proofs.planning.removal_plan.Statement.{statement}
+use Rattle.queue.proofs.planning.removal_plan.Tie as tie
 
 pub removal-plan-spec : {M : Type 1} → statement M
 unfolding removalPlan
