@@ -1,0 +1,18 @@
+-- The parts, their work, and what it left put back.
+use Rattle.refusal.specs.Cases.{cases}
+use Rattle.queue.specs.PlanLaws.{plannings}
+use Rattle.queue.specs.Plan.{removeBy}
+use borrow.Author.Needs.{needs}
+use Rattle.lent_queue.proofs.remove_by.Statement.{statement}
+use Rattle.lent_queue.proofs.remove_by.Tie as tie
+
+pub remove-by-spec : {M : Type 1} → statement M
+unfolding removeBy
+remove-by-spec =
+    tie.close
+    (tie.spec
+    (λ c κs. search needs)
+    (λ c κs. search needs)
+    (λ c κs. search needs)
+    (λ c. search needs)
+    (λ c. search (cases, plannings) depth 8))

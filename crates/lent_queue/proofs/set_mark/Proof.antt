@@ -1,0 +1,17 @@
+-- The one row that is stored; there are 270.
+use Rattle.lent_queue.specs.LentLaws.{stores}
+use borrow.Author.Needs.{needs}
+use Rattle.lent_queue.proofs.set_mark.Statement.{statement}
+use Rattle.lent_queue.proofs.set_mark.Tie as tie
+
+pub set-mark-spec : {M : Type 1} → statement M
+set-mark-spec =
+    tie.close
+    (tie.spec
+    (λ c. search needs)
+    (λ c. search needs)
+    (λ c. search needs)
+    (λ c. search needs)
+    (λ c. search needs)
+    (λ c κs. search needs)
+    (λ c. search (stores) depth 8))

@@ -1,0 +1,14 @@
+-- The list, the root and the counts, in this order.
+use Rattle.lent_queue.specs.LentLaws.{lending}
+use borrow.Author.Needs.{needs}
+use Rattle.lent_queue.proofs.store_real_time.Statement.{statement}
+use Rattle.lent_queue.proofs.store_real_time.Tie as tie
+
+pub store-real-time-spec : {M : Type 1} → statement M
+store-real-time-spec =
+    tie.close
+    (tie.spec
+    (λ c κs. search needs)
+    (λ c κs. search needs)
+    (λ c κs. search needs)
+    (λ c. search (lending) depth 8))

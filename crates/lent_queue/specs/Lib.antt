@@ -1,0 +1,4 @@
+-- The queue that lent words stand for.
+pub mod LentQueue
+-- What a read gives and a store leaves, of that queue.
+pub mod LentLaws

@@ -1,0 +1,358 @@
+// The ready queue over words that a board lends: the same calls as crate queue by value, with the same definitions. Only the list, the root and the counts
+// that a call touches are read and stored.
+ghost use Prim.Native.Nat.{_<_};
+ghost use mathlib.Core.Path.{_≡_};
+ghost use lib.ListN.{getD, length, set};
+ghost use Rattle.thread.specs.Membership.{emptyQueue};
+ghost use Rattle.rows.specs.Table.{table, out};
+ghost use Rattle.codec.specs.Codec.{word, linkFrom};
+ghost use Rattle.queue.specs.Work.{workOf};
+ghost use Rattle.queue.specs.Queue as calls;
+ghost use Rattle.queue.specs.Plan as plans;
+ghost use Rattle.queue.specs.Answers.{verdictAnswer};
+ghost use Rattle.lent_queue.specs.LentQueue.{listFrom, queueOf, withRealtime, withFair, withRoot, withCounts};
+use queue::Filed;
+use queue::Judgement;
+use queue::Parts;
+use queue::Plan;
+use queue::Planned;
+use queue::Verdict;
+use queue::Worked;
+use queue::insert_work;
+use queue::insertion_plan;
+use queue::judge;
+use queue::partner;
+use queue::removal_plan;
+use queue::remove_work;
+use refusal::Refusal;
+use thread::CpuIndex;
+use thread::Link;
+use thread::QueueMembership;
+use thread::ThreadId;
+use thread::ThreadQueue;
+
+fn link_from(tag: u64, number: u64) -> Link
+    ensures { λ l. ⌜ l ≡ linkFrom tag number ⌝ }
+{
+    if tag == 0 {
+        return Link::None;
+    }
+    Link::Some(number)
+}
+
+fn words_of_link(link: Link) -> [u64; 2]
+    ensures { λ w. ⌜ linkFrom (word w 0) (word w 1) ≡ link ⌝ }
+{
+    match link {
+        Link::None => [0, 0],
+        Link::Some(n) => [1, n],
+    }
+}
+
+fn list_from(w: [u64; 5]) -> ThreadQueue
+    ensures { λ r. ⌜ r ≡ listFrom w ⌝ }
+{
+    let head = link_from(w[0], w[1]);
+    let tail = link_from(w[2], w[3]);
+    ThreadQueue {
+        head,
+        tail,
+        len: w[4],
+    }
+}
+
+fn words_of_list(list: ThreadQueue) -> [u64; 5]
+    ensures { λ w. ⌜ listFrom w ≡ list ⌝ }
+{
+    let its_head = list.head;
+    let its_tail = list.tail;
+    let head = words_of_link(its_head);
+    let tail = words_of_link(its_tail);
+    [head[0], head[1], tail[0], tail[1], list.len]
+}
+
+// The root of one of the twelve trees.
+fn root_at(q: &[[u64; 5]; 270], index: u64) -> Link
+    requires { ⌜ index < 12 ⌝ }
+    ensures { λ r. ⌜ r ≡ calls.rootOf (queueOf (now (q .entry))) index ⌝ }
+{
+    let at = 257 + index as usize;
+    let row = q[at];
+    link_from(row[0], row[1])
+}
+
+fn real_time_at(q: &[[u64; 5]; 270], priority: u8) -> ThreadQueue
+    ensures { λ r. ⌜ r ≡ getD (queueOf (now (q .entry)) .realtime) priority emptyQueue ⌝ }
+{
+    let at = priority as usize;
+    let row = q[at];
+    list_from(row)
+}
+
+fn fair_list(q: &[[u64; 5]; 270]) -> ThreadQueue
+    ensures { λ r. ⌜ r ≡ queueOf (now (q .entry)) .fair ⌝ }
+{
+    let row = q[256];
+    list_from(row)
+}
+
+fn set_real_time(q: &mut [[u64; 5]; 270], priority: u8, list: ThreadQueue)
+    ensures { λ r. ⌜ queueOf (now (q .exit)) ≡ withRealtime (queueOf (now (q .entry))) priority list ⌝ }
+{
+    let at = priority as usize;
+    let row = words_of_list(list);
+    q[at] = row;
+}
+
+fn store_row(q: &mut [[u64; 5]], at: usize, row: [u64; 5])
+    requires { ⌜ at < length (now q) ⌝ }
+    ensures { λ r. ⌜ now (q .exit) ≡ set (now (q .entry)) at row ⌝ }
+{
+    q[at] = row;
+}
+
+fn set_fair(q: &mut [[u64; 5]; 270], list: ThreadQueue)
+    ensures { λ r. ⌜ queueOf (now (q .exit)) ≡ withFair (queueOf (now (q .entry))) list ⌝ }
+{
+    let row = words_of_list(list);
+    store_row(q, 256, row);
+}
+
+fn set_root(q: &mut [[u64; 5]; 270], index: u64, root: Link)
+    requires { ⌜ index < 12 ⌝ }
+    ensures { λ r. ⌜ queueOf (now (q .exit)) ≡ withRoot (queueOf (now (q .entry))) index root ⌝ }
+{
+    let at = 257 + index as usize;
+    let row = q[at];
+    let words = words_of_link(root);
+    q[at] = [words[0], words[1], row[2], row[3], row[4]];
+}
+
+fn set_counts(q: &mut [[u64; 5]; 270], realtime_len: u64, budget_threads: u64)
+    ensures { λ r. ⌜ queueOf (now (q .exit)) ≡ withCounts (queueOf (now (q .entry))) «realtime_len» «budget_threads» ⌝ }
+{
+    let row = q[269];
+    store_row(
+        q,
+        269,
+        [realtime_len, budget_threads, row[2], row[3], row[4]],
+    );
+}
+
+fn set_mark(q: &mut [[u64; 5]; 270])
+    ensures { λ r. ⌜ queueOf (now (q .exit)) ≡ calls.marked (queueOf (now (q .entry))) ⌝ }
+{
+    let row = q[269];
+    store_row(q, 269, [row[0], row[1], row[2], row[3], 1]);
+}
+
+fn is_halted(q: &[[u64; 5]; 270]) -> bool
+    ensures { λ r. ⌜ r ≡ queueOf (now (q .entry)) .halted ⌝ }
+{
+    let row = q[269];
+    if row[4] == 0 {
+        return false;
+    }
+    true
+}
+
+// The list that a ready membership names.
+fn list_of(q: &[[u64; 5]; 270], membership: QueueMembership) -> ThreadQueue
+    ensures { λ r. ⌜ r ≡ calls.listOf (queueOf (now (q .entry))) membership ⌝ }
+{
+    match membership {
+        QueueMembership::None => fair_list(q),
+        QueueMembership::ReadyRealTime { cpu: _, priority } => real_time_at(q, priority),
+        QueueMembership::ReadyFair { cpu: _ } => fair_list(q),
+        QueueMembership::Waiting { queue: _ } => fair_list(q),
+        QueueMembership::Terminated => fair_list(q),
+    }
+}
+
+fn parts_of(q: &[[u64; 5]; 270], membership: QueueMembership, index: u64) -> Parts
+    requires { ⌜ index < 12 ⌝ }
+    ensures { λ r. ⌜ r ≡ calls.partsOf (queueOf (now (q .entry))) membership index ⌝ }
+{
+    let list = list_of(q, membership);
+    let root = root_at(q, index);
+    let row = q[269];
+    Parts {
+        list,
+        realtime_len: row[0],
+        root,
+        budget_threads: row[1],
+    }
+}
+
+fn store_real_time(q: &mut [[u64; 5]; 270], priority: u8, index: u64, parts: Parts)
+    requires { ⌜ index < 12 ⌝ }
+    ensures { λ r. ⌜ queueOf (now (q .exit)) ≡ calls.stored (queueOf (now (q .entry))) index parts (set (queueOf (now (q .entry)) .realtime) priority (parts .list)) (queueOf (now (q .entry)) .fair) ⌝ }
+{
+    let list = parts.list;
+    let root = parts.root;
+    set_real_time(q, priority, list);
+    set_root(q, index, root);
+    set_counts(q, parts.realtime_len, parts.budget_threads);
+}
+
+fn store_fair(q: &mut [[u64; 5]; 270], index: u64, parts: Parts)
+    requires { ⌜ index < 12 ⌝ }
+    ensures { λ r. ⌜ queueOf (now (q .exit)) ≡ calls.stored (queueOf (now (q .entry))) index parts (queueOf (now (q .entry)) .realtime) (parts .list) ⌝ }
+{
+    let list = parts.list;
+    let root = parts.root;
+    set_fair(q, list);
+    set_root(q, index, root);
+    set_counts(q, parts.realtime_len, parts.budget_threads);
+}
+
+// The parts stored back.
+fn store_parts(q: &mut [[u64; 5]; 270], membership: QueueMembership, index: u64, parts: Parts)
+    requires { ⌜ index < 12 ⌝ }
+    ensures { λ r. ⌜ queueOf (now (q .exit)) ≡ calls.withParts (queueOf (now (q .entry))) membership index parts ⌝ }
+{
+    match membership {
+        QueueMembership::None => {}
+        QueueMembership::ReadyRealTime { cpu: _, priority } => {
+            store_real_time(q, priority, index, parts);
+        }
+        QueueMembership::ReadyFair { cpu: _ } => {
+            store_fair(q, index, parts);
+        }
+        QueueMembership::Waiting { queue: _ } => {}
+        QueueMembership::Terminated => {}
+    }
+}
+
+// A call's work put back into the queue; where the source halts, with the mark.
+fn settle(
+    q: &mut [[u64; 5]; 270],
+    membership: QueueMembership,
+    index: u64,
+    worked: Worked,
+) -> Verdict
+    requires { ⌜ index < 12 ⌝ }
+    ensures { λ r. ⌜ calls.step (verdictAnswer r) (queueOf (now (q .exit))) ≡ plans.settled (queueOf (now (q .entry))) membership index (workOf worked) ⌝ }
+{
+    match worked {
+        Worked::Done(parts) => {
+            store_parts(q, membership, index, parts);
+            Verdict::Accepted
+        }
+        Worked::Refused(refusal) => Verdict::Refused(refusal),
+        Worked::Halted(parts) => {
+            store_parts(q, membership, index, parts);
+            set_mark(q);
+            Verdict::Refused(Refusal::Halted)
+        }
+    }
+}
+
+fn insert_by(
+    q: &mut [[u64; 5]; 270],
+    t: &mut [[u64; 32]],
+    path: &mut [[u64; 2]; 40],
+    id: u64,
+    plan: Plan,
+    front: bool,
+) -> Verdict
+    requires { ⌜ plan .index < 12 ⌝ }
+    ensures { λ r. ⌜ out (calls.step (verdictAnswer r) (queueOf (now (q .exit)))) (table (now (t .exit))) ≡ plans.insertBy front (table (now (t .entry))) (queueOf (now (q .entry))) id plan ⌝ }
+{
+    let membership = plan.membership;
+    let parts = parts_of(q, membership, plan.index);
+    let worked = insert_work(
+        t,
+        path,
+        parts,
+        id,
+        membership,
+        front,
+        plan.fifo,
+        plan.budgeted,
+    );
+    settle(q, membership, plan.index, worked)
+}
+
+fn remove_by(
+    q: &mut [[u64; 5]; 270],
+    t: &mut [[u64; 32]],
+    path: &mut [[u64; 2]; 40],
+    id: u64,
+    plan: Plan,
+) -> Verdict
+    requires { ⌜ plan .index < 12 ⌝ }
+    ensures { λ r. ⌜ out (calls.step (verdictAnswer r) (queueOf (now (q .exit)))) (table (now (t .exit))) ≡ plans.removeBy (table (now (t .entry))) (queueOf (now (q .entry))) id plan ⌝ }
+{
+    let membership = plan.membership;
+    let parts = parts_of(q, membership, plan.index);
+    let worked = remove_work(t, path, parts, id, membership, plan.fifo, plan.budgeted);
+    settle(q, membership, plan.index, worked)
+}
+
+// Out of the tree and the list of a judged thread.
+fn remove_filed(
+    q: &mut [[u64; 5]; 270],
+    t: &mut [[u64; 32]],
+    path: &mut [[u64; 2]; 40],
+    id: u64,
+    cpu: CpuIndex,
+    filed: Filed,
+) -> Verdict
+    requires { ⌜ filed .index < 12 ⌝ }
+    ensures { λ r. ⌜ out (calls.step (verdictAnswer r) (queueOf (now (q .exit)))) (table (now (t .exit))) ≡ plans.removeFiled (table (now (t .entry))) (queueOf (now (q .entry))) id cpu filed ⌝ }
+{
+    let root = root_at(q, filed.index);
+    let beside = partner(filed.index);
+    let other = root_at(q, beside);
+    let planned = removal_plan(t, filed, root, other, id, cpu);
+    match planned {
+        Planned::Refused(refusal) => Verdict::Refused(refusal),
+        Planned::Plan(plan) => remove_by(q, t, path, id, plan),
+    }
+}
+
+// A new queue.
+pub fn new_lent(q: &mut [[u64; 5]; 270])
+    ensures { λ r. ⌜ queueOf (now (q .exit)) ≡ calls.newQueue ⌝ }
+{
+    let row = [0; 5];
+    *q = [row; 270];
+}
+
+// `enqueue`, and with `front` `enqueue_front`.
+pub fn enqueue_lent(
+    q: &mut [[u64; 5]; 270],
+    t: &mut [[u64; 32]],
+    path: &mut [[u64; 2]; 40],
+    id: ThreadId,
+    cpu: CpuIndex,
+    front: bool,
+) -> Verdict
+    ensures { λ r. ⌜ out (calls.step (verdictAnswer r) (queueOf (now (q .exit)))) (table (now (t .exit))) ≡ calls.enqueueCall front (table (now (t .entry))) (queueOf (now (q .entry))) (id .0) cpu ⌝ }
+{
+    let halted = is_halted(q);
+    let planned = insertion_plan(t, halted, id.0, cpu);
+    match planned {
+        Planned::Refused(refusal) => Verdict::Refused(refusal),
+        Planned::Plan(plan) => insert_by(q, t, path, id.0, plan, front),
+    }
+}
+
+// `remove`.
+pub fn remove_lent(
+    q: &mut [[u64; 5]; 270],
+    t: &mut [[u64; 32]],
+    path: &mut [[u64; 2]; 40],
+    id: ThreadId,
+    cpu: CpuIndex,
+) -> Verdict
+    ensures { λ r. ⌜ out (calls.step (verdictAnswer r) (queueOf (now (q .exit)))) (table (now (t .exit))) ≡ calls.removeCall (table (now (t .entry))) (queueOf (now (q .entry))) (id .0) cpu ⌝ }
+{
+    let halted = is_halted(q);
+    let judgement = judge(t, halted, id.0);
+    match judgement {
+        Judgement::Refused(refusal) => Verdict::Refused(refusal),
+        Judgement::Filed(filed) => remove_filed(q, t, path, id.0, cpu, filed),
+    }
+}
