@@ -49,8 +49,8 @@ fn main() {
     fs::write(out.join("source.rs"), modules).expect("the module list");
     println!(
         "cargo::rerun-if-changed={}",
-        library.join("libleaves.a").display()
+        library.join("libwindow_entries.a").display()
     );
     println!("cargo::rustc-link-search=native={}", library.display());
-    println!("cargo::rustc-link-lib=static=leaves");
+    println!("cargo::rustc-link-lib=static=window_entries");
 }

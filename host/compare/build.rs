@@ -1,4 +1,4 @@
-//! Links the port's static library, from STATICLIB_DIR or the repository's target/staticlib: leaves for the package compare, else row_entries.
+//! Links the static libraries of the port that the package calls, from STATICLIB_DIR or the repository's target/staticlib.
 
 use std::env;
 use std::path::PathBuf;
@@ -9,13 +9,18 @@ fn main() {
         Some(place) => PathBuf::from(place),
         None => package.join("../../target/staticlib"),
     };
-    let library = match env::var("CARGO_PKG_NAME").as_deref() {
-        Ok("compare") => "leaves",
-        _ => "row_entries",
+    let libraries: &[&str] = match env::var("CARGO_PKG_NAME").as_deref() {
+        Ok("compare") => &["record_entries", "window_entries"],
+        Ok("compare_rows") => &["row_entries"],
+        Ok("compare_runtime") => &["runtime_entries", "window_entries"],
+        Ok("compare_selection" | "bench_queue") => &["queue_entries", "selection_entries"],
+        _ => &["queue_entries"],
     };
-    let archive = place.join(format!("lib{library}.a"));
     println!("cargo::rerun-if-env-changed=STATICLIB_DIR");
-    println!("cargo::rerun-if-changed={}", archive.display());
     println!("cargo::rustc-link-search=native={}", place.display());
-    println!("cargo::rustc-link-lib=static={library}");
+    for library in libraries {
+        let archive = place.join(format!("lib{library}.a"));
+        println!("cargo::rerun-if-changed={}", archive.display());
+        println!("cargo::rustc-link-lib=static={library}");
+    }
 }

@@ -3,6 +3,8 @@ mod compare;
 mod tests;
 
 pub use compare::compare_keys;
+pub use tests::is_priority;
+pub use tests::is_protected;
 ghost use mathlib.Core.Path.{_≡_};
 ghost use Rattle.arbitration.specs.Config.{soundConfig, newConfig, preferring, acceptsBudget, admitted};
 ghost use Rattle.arbitration.specs.Window.{newWindow, refreshed, charged, protectionDeadline, dueAt, nextDeadline};
@@ -22,8 +24,6 @@ use tests::at_renewal;
 use tests::charge_if;
 use tests::is_exhausted;
 use tests::is_hurried;
-use tests::is_priority;
-use tests::is_protected;
 use tests::is_shut_out;
 use tests::is_strict_fifo;
 use tests::ordinary_rank;
@@ -277,7 +277,8 @@ impl CpuWindow {
         config.period_ns
     }
 
-    fn refreshed(self, now: u64) -> Self
+    // `refresh` of a window that is known to be sound.
+    pub fn refreshed(self, now: u64) -> Self
         ensures { λ r. ⌜ r ≡ refreshed self now ⌝ }
     {
         let config = self.config;
@@ -497,8 +498,8 @@ impl CpuWindow {
         }
     }
 
-    // Of a window that is refreshed to now.
-    fn key(self, now: u64, candidate: Candidate, demand: Demand) -> KeyOption
+    // `candidate_key` of a window that is refreshed to now.
+    pub fn key(self, now: u64, candidate: Candidate, demand: Demand) -> KeyOption
         ensures { λ r. ⌜ r ≡ keyOf self now candidate demand ⌝ }
     {
         let config = self.config;

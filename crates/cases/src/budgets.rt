@@ -1,6 +1,6 @@
 // The worked cases of policy.rs, budget.rs and algorithms/mod.rs.
 use crate::report::case;
-use crate::report::sum;
+use crate::report::refused;
 use algorithms::FairRuntime;
 use algorithms::PolicyRuntime;
 use algorithms::RuntimeAnswer;
@@ -29,20 +29,38 @@ fn made(budget_ns: u64, period_ns: u64, burst_ns: u64) -> u64 {
     }
 }
 
-// `BudgetParameters::new` refuses a period of 0 or above 1,000,000,000, and a budget or burst of 0 or above the period.
-pub fn parameters() -> u64 {
-    let a = case(b"budget: period 0", made(1, 0, 1), 6);
-    let b = case(b"budget: period 1000000001", made(1, 1_000_000_001, 1), 6);
-    let c = case(
+fn budget(n: u64, label: &[u8], budget_ns: u64, period_ns: u64, burst_ns: u64, said: u64) -> u64 {
+    case(n, label, made(budget_ns, period_ns, burst_ns), said)
+}
+
+fn periods(n: u64) -> u64 {
+    let a = budget(n, b"budget: period 0", 1, 0, 1, 6);
+    budget(a, b"budget: period 1000000001", 1, 1_000_000_001, 1, 6)
+}
+
+fn budgets(n: u64) -> u64 {
+    let a = budget(
+        n,
         b"budget: budget equal to period 1000000000",
-        made(1_000_000_000, 1_000_000_000, 1),
+        1_000_000_000,
+        1_000_000_000,
+        1,
         0,
     );
-    let d = case(b"budget: budget 0", made(0, 10, 1), 6);
-    let e = case(b"budget: budget above the period", made(11, 10, 1), 6);
-    let f = case(b"budget: burst 0", made(1, 10, 0), 6);
-    let g = case(b"budget: burst above the period", made(1, 10, 11), 6);
-    sum(sum(sum(a, b), sum(c, d)), sum(sum(e, f), g))
+    let b = budget(a, b"budget: budget 0", 0, 10, 1, 6);
+    budget(b, b"budget: budget above the period", 11, 10, 1, 6)
+}
+
+fn bursts(n: u64) -> u64 {
+    let a = budget(n, b"budget: burst 0", 1, 10, 0, 6);
+    budget(a, b"budget: burst above the period", 1, 10, 11, 6)
+}
+
+// `BudgetParameters::new` refuses a period of 0 or above 1,000,000,000, and a budget or burst of 0 or above the period.
+pub fn parameters(n: u64) -> u64 {
+    let a = periods(n);
+    let b = budgets(a);
+    bursts(b)
 }
 
 fn share() -> BudgetParameters {
@@ -65,109 +83,176 @@ fn runtime(epoch: Epoch, remaining_ns: u64) -> BudgetRuntime {
 fn remaining(answer: BudgetAnswer) -> u64 {
     match answer {
         BudgetAnswer::Runtime(r) => r.remaining_ns,
-        BudgetAnswer::Refused(refusal) => sum(REFUSED, refusal.number()),
+        BudgetAnswer::Refused(refusal) => refused(refusal.number()),
     }
 }
 
 fn burst(answer: BudgetAnswer) -> u64 {
     match answer {
         BudgetAnswer::Runtime(r) => r.burst_remaining_ns,
-        BudgetAnswer::Refused(refusal) => sum(REFUSED, refusal.number()),
+        BudgetAnswer::Refused(refusal) => refused(refusal.number()),
     }
 }
 
-pub fn refills() -> u64 {
-    let spent = runtime(Epoch::Some(0), 0);
-    let later = runtime(Epoch::Some(5), 0);
-    let a = case(
+fn refreshed(epoch: Epoch, left: u64, now: u64) -> u64 {
+    let r = runtime(epoch, left);
+    remaining(r.refresh(now, share()))
+}
+
+fn refill(n: u64, label: &[u8], epoch: Epoch, left: u64, now: u64, said: u64) -> u64 {
+    case(n, label, refreshed(epoch, left, now), said)
+}
+
+fn about_an_edge(n: u64) -> u64 {
+    let a = refill(
+        n,
         b"refresh: epoch 0 at 9999999 leaves",
-        remaining(spent.refresh(9_999_999, share())),
+        Epoch::Some(0),
+        0,
+        9_999_999,
         0,
     );
-    let b = case(
+    refill(
+        a,
         b"refresh: epoch 0 at 10000000 leaves",
-        remaining(spent.refresh(10_000_000, share())),
+        Epoch::Some(0),
+        0,
+        10_000_000,
         2_000_000,
-    );
-    let c = case(
+    )
+}
+
+fn without_an_edge(n: u64) -> u64 {
+    let a = refill(
+        n,
         b"refresh: a clock that goes back leaves",
-        remaining(later.refresh(35_000_000, share())),
+        Epoch::Some(5),
+        0,
+        35_000_000,
         0,
     );
-    let d = case(
+    let b = refill(
+        a,
         b"refresh: no epoch yet leaves",
-        remaining(runtime(Epoch::None, 0).refresh(0, share())),
+        Epoch::None,
+        0,
+        0,
         2_000_000,
     );
-    let e = case(
+    refill(
+        b,
         b"refresh: more than the budget is cut to",
-        remaining(runtime(Epoch::Some(5), 9).refresh(
-            50_000_000,
-            BudgetParameters {
-                budget_ns: 7,
-                period_ns: 10_000_000,
-                burst_ns: 1,
-            },
-        )),
-        7,
-    );
-    sum(sum(a, b), sum(c, sum(d, e)))
-}
-
-pub fn charges() -> u64 {
-    let full = runtime(Epoch::Some(0), 2_000_000);
-    let across = full.account_interval(9_000_000, 11_000_000, share());
-    let edge = full.account_interval(9_000_000, 10_000_000, share());
-    let a = case(
-        b"account: across an edge leaves",
-        remaining(across),
-        1_000_000,
-    );
-    let b = case(
-        b"account: across an edge leaves of the burst",
-        burst(across),
+        Epoch::Some(5),
         3_000_000,
-    );
-    let c = case(b"account: to an edge leaves", remaining(edge), 2_000_000);
-    let d = case(
-        b"account: to an edge leaves of the burst",
-        burst(edge),
-        4_000_000,
-    );
-    sum(sum(a, b), sum(c, d))
+        50_000_000,
+        2_000_000,
+    )
 }
 
-pub fn intervals() -> u64 {
-    let full = runtime(Epoch::Some(0), 2_000_000);
-    let empty = runtime(Epoch::Some(0), 5_000_000).account_interval(3_000_000, 3_000_000, share());
+pub fn refills(n: u64) -> u64 {
+    let a = about_an_edge(n);
+    without_an_edge(a)
+}
+
+fn accounted(left: u64, start: u64, end: u64, given: BudgetParameters) -> BudgetAnswer {
+    let r = runtime(Epoch::Some(0), left);
+    r.account_interval(start, end, given)
+}
+
+fn charge(n: u64, label: &[u8], left: u64, start: u64, end: u64, said: u64) -> u64 {
+    case(
+        n,
+        label,
+        remaining(accounted(left, start, end, share())),
+        said,
+    )
+}
+
+fn burst_charge(n: u64, label: &[u8], start: u64, end: u64, said: u64) -> u64 {
+    case(
+        n,
+        label,
+        burst(accounted(2_000_000, start, end, share())),
+        said,
+    )
+}
+
+// A budget of 0 is judged before the interval.
+fn bad_charge(n: u64, label: &[u8], said: u64) -> u64 {
     let bad = BudgetParameters {
         budget_ns: 0,
         period_ns: 10,
         burst_ns: 1,
     };
-    let e = case(
-        b"account: an empty interval cuts to",
-        remaining(empty),
+    case(n, label, remaining(accounted(2_000_000, 2, 1, bad)), said)
+}
+
+fn across_an_edge(n: u64) -> u64 {
+    let a = charge(
+        n,
+        b"account: across an edge leaves",
+        2_000_000,
+        9_000_000,
+        11_000_000,
+        1_000_000,
+    );
+    burst_charge(
+        a,
+        b"account: across an edge leaves of the burst",
+        9_000_000,
+        11_000_000,
+        3_000_000,
+    )
+}
+
+fn to_an_edge(n: u64) -> u64 {
+    let a = charge(
+        n,
+        b"account: to an edge leaves",
+        2_000_000,
+        9_000_000,
+        10_000_000,
         2_000_000,
     );
-    let f = case(
+    burst_charge(
+        a,
+        b"account: to an edge leaves of the burst",
+        9_000_000,
+        10_000_000,
+        4_000_000,
+    )
+}
+
+pub fn charges(n: u64) -> u64 {
+    let a = across_an_edge(n);
+    to_an_edge(a)
+}
+
+pub fn intervals(n: u64) -> u64 {
+    let a = charge(
+        n,
+        b"account: an empty interval cuts to",
+        5_000_000,
+        3_000_000,
+        3_000_000,
+        2_000_000,
+    );
+    let b = charge(
+        a,
         b"account: end before start",
-        remaining(full.account_interval(2, 1, share())),
+        2_000_000,
+        2,
+        1,
         REFUSED + 7,
     );
-    let g = case(
-        b"account: bad budget before that",
-        remaining(full.account_interval(2, 1, bad)),
-        REFUSED + 6,
-    );
-    sum(e, sum(f, g))
+    bad_charge(b, b"account: bad budget before that", REFUSED + 6)
 }
 
 // The deadline's time, 0 where there is none.
 fn expiry(answer: BudgetDeadline) -> u64 {
     match answer {
         BudgetDeadline::Deadline(_, due) => at(due),
-        BudgetDeadline::Refused(refusal) => sum(REFUSED, refusal.number()),
+        BudgetDeadline::Refused(refusal) => refused(refusal.number()),
     }
 }
 
@@ -178,48 +263,59 @@ fn at(due: Deadline) -> u64 {
     }
 }
 
-// An exhausted thread waits for the period's end, or borrows its burst; near 2^64 there is no deadline, even where the expiry fits.
-pub fn deadlines() -> u64 {
-    let full = runtime(Epoch::Some(0), 2_000_000);
-    let spent = runtime(Epoch::Some(0), 0);
-    let a = case(
+fn deadline(n: u64, label: &[u8], left: u64, now: u64, borrowing: bool, said: u64) -> u64 {
+    let r = runtime(Epoch::Some(0), left);
+    case(n, label, expiry(r.deadline(now, share(), borrowing)), said)
+}
+
+fn in_the_period(n: u64) -> u64 {
+    let a = deadline(
+        n,
         b"deadline: time left at 1000000",
-        expiry(full.deadline(1_000_000, share(), false)),
+        2_000_000,
+        1_000_000,
+        false,
         3_000_000,
     );
-    let b = case(
+    deadline(
+        a,
         b"deadline: exhausted at 1000000",
-        expiry(spent.deadline(1_000_000, share(), false)),
+        0,
+        1_000_000,
+        false,
         10_000_000,
-    );
-    let c = case(
+    )
+}
+
+fn borrowed_and_last(n: u64) -> u64 {
+    let a = deadline(
+        n,
         b"deadline: exhausted and borrowing at 1000000",
-        expiry(spent.deadline(1_000_000, share(), true)),
+        0,
+        1_000_000,
+        true,
         6_000_000,
     );
-    let d = case(
+    deadline(
+        a,
         b"deadline: at 18446744073709551000",
-        expiry(full.deadline(18_446_744_073_709_551_000, share(), false)),
+        2_000_000,
+        18_446_744_073_709_551_000,
+        false,
         0,
-    );
-    sum(sum(a, b), sum(c, d))
+    )
 }
 
-fn budget_policy(budget: BudgetOption) -> SchedulingParameters {
-    SchedulingParameters {
-        policy: SchedulingPolicy::Budget,
-        band: ThreadPriority(128),
-        role: SchedulingRole::Ordinary,
-        weight: ThreadWeight(16),
-        quantum_ns: 0,
-        fair_backend: FairBackend::Stride,
-        budget,
-    }
+// An exhausted thread waits for the period's end, or borrows its burst; near 2^64 there is no deadline, even where the expiry fits.
+pub fn deadlines(n: u64) -> u64 {
+    let a = in_the_period(n);
+    borrowed_and_last(a)
 }
 
-fn fair_policy() -> SchedulingParameters {
+// A policy without a budget.
+fn bare(policy: SchedulingPolicy) -> SchedulingParameters {
     SchedulingParameters {
-        policy: SchedulingPolicy::Fair,
+        policy,
         band: ThreadPriority(128),
         role: SchedulingRole::Ordinary,
         weight: ThreadWeight(16),
@@ -233,56 +329,118 @@ fn fair_policy() -> SchedulingParameters {
 fn fair_values(answer: RuntimeAnswer) -> u64 {
     match answer {
         RuntimeAnswer::Runtime(r) => slice_and_pass(r),
-        RuntimeAnswer::Refused(refusal) => sum(REFUSED, refusal.number()),
+        RuntimeAnswer::Refused(refusal) => refused(refusal.number()),
     }
 }
 
 fn slice_and_pass(r: PolicyRuntime) -> u64 {
     match r {
         PolicyRuntime::Fifo => 1,
-        PolicyRuntime::Fair(fair) => {
-            let pass = fair.pass;
-            sum(sum(pass.low, pass.high), fair.remaining_ns)
-        }
+        PolicyRuntime::Fair(fair) => kept(fair),
         PolicyRuntime::Budget(_) => 2,
         PolicyRuntime::Idle => 3,
     }
 }
 
-// Accounting or ending a turn of a fair thread leaves pass and slice as given.
-pub fn runtimes() -> u64 {
-    let fair = FairRuntime {
+// 1230 where a pass of 1000 and 200 and a slice of 30 are kept.
+fn kept(fair: FairRuntime) -> u64 {
+    let pass = fair.pass;
+    if pass.high != 1000 {
+        return 4;
+    }
+    if pass.low != 200 {
+        return 5;
+    }
+    if fair.remaining_ns != 30 {
+        return 6;
+    }
+    1230
+}
+
+fn fair() -> FairRuntime {
+    FairRuntime {
         pass: Wide {
             high: 1000,
             low: 200,
         },
         remaining_ns: 30,
-    };
-    let given = PolicyRuntime::Fair(fair);
-    let a = case(
+    }
+}
+
+fn fair_account(
+    n: u64,
+    label: &[u8],
+    policy: SchedulingPolicy,
+    start: u64,
+    end: u64,
+    said: u64,
+) -> u64 {
+    let given = PolicyRuntime::Fair(fair());
+    case(
+        n,
+        label,
+        fair_values(given.account(bare(policy), start, end)),
+        said,
+    )
+}
+
+fn fair_end(n: u64, label: &[u8], said: u64) -> u64 {
+    let given = PolicyRuntime::Fair(fair());
+    case(
+        n,
+        label,
+        fair_values(given.finish_turn(bare(SchedulingPolicy::Fair))),
+        said,
+    )
+}
+
+fn fair_new(n: u64, label: &[u8], said: u64) -> u64 {
+    case(
+        n,
+        label,
+        fair_values(PolicyRuntime::new(bare(SchedulingPolicy::Budget), fair())),
+        said,
+    )
+}
+
+fn fair_kept(n: u64) -> u64 {
+    let a = fair_account(
+        n,
         b"fair: accounted from 1 to 9 keeps",
-        fair_values(given.account(fair_policy(), 1, 9)),
+        SchedulingPolicy::Fair,
+        1,
+        9,
         1230,
     );
-    let b = case(
-        b"fair: a turn that ends keeps",
-        fair_values(given.finish_turn(fair_policy())),
-        1230,
-    );
-    let c = case(
+    fair_end(a, b"fair: a turn that ends keeps", 1230)
+}
+
+fn fair_refused(n: u64) -> u64 {
+    let a = fair_new(
+        n,
         b"runtime: a Budget policy without a budget",
-        fair_values(PolicyRuntime::new(budget_policy(BudgetOption::None), fair)),
         REFUSED + 11,
     );
-    let d = case(
+    let b = fair_account(
+        a,
         b"runtime: fair accounted as Budget",
-        fair_values(given.account(budget_policy(BudgetOption::None), 1, 9)),
+        SchedulingPolicy::Budget,
+        1,
+        9,
         REFUSED + 11,
     );
-    let e = case(
+    fair_account(
+        b,
         b"runtime: fair accounted from 9 to 1",
-        fair_values(given.account(fair_policy(), 9, 1)),
+        SchedulingPolicy::Fair,
+        9,
+        1,
         REFUSED + 7,
-    );
-    sum(sum(a, b), sum(c, sum(d, e)))
+    )
+}
+
+// Accounting or ending a turn of a fair thread leaves pass and slice as given.
+pub fn runtimes(n: u64) -> u64 {
+    let a = fair_kept(n);
+    fair_refused(a)
 }

@@ -1,25 +1,46 @@
 // Runs the worked cases of document 01 on the code, prints each answer beside its case, and ends with how many differ.
 mod budgets;
+mod queues;
 mod report;
+mod steps;
 mod trees;
+mod values;
 mod windows;
+
+// policy.rs, budget.rs, algorithms/mod.rs.
+fn budget_cases(n: u64) -> u64 {
+    let a = budgets::parameters(n);
+    let b = budgets::refills(a);
+    let c = budgets::charges(b);
+    let d = budgets::intervals(c);
+    let e = budgets::deadlines(d);
+    budgets::runtimes(e)
+}
+
+// algorithms/arbitration.rs.
+fn window_cases(n: u64) -> u64 {
+    let a = windows::settings(n);
+    let b = windows::ledgers(a);
+    let c = windows::due(b);
+    let d = windows::keys(c);
+    windows::orders(d)
+}
+
+// algorithms/ready_index.rs, scheduler/queue.rs.
+fn queue_cases(n: u64) -> u64 {
+    let a = trees::paths(n);
+    let b = trees::damage(a);
+    let c = queues::refusals(b);
+    let d = queues::counts(c);
+    let e = queues::halts(d);
+    let f = queues::places(e);
+    let g = steps::too_many(f);
+    values::queues(g)
+}
 
 fn main() {
     report::proved(worked_cases::count());
-    let policies = budgets::parameters();
-    let refills = budgets::refills();
-    let charges = report::sum(budgets::charges(), budgets::intervals());
-    let deadlines = budgets::deadlines();
-    let runtimes = budgets::runtimes();
-    let settings = windows::settings();
-    let ledgers = windows::ledgers();
-    let due = windows::due();
-    let keys = report::sum(windows::keys(), windows::orders());
-    let trees = report::sum(trees::paths(), trees::damage());
-    let budgets = report::sum(
-        report::sum(policies, refills),
-        report::sum(charges, report::sum(deadlines, runtimes)),
-    );
-    let windows = report::sum(report::sum(settings, ledgers), report::sum(due, keys));
-    report::total(report::sum(report::sum(budgets, windows), trees));
+    let a = budget_cases(0);
+    let b = window_cases(a);
+    report::total(queue_cases(b));
 }

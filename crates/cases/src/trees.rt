@@ -1,71 +1,43 @@
 // The worked cases of ready_index.rs: an equal key, a path that is too long, links that lead out of the table.
 use crate::report::case;
-use crate::report::sum;
-use algorithms::PolicyRuntime;
-use codec::encode;
-use policy::SchedulingParameters;
-use policy::SchedulingRole;
-use policy::ThreadPriority;
+use crate::report::more;
 use ready_index::Contained;
 use ready_index::Least;
 use ready_index::Rooted;
 use ready_index::contains;
 use ready_index::first;
 use ready_index::insert;
-use thread::CpuIndex;
 use thread::Link;
-use thread::Links;
-use thread::QueueLinks;
-use thread::ThreadRecord;
 
 const NONE: u64 = 1_000_000_000_000;
 
 const DAMAGED: u64 = 1_000_000_000_001;
 
-// A FIFO record whose turn decides among those of one priority, as a row.
-fn row(turn: u64, right: Link) -> [u64; 32] {
-    encode(ThreadRecord {
-        parameters: SchedulingParameters::fifo(
-            ThreadPriority(1),
-            ThreadPriority(1),
-            SchedulingRole::Ordinary,
-        ),
-        runtime: PolicyRuntime::Fifo,
-        ready_turn: turn,
-        ready_tree: Links {
-            left: Link::None,
-            right,
-            height: 1,
-        },
-        queue_links: QueueLinks::EMPTY,
-        cpu: CpuIndex(0),
-    })
+// A FIFO record whose turn decides among those of one priority, with a link to the right or none.
+fn row(turn: u64, linked: u64, right: u64) -> [u64; 32] {
+    let mut words = [0u64; 32];
+    words[16] = turn;
+    words[19] = linked;
+    words[20] = right;
+    words[21] = 1;
+    words
 }
 
-// What stands to the right of a record in a line of n.
-fn after(turn: u64, n: u64) -> Link {
-    let next = sum(turn, 1);
+// The record of a turn in a line of n.
+fn in_line(turn: u64, n: u64) -> [u64; 32] {
+    let next = more(turn);
     if next < n {
-        Link::Some(next)
-    } else {
-        Link::None
+        return row(turn, 1, next);
     }
+    row(turn, 0, 0)
 }
 
 // Records 0 to n - 1 in line, each on the right of the one before; the others alone.
 fn line(t: &mut [[u64; 32]], n: u64) {
     let mut i: usize = 0;
     while i < t.len() {
-        let turn = i as u64;
-        t[i] = row(turn, after(turn, n));
+        t[i] = in_line(i as u64, n);
         i += 1;
-    }
-}
-
-fn rooted(answer: Rooted) -> u64 {
-    match answer {
-        Rooted::Root(root) => number(root),
-        Rooted::Damaged => DAMAGED,
     }
 }
 
@@ -73,6 +45,13 @@ fn number(link: Link) -> u64 {
     match link {
         Link::None => NONE,
         Link::Some(n) => n,
+    }
+}
+
+fn rooted(answer: Rooted) -> u64 {
+    match answer {
+        Rooted::Root(root) => number(root),
+        Rooted::Damaged => DAMAGED,
     }
 }
 
@@ -92,32 +71,38 @@ fn least(answer: Least) -> u64 {
     }
 }
 
-// How many words of two tables differ.
+// How many rows of two tables differ.
 fn changes(a: &[[u64; 32]], b: &[[u64; 32]]) -> u64 {
     let mut n: u64 = 0;
     let mut i: usize = 0;
     while i < a.len() {
         if i < b.len() {
-            n = sum(n, row_changes(a[i], b[i]));
+            n = counted(n, a[i], b[i]);
         }
         i += 1;
     }
     n
 }
 
-fn row_changes(a: [u64; 32], b: [u64; 32]) -> u64 {
-    let mut n: u64 = 0;
+fn counted(n: u64, a: [u64; 32], b: [u64; 32]) -> u64 {
+    if differ(a, b) {
+        return more(n);
+    }
+    n
+}
+
+fn differ(a: [u64; 32], b: [u64; 32]) -> bool {
     let mut i: usize = 0;
     while i < 32 {
         if a[i] != b[i] {
-            n = sum(n, 1);
+            return true;
         }
         i += 1;
     }
-    n
+    false
 }
 
-// An insertion of record `id` under `n` nodes in line: what it answers, and how many words it changed.
+// An insertion of record `id` under n nodes in line.
 fn inserted(n: u64, id: u64) -> u64 {
     let mut t = [[0u64; 32]; 48];
     let mut path = [[0u64; 2]; 40];
@@ -125,6 +110,7 @@ fn inserted(n: u64, id: u64) -> u64 {
     rooted(insert(&mut t, &mut path, Link::Some(0), id))
 }
 
+// How many records such an insertion changes.
 fn changed_by(n: u64, id: u64) -> u64 {
     let mut t = [[0u64; 32]; 48];
     let mut before = [[0u64; 32]; 48];
@@ -135,76 +121,113 @@ fn changed_by(n: u64, id: u64) -> u64 {
     changes(&t, &before)
 }
 
-fn sought(n: u64, root: u64, id: u64) -> u64 {
-    let mut t = [[0u64; 32]; 48];
-    line(&mut t, n);
-    held(contains(&t, Link::Some(root), id))
+fn insertion(count: u64, label: &[u8], n: u64, id: u64, said: u64) -> u64 {
+    case(count, label, inserted(n, id), said)
 }
 
-fn leftmost(root: Link) -> u64 {
+fn change(count: u64, label: &[u8], n: u64, id: u64, said: u64) -> u64 {
+    case(count, label, changed_by(n, id), said)
+}
+
+fn sought(count: u64, label: &[u8], n: u64, root: u64, id: u64, said: u64) -> u64 {
+    let mut t = [[0u64; 32]; 48];
+    line(&mut t, n);
+    case(count, label, held(contains(&t, Link::Some(root), id)), said)
+}
+
+fn leftmost(count: u64, label: &[u8], root: Link, said: u64) -> u64 {
     let mut t = [[0u64; 32]; 48];
     line(&mut t, 3);
-    least(first(&t, root))
+    case(count, label, least(first(&t, root)), said)
+}
+
+fn equal_key(n: u64) -> u64 {
+    let a = insertion(n, b"tree: an equal key", 3, 1, DAMAGED);
+    change(a, b"tree: an equal key changes records", 3, 1, 0)
+}
+
+fn long_descent(n: u64) -> u64 {
+    let a = insertion(
+        n,
+        b"tree: a descent that needs a 41st entry",
+        41,
+        47,
+        DAMAGED,
+    );
+    change(
+        a,
+        b"tree: a descent that needs a 41st entry changes records",
+        41,
+        47,
+        0,
+    )
+}
+
+fn absent_key(n: u64) -> u64 {
+    let a = sought(
+        n,
+        b"tree: contains of an absent key under 39 in line",
+        39,
+        0,
+        47,
+        0,
+    );
+    sought(
+        a,
+        b"tree: contains of an absent key under 40 in line",
+        40,
+        0,
+        47,
+        DAMAGED,
+    )
 }
 
 // An equal key refuses with root and links unchanged; a descent that needs a 41st entry refuses; so does `contains` of an absent key under 40 nodes in line.
-pub fn paths() -> u64 {
-    let a = case(b"tree: an equal key", inserted(3, 1), DAMAGED);
-    let b = case(b"tree: an equal key changes words", changed_by(3, 1), 0);
-    let c = case(
-        b"tree: a descent that needs a 41st entry",
-        inserted(41, 47),
+pub fn paths(n: u64) -> u64 {
+    let a = equal_key(n);
+    let b = long_descent(a);
+    absent_key(b)
+}
+
+fn least_of(n: u64) -> u64 {
+    let a = leftmost(n, b"tree: the least of an empty tree", Link::None, NONE);
+    let b = leftmost(a, b"tree: the least of three in line", Link::Some(0), 0);
+    leftmost(
+        b,
+        b"tree: the least under a root outside the table",
+        Link::Some(48),
+        DAMAGED,
+    )
+}
+
+fn outside(n: u64) -> u64 {
+    let a = sought(
+        n,
+        b"tree: contains under a root outside the table",
+        3,
+        48,
+        1,
         DAMAGED,
     );
-    let d = case(
-        b"tree: a descent that needs a 41st entry changes words",
-        changed_by(41, 47),
+    let b = sought(
+        a,
+        b"tree: contains of a number outside the table",
+        3,
         0,
-    );
-    let e = case(
-        b"tree: contains of an absent key under 39 in line",
-        sought(39, 0, 47),
-        0,
-    );
-    let f = case(
-        b"tree: contains of an absent key under 40 in line",
-        sought(40, 0, 47),
+        48,
         DAMAGED,
     );
-    sum(sum(sum(a, b), sum(c, d)), sum(e, f))
+    insertion(
+        b,
+        b"tree: an insertion of a number outside the table",
+        3,
+        48,
+        DAMAGED,
+    )
 }
 
 // Links that lead out of the table are Damaged, and so is a number outside it.
-pub fn damage() -> u64 {
-    let a = case(
-        b"tree: the least of an empty tree",
-        leftmost(Link::None),
-        NONE,
-    );
-    let b = case(
-        b"tree: the least of three in line",
-        leftmost(Link::Some(0)),
-        0,
-    );
-    let c = case(
-        b"tree: the least under a root outside the table",
-        leftmost(Link::Some(48)),
-        DAMAGED,
-    );
-    let d = case(
-        b"tree: contains under a root outside the table",
-        sought(3, 48, 1),
-        DAMAGED,
-    );
-    let e = case(
-        b"tree: contains of a number outside the table",
-        sought(3, 0, 48),
-        DAMAGED,
-    );
-    let f = case(
-        b"tree: an insertion of a number outside the table",
-        inserted(3, 48),
-        DAMAGED,
-    );
-    sum(sum(sum(a, b), sum(c, d)), sum(e, f))
+pub fn damage(n: u64) -> u64 {
+    let a = least_of(n);
+    outside(a)
 }

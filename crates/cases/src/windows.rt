@@ -1,7 +1,5 @@
 // The worked cases of arbitration.rs: period 10,000,000, allowance 2,000,000, floor 3,000,000, ranks 0, 1, 2, 3.
 use crate::report::case;
-use crate::report::of_flag;
-use crate::report::sum;
 use algorithms::Wide;
 use arbitration::ArbitrationConfig;
 use arbitration::ArbitrationOrder;
@@ -39,36 +37,46 @@ fn config() -> ArbitrationConfig {
     }
 }
 
+// `prefer_fair` is false after `new`, so an accepted configuration answers 0.
 fn made(allowance_ns: u64, floor_ns: u64, order: ArbitrationOrder) -> u64 {
     match ArbitrationConfig::new(10_000_000, allowance_ns, floor_ns, order) {
-        ConfigMade::Made(c) => of_flag(c.prefer_fair),
+        ConfigMade::Made(c) => c.prefer_fair as u64,
         ConfigMade::Refused(refusal) => refusal.number(),
     }
 }
 
-// `prefer_fair` is false after `new`, so an accepted configuration answers 0.
-pub fn settings() -> u64 {
-    let rising = ArbitrationOrder::DEFAULT;
-    let level = ArbitrationOrder {
+// With ranks 0, 1, 2, 3, the third as given.
+fn setting(
+    n: u64,
+    label: &[u8],
+    allowance_ns: u64,
+    floor_ns: u64,
+    fair_rank: u8,
+    said: u64,
+) -> u64 {
+    let order = ArbitrationOrder {
         priority_rank: 0,
         budget_rank: 1,
-        fair_rank: 1,
+        fair_rank,
         borrow_rank: 3,
     };
-    let a = case(
-        b"config: allowance 6999999",
-        made(6_999_999, 3_000_000, rising),
-        0,
-    );
-    let b = case(
-        b"config: allowance 7000000",
-        made(7_000_000, 3_000_000, rising),
-        5,
-    );
-    let c = case(b"config: allowance 0", made(0, 3_000_000, rising), 0);
-    let d = case(b"config: floor 0", made(2_000_000, 0, rising), 5);
-    let e = case(b"config: equal ranks", made(2_000_000, 3_000_000, level), 5);
-    sum(sum(a, b), sum(c, sum(d, e)))
+    case(n, label, made(allowance_ns, floor_ns, order), said)
+}
+
+fn allowances(n: u64) -> u64 {
+    let a = setting(n, b"config: allowance 6999999", 6_999_999, 3_000_000, 2, 0);
+    let b = setting(a, b"config: allowance 7000000", 7_000_000, 3_000_000, 2, 5);
+    setting(b, b"config: allowance 0", 0, 3_000_000, 2, 0)
+}
+
+fn floor_and_ranks(n: u64) -> u64 {
+    let a = setting(n, b"config: floor 0", 2_000_000, 0, 2, 5);
+    setting(a, b"config: equal ranks", 2_000_000, 3_000_000, 1, 5)
+}
+
+pub fn settings(n: u64) -> u64 {
+    let a = allowances(n);
+    floor_and_ranks(a)
 }
 
 fn window(epoch: Epoch) -> CpuWindow {
@@ -90,38 +98,42 @@ fn floor_left(step: WindowStep) -> u64 {
     window.protected_remaining_ns
 }
 
-// An end in an older epoch refills nothing, but its charge is still taken.
-pub fn ledgers() -> u64 {
+fn charged(epoch: Epoch, start: u64, end: u64) -> u64 {
     let protected = fifo(SchedulingRole::Protected);
-    let across = window(Epoch::None).account_dispatch(
+    let w = window(epoch);
+    floor_left(w.account_dispatch(start, end, protected, DispatchMode::Protected))
+}
+
+fn ledger(n: u64, label: &[u8], epoch: Epoch, start: u64, end: u64, said: u64) -> u64 {
+    case(n, label, charged(epoch, start, end), said)
+}
+
+// An end in an older epoch refills nothing, but its charge is still taken.
+pub fn ledgers(n: u64) -> u64 {
+    let a = ledger(
+        n,
+        b"window: 9000000 to 11000000 leaves a floor of",
+        Epoch::None,
         9_000_000,
         11_000_000,
-        protected,
-        DispatchMode::Protected,
+        2_000_000,
     );
-    let older = window(Epoch::Some(2)).account_dispatch(
+    let b = ledger(
+        a,
+        b"window: an older epoch leaves a floor of",
+        Epoch::Some(2),
         5_000_000,
         6_000_000,
-        protected,
-        DispatchMode::Protected,
-    );
-    let back = window(Epoch::None).account_dispatch(2, 1, protected, DispatchMode::Protected);
-    let a = case(
-        b"window: 9000000 to 11000000 leaves a floor of",
-        floor_left(across),
         2_000_000,
     );
-    let b = case(
-        b"window: an older epoch leaves a floor of",
-        floor_left(older),
-        2_000_000,
-    );
-    let c = case(
+    ledger(
+        b,
         b"window: end before start leaves a floor of",
-        floor_left(back),
+        Epoch::None,
+        2,
+        1,
         3_000_000,
-    );
-    sum(a, sum(b, c))
+    )
 }
 
 fn at(answer: WindowDeadline) -> u64 {
@@ -139,34 +151,54 @@ fn time_of(due: Deadline) -> u64 {
     }
 }
 
-pub fn due() -> u64 {
+fn protection(n: u64, label: &[u8], now: u64, waiting: bool, said: u64) -> u64 {
     let untouched = window(Epoch::None);
-    let a = case(
+    case(
+        n,
+        label,
+        at(untouched.protection_deadline(now, waiting)),
+        said,
+    )
+}
+
+fn about_the_floor(n: u64) -> u64 {
+    let a = protection(
+        n,
         b"protection: at 6999999 it is due at",
-        at(untouched.protection_deadline(6_999_999, true)),
+        6_999_999,
+        true,
         7_000_000,
     );
-    let b = case(
+    let b = protection(
+        a,
         b"protection: at 7000000 it is due at",
-        at(untouched.protection_deadline(7_000_000, true)),
+        7_000_000,
+        true,
         7_000_000,
     );
-    let c = case(
+    protection(
+        b,
         b"protection: at 7000001 it is due at",
-        at(untouched.protection_deadline(7_000_001, true)),
         7_000_001,
-    );
-    let d = case(
-        b"protection: nobody waits",
-        at(untouched.protection_deadline(7_000_000, false)),
-        NONE,
-    );
-    let e = case(
+        true,
+        7_000_001,
+    )
+}
+
+fn never_due(n: u64) -> u64 {
+    let a = protection(n, b"protection: nobody waits", 7_000_000, false, NONE);
+    protection(
+        a,
         b"protection: at 18446744073709551615",
-        at(untouched.protection_deadline(18_446_744_073_709_551_615, true)),
+        18_446_744_073_709_551_615,
+        true,
         NONE,
-    );
-    sum(sum(a, b), sum(c, sum(d, e)))
+    )
+}
+
+pub fn due(n: u64) -> u64 {
+    let a = about_the_floor(n);
+    never_due(a)
 }
 
 fn demand(protected: bool, fair: bool, noticed: bool) -> Demand {
@@ -194,28 +226,36 @@ fn exhausted(role: SchedulingRole) -> Candidate {
     }
 }
 
-fn key_of(answer: WindowKey) -> DispatchKey {
-    let none = DispatchKey {
+fn no_key() -> DispatchKey {
+    DispatchKey {
         urgency: 255,
         rank: 255,
         algorithm_rank: 255,
         algorithm: Wide { high: 0, low: 0 },
         band: 255,
         turn: 0,
-    };
-    let key = answer.answer;
-    match key {
-        KeyAnswer::Key(k) => match k {
-            KeyOption::Some(found, _) => found,
-            KeyOption::None => none,
-        },
-        KeyAnswer::Refused(_) => none,
     }
 }
 
-fn urgency(answer: WindowKey) -> u64 {
-    let key = key_of(answer);
-    key.urgency as u64
+fn key_of(answer: WindowKey) -> DispatchKey {
+    let key = answer.answer;
+    match key {
+        KeyAnswer::Key(k) => found(k),
+        KeyAnswer::Refused(_) => no_key(),
+    }
+}
+
+fn found(key: KeyOption) -> DispatchKey {
+    match key {
+        KeyOption::Some(k, _) => k,
+        KeyOption::None => no_key(),
+    }
+}
+
+// The key of a candidate at 7,000,000, where a protected thread waits.
+fn key_at(candidate: Candidate, fair: bool, noticed: bool) -> DispatchKey {
+    let w = window(Epoch::None);
+    key_of(w.candidate_key(7_000_000, candidate, demand(true, fair, noticed)))
 }
 
 fn sign(order: Ordering) -> u64 {
@@ -226,27 +266,35 @@ fn sign(order: Ordering) -> u64 {
     }
 }
 
+fn urgency(candidate: Candidate, fair: bool) -> u64 {
+    let key = key_at(candidate, fair, false);
+    key.urgency as u64
+}
+
+fn late_urgency(fair: bool) -> u64 {
+    urgency(exhausted(SchedulingRole::Protected), fair)
+}
+
 // Any FIFO or Fair thread sets the `fair` demand, and then an exhausted one has no key (urgency 255 here).
-pub fn keys() -> u64 {
-    let w = window(Epoch::None);
-    let late = exhausted(SchedulingRole::Protected);
-    let plain = demand(true, false, false);
+pub fn keys(n: u64) -> u64 {
     let a = case(
+        n,
         b"key: exhausted with a FIFO current",
-        urgency(w.candidate_key(7_000_000, late, demand(true, true, false))),
+        late_urgency(true),
         255,
     );
     let b = case(
+        a,
         b"key: exhausted, protected and due",
-        urgency(w.candidate_key(7_000_000, late, plain)),
+        late_urgency(false),
         2,
     );
-    let c = case(
+    case(
+        b,
         b"key: FIFO, protected and due",
-        urgency(w.candidate_key(7_000_000, waiting(), demand(true, true, false))),
+        urgency(waiting(), true),
         1,
-    );
-    sum(a, sum(b, c))
+    )
 }
 
 // A protected FIFO thread.
@@ -270,23 +318,25 @@ fn key_with(algorithm: Wide, band: u8) -> DispatchKey {
     }
 }
 
-// `window_sensitive` and `any_budget` change no key; the algorithm compares before the band.
-pub fn orders() -> u64 {
-    let w = window(Epoch::None);
+fn noticed() -> u64 {
     let late = exhausted(SchedulingRole::Protected);
-    let plain = key_of(w.candidate_key(7_000_000, late, demand(true, false, false)));
-    let noticed = key_of(w.candidate_key(7_000_000, late, demand(true, false, true)));
+    let plain = key_at(late, false, false);
+    sign(compare_keys(plain, key_at(late, false, true)))
+}
+
+fn algorithm_first() -> u64 {
     let before = key_with(Wide { high: 0, low: 9 }, 200);
     let after = key_with(Wide { high: 1, low: 0 }, 100);
-    let d = case(
+    sign(compare_keys(before, after))
+}
+
+// `window_sensitive` and `any_budget` change no key; the algorithm compares before the band.
+pub fn orders(n: u64) -> u64 {
+    let a = case(
+        n,
         b"key: window_sensitive and any_budget change",
-        sign(compare_keys(plain, noticed)),
+        noticed(),
         1,
     );
-    let e = case(
-        b"key: algorithm before band",
-        sign(compare_keys(before, after)),
-        0,
-    );
-    sum(d, e)
+    case(a, b"key: algorithm before band", algorithm_first(), 0)
 }

@@ -4,3 +4,5 @@ pub mod Codec
 pub mod PartLaws
 -- Laws of rows: a store of some words changes the part that they stand for, and no other.
 pub mod RowLaws
+-- Laws of keys: the algorithm's part by a row's tags.
+pub mod KeyLaws

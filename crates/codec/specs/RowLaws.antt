@@ -1,7 +1,7 @@
 -- Laws of rows: a store of the words of one part changes that part of the record, and no other.
 use Prim.Native.Nat.{ℕ, zero, suc, _%_}
 use native.Mathlib.Omega.{arith}
-use mathlib.Core.Path.{_≡_, refl, sym}
+use mathlib.Core.Path.{_≡_, refl}
 use mathlib.Core.List.{List, [], _∷_}
 use lib.ListN.{length, set}
 use Rattle.policy.specs.declared.SchedulingParameters.{SchedulingParameters}
@@ -10,21 +10,22 @@ use Rattle.policy.specs.declared.SchedulingRole.{SchedulingRole}
 use Rattle.policy.specs.declared.FairBackend.{FairBackend}
 use Rattle.policy.specs.declared.BudgetOption.{BudgetOption}
 use Rattle.algorithms.specs.declared.PolicyRuntime.{PolicyRuntime}
+use Rattle.algorithms.specs.declared.Wide.{Wide}
 use Rattle.thread.specs.declared.CpuIndex.{CpuIndex}
+use Rattle.thread.specs.declared.Link.{Link}
 use Rattle.thread.specs.declared.Links.{Links}
 use Rattle.thread.specs.declared.QueueLinks.{QueueLinks}
 use Rattle.thread.specs.declared.ThreadRecord.{ThreadRecord}
-use Rattle.thread.specs.declared.TreeKey.{TreeKey}
-use Rattle.thread.specs.TreeKey.{treeKey, readyIndexKey}
-use Rattle.thread.specs.Records.{withParameters, withRuntime, withTurn, withLinks, withQueueLinks, withCpu}
+use Rattle.thread.specs.TreeKey.{algorithmKey, treeKey, readyIndexKey}
+use Rattle.thread.specs.Records.{withParameters, withRuntime, withTurn, withLinks, withLeft, withRight, withHeight, withQueueLinks, withCpu}
 use Rattle.codec.specs.Codec.{word, policyFrom, roleFrom, backendFrom, budgetFrom, runtimeFrom, linkFrom, membershipFrom, parametersOf, runtimeOf, linksOf, queueLinksOf, decoded}
 
 -- P of every list of n words.
-abbrev Words : ℕ → (List ℕ → Type 0) → Type 0
+abbrev pub Words : ℕ → (List ℕ → Type 0) → Type 0
 Words zero P = P []
 Words (suc n) P = (x : ℕ) → Words n (λ (r : List ℕ). P (x ∷ r))
 
-by-words : (n : ℕ) (P : List ℕ → Type 0) → Words n P → (r : List ℕ) → length r ≡ n → P r
+pub by-words : (n : ℕ) (P : List ℕ → Type 0) → Words n P → (r : List ℕ) → length r ≡ n → P r
 by-words zero P f [] h = f
 by-words zero P f (x ∷ r) h = absurd (omega arith)
 by-words (suc n) P f [] h = absurd (omega arith)
@@ -74,6 +75,36 @@ unfolding decoded parametersOf runtimeOf linksOf queueLinksOf
 links-stored r l a b height size e₁ e₂ e₃ =
     by-words 32 (λ (r : List ℕ). decoded (set (set (set (set (set r 17 (word a 0)) 18 (word a 1)) 19 (word b 0)) 20 (word b 1)) 21 height) ≡ withLinks l (decoded r))
     (λ x0 x1 x2 x3 x4 x5 x6 x7 x8 x9 x10 x11 x12 x13 x14 x15 x16 x17 x18 x19 x20 x21 x22 x23 x24 x25 x26 x27 x28 x29 x30 x31. rw (e₁, e₂, e₃))
+    r size
+
+pub left-stored : (r : List ℕ) (l : Link) (a : List ℕ)
+    → length r ≡ 32
+    → linkFrom (word a 0) (word a 1) ≡ l
+    → decoded (set (set r 17 (word a 0)) 18 (word a 1)) ≡ withLeft l (decoded r)
+unfolding decoded parametersOf runtimeOf linksOf queueLinksOf
+left-stored r l a size e =
+    by-words 32 (λ (r : List ℕ). decoded (set (set r 17 (word a 0)) 18 (word a 1)) ≡ withLeft l (decoded r))
+    (λ x0 x1 x2 x3 x4 x5 x6 x7 x8 x9 x10 x11 x12 x13 x14 x15 x16 x17 x18 x19 x20 x21 x22 x23 x24 x25 x26 x27 x28 x29 x30 x31. rw (e))
+    r size
+
+pub right-stored : (r : List ℕ) (l : Link) (a : List ℕ)
+    → length r ≡ 32
+    → linkFrom (word a 0) (word a 1) ≡ l
+    → decoded (set (set r 19 (word a 0)) 20 (word a 1)) ≡ withRight l (decoded r)
+unfolding decoded parametersOf runtimeOf linksOf queueLinksOf
+right-stored r l a size e =
+    by-words 32 (λ (r : List ℕ). decoded (set (set r 19 (word a 0)) 20 (word a 1)) ≡ withRight l (decoded r))
+    (λ x0 x1 x2 x3 x4 x5 x6 x7 x8 x9 x10 x11 x12 x13 x14 x15 x16 x17 x18 x19 x20 x21 x22 x23 x24 x25 x26 x27 x28 x29 x30 x31. rw (e))
+    r size
+
+pub height-stored : (r : List ℕ) (n : ℕ) (height : ℕ)
+    → length r ≡ 32
+    → height % 256 ≡ n
+    → decoded (set r 21 height) ≡ withHeight n (decoded r)
+unfolding decoded parametersOf runtimeOf linksOf queueLinksOf
+height-stored r n height size e =
+    by-words 32 (λ (r : List ℕ). decoded (set r 21 height) ≡ withHeight n (decoded r))
+    (λ x0 x1 x2 x3 x4 x5 x6 x7 x8 x9 x10 x11 x12 x13 x14 x15 x16 x17 x18 x19 x20 x21 x22 x23 x24 x25 x26 x27 x28 x29 x30 x31. rw (e))
     r size
 
 pub queue-links-stored : (r : List ℕ) (l : QueueLinks) (a b m : List ℕ)
@@ -129,10 +160,11 @@ pub record-read : (w : List ℕ) {parameters : SchedulingParameters} {runtime : 
 unfolding decoded
 record-read w e₁ e₂ e₃ e₄ e₅ = rw (e₁, e₂, e₃, e₄, e₅)
 
-pub key-read : (w : List ℕ) (id : ℕ) (parameters : SchedulingParameters) (runtime : PolicyRuntime) {key : TreeKey}
-    → parameters ≡ parametersOf w → runtime ≡ runtimeOf w → key ≡ treeKey parameters runtime (word w 16) id → key ≡ readyIndexKey (decoded w) id
-unfolding decoded readyIndexKey
-key-read w id parameters runtime e₁ e₂ h = rw (sym e₁, sym e₂) h
+pub key-read : (w : List ℕ) (id : ℕ) {algorithm : Wide} {band : ℕ}
+    → algorithm ≡ algorithmKey (parametersOf w) (runtimeOf w) (word w 16) → band ≡ word w 2 % 256
+    → record { algorithm = algorithm; band = band; turn = word w 16; id = id } ≡ readyIndexKey (decoded w) id
+unfolding decoded readyIndexKey treeKey parametersOf
+key-read w id e₁ e₂ = rw (e₁, e₂)
 
 -- A row whose every part was stored stands for the record with those parts.
 pub all-stored : (t : ThreadRecord) (w₀ w₁ w₂ w₃ w₄ w₅ w₆ : List ℕ)

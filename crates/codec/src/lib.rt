@@ -2,8 +2,8 @@
 ghost use mathlib.Core.Path.{_≡_};
 ghost use Prim.Native.Nat.{_%_};
 ghost use Rattle.codec.specs.Codec.{word, decoded, policyFrom, roleFrom, backendFrom, budgetFrom, epochFrom, runtimeFrom, linkFrom, membershipFrom, parametersOf, runtimeOf, linksOf, queueLinksOf};
-ghost use Rattle.thread.specs.Records.{withParameters, withRuntime, withTurn, withLinks, withQueueLinks, withCpu};
-ghost use Rattle.thread.specs.TreeKey.{readyIndexKey};
+ghost use Rattle.thread.specs.Records.{withParameters, withRuntime, withTurn, withLinks, withLeft, withRight, withHeight, withQueueLinks, withCpu};
+ghost use Rattle.thread.specs.TreeKey.{algorithmKey, readyIndexKey};
 use algorithms::FairRuntime;
 use algorithms::PolicyRuntime;
 use algorithms::Wide;
@@ -23,10 +23,9 @@ use thread::QueueLinks;
 use thread::QueueMembership;
 use thread::ThreadRecord;
 use thread::TreeKey;
-use thread::tree_key;
 use time::Epoch;
 
-fn byte_from(w: u64) -> u8
+pub fn byte_from(w: u64) -> u8
     ensures { λ x. ⌜ x ≡ w % 256 ⌝ }
 {
     (w % 256) as u8
@@ -55,7 +54,7 @@ fn policy_from(tag: u64, priority: u64) -> SchedulingPolicy
     SchedulingPolicy::Idle
 }
 
-fn role_from(tag: u64) -> SchedulingRole
+pub fn role_from(tag: u64) -> SchedulingRole
     ensures { λ r. ⌜ r ≡ roleFrom tag ⌝ }
 {
     if tag == 0 {
@@ -67,7 +66,7 @@ fn role_from(tag: u64) -> SchedulingRole
     SchedulingRole::Protected
 }
 
-fn backend_from(tag: u64) -> FairBackend
+pub fn backend_from(tag: u64) -> FairBackend
     ensures { λ b. ⌜ b ≡ backendFrom tag ⌝ }
 {
     if tag == 0 {
@@ -89,7 +88,7 @@ fn budget_from(tag: u64, budget_ns: u64, period_ns: u64, burst_ns: u64) -> Budge
     })
 }
 
-fn epoch_from(tag: u64, epoch: u64) -> Epoch
+pub fn epoch_from(tag: u64, epoch: u64) -> Epoch
     ensures { λ e. ⌜ e ≡ epochFrom tag epoch ⌝ }
 {
     if tag == 0 {
@@ -124,7 +123,7 @@ fn runtime_from(tag: u64, first: u64, second: u64, third: u64, fourth: u64) -> P
     PolicyRuntime::Idle
 }
 
-fn link_from(tag: u64, number: u64) -> Link
+pub fn link_from(tag: u64, number: u64) -> Link
     ensures { λ l. ⌜ l ≡ linkFrom tag number ⌝ }
 {
     if tag == 0 {
@@ -133,7 +132,7 @@ fn link_from(tag: u64, number: u64) -> Link
     Link::Some(number)
 }
 
-fn membership_from(tag: u64, first: u64, second: u64) -> QueueMembership
+pub fn membership_from(tag: u64, first: u64, second: u64) -> QueueMembership
     ensures { λ m. ⌜ m ≡ membershipFrom tag first second ⌝ }
 {
     if tag == 0 {
@@ -208,13 +207,49 @@ pub fn queue_links_of(w: [u64; 32]) -> QueueLinks
     }
 }
 
+// The algorithm's part of the row's tree key, by the tags alone: neither policy nor runtime is made only to be taken apart again.
+fn algorithm_of(w: [u64; 32]) -> Wide
+    ensures { λ r. ⌜ r ≡ algorithmKey (parametersOf w) (runtimeOf w) (word w 16) ⌝ }
+{
+    if w[0] == 0 {
+        return Wide {
+            high: 0,
+            low: w[1] % 256,
+        };
+    }
+    if w[0] == 1 {
+        if w[6] == 0 {
+            if w[11] == 1 {
+                return Wide {
+                    high: w[12],
+                    low: w[13],
+                };
+            }
+            return Wide { high: 0, low: 0 };
+        }
+        return Wide {
+            high: 0,
+            low: w[16],
+        };
+    }
+    Wide {
+        high: 0,
+        low: w[16],
+    }
+}
+
 // The tree key of the row's record with this number.
 pub fn key_of(w: [u64; 32], id: u64) -> TreeKey
     ensures { λ k. ⌜ k ≡ readyIndexKey (decoded w) id ⌝ }
 {
-    let parameters = parameters_of(w);
-    let runtime = runtime_of(w);
-    tree_key(parameters, runtime, w[16], id)
+    let algorithm = algorithm_of(w);
+    let band = byte_from(w[2]);
+    TreeKey {
+        algorithm,
+        band,
+        turn: w[16],
+        id,
+    }
 }
 
 pub fn decode(w: [u64; 32]) -> ThreadRecord
@@ -235,7 +270,7 @@ pub fn decode(w: [u64; 32]) -> ThreadRecord
     }
 }
 
-fn word_of_byte(x: u8) -> u64
+pub fn word_of_byte(x: u8) -> u64
     ensures { λ w. ⌜ w % 256 ≡ x ⌝ }
 {
     x as u64
@@ -286,7 +321,7 @@ fn words_of_budget(budget: BudgetOption) -> [u64; 4]
     }
 }
 
-fn words_of_epoch(epoch: Epoch) -> [u64; 2]
+pub fn words_of_epoch(epoch: Epoch) -> [u64; 2]
     ensures { λ w. ⌜ epochFrom (word w 0) (word w 1) ≡ epoch ⌝ }
 {
     match epoch {
@@ -313,7 +348,7 @@ fn words_of_runtime(runtime: PolicyRuntime) -> [u64; 5]
     }
 }
 
-fn words_of_link(link: Link) -> [u64; 2]
+pub fn words_of_link(link: Link) -> [u64; 2]
     ensures { λ w. ⌜ linkFrom (word w 0) (word w 1) ≡ link ⌝ }
 {
     match link {
@@ -403,6 +438,35 @@ pub fn with_links(w: [u64; 32], links: Links) -> [u64; 32]
     row[19] = right[0];
     row[20] = right[1];
     row[21] = height;
+    row
+}
+
+pub fn with_left(w: [u64; 32], link: Link) -> [u64; 32]
+    ensures { λ r. ⌜ decoded r ≡ withLeft link (decoded w) ⌝ }
+{
+    let words = words_of_link(link);
+    let mut row = w;
+    row[17] = words[0];
+    row[18] = words[1];
+    row
+}
+
+pub fn with_right(w: [u64; 32], link: Link) -> [u64; 32]
+    ensures { λ r. ⌜ decoded r ≡ withRight link (decoded w) ⌝ }
+{
+    let words = words_of_link(link);
+    let mut row = w;
+    row[19] = words[0];
+    row[20] = words[1];
+    row
+}
+
+pub fn with_height(w: [u64; 32], height: u8) -> [u64; 32]
+    ensures { λ r. ⌜ decoded r ≡ withHeight height (decoded w) ⌝ }
+{
+    let word = word_of_byte(height);
+    let mut row = w;
+    row[21] = word;
     row
 }
 

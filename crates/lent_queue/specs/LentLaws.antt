@@ -102,7 +102,7 @@ module _ (rows : List (List ℕ)) where
       stored : rootFrom w ≡ record { root = root }
       stored = ap (λ (l : Link). record { root = l }) e
 
-  counts-row : (w : List ℕ) → 269 < length rows
+  pub counts-row : (w : List ℕ) → 269 < length rows
       → queueOf (set rows 269 w)
       ≡ record { realtime = queueOf rows .realtime; «realtime_len» = word w 0; fair = queueOf rows .fair; indices = queueOf rows .indices; «budget_epoch» = epochFrom (word w 2) (word w 3); «budget_threads» = word w 1; halted = haltedFrom (word w 4) }
   unfolding queueOf

@@ -5,12 +5,13 @@ ghost use mathlib.Core.Path.{_≡_};
 ghost use lib.ListN.{getD, length, set};
 ghost use Rattle.thread.specs.Membership.{emptyQueue};
 ghost use Rattle.rows.specs.Table.{table, out};
-ghost use Rattle.codec.specs.Codec.{word, linkFrom};
 ghost use Rattle.queue.specs.Work.{workOf};
 ghost use Rattle.queue.specs.Queue as calls;
 ghost use Rattle.queue.specs.Plan as plans;
 ghost use Rattle.queue.specs.Answers.{verdictAnswer};
 ghost use Rattle.lent_queue.specs.LentQueue.{listFrom, queueOf, withRealtime, withFair, withRoot, withCounts};
+use codec::link_from;
+use codec::words_of_link;
 use queue::Filed;
 use queue::Judgement;
 use queue::Parts;
@@ -30,24 +31,6 @@ use thread::Link;
 use thread::QueueMembership;
 use thread::ThreadId;
 use thread::ThreadQueue;
-
-fn link_from(tag: u64, number: u64) -> Link
-    ensures { λ l. ⌜ l ≡ linkFrom tag number ⌝ }
-{
-    if tag == 0 {
-        return Link::None;
-    }
-    Link::Some(number)
-}
-
-fn words_of_link(link: Link) -> [u64; 2]
-    ensures { λ w. ⌜ linkFrom (word w 0) (word w 1) ≡ link ⌝ }
-{
-    match link {
-        Link::None => [0, 0],
-        Link::Some(n) => [1, n],
-    }
-}
 
 fn list_from(w: [u64; 5]) -> ThreadQueue
     ensures { λ r. ⌜ r ≡ listFrom w ⌝ }
@@ -146,7 +129,7 @@ fn set_mark(q: &mut [[u64; 5]; 270])
     store_row(q, 269, [row[0], row[1], row[2], row[3], 1]);
 }
 
-fn is_halted(q: &[[u64; 5]; 270]) -> bool
+pub fn is_halted(q: &[[u64; 5]; 270]) -> bool
     ensures { λ r. ⌜ r ≡ queueOf (now (q .entry)) .halted ⌝ }
 {
     let row = q[269];
@@ -318,6 +301,27 @@ pub fn new_lent(q: &mut [[u64; 5]; 270])
 {
     let row = [0; 5];
     *q = [row; 270];
+}
+
+pub fn real_time_len(q: &[[u64; 5]; 270]) -> u64
+    ensures { λ r. ⌜ r ≡ calls.realTimeLen (queueOf (now (q .entry))) ⌝ }
+{
+    let row = q[269];
+    row[0]
+}
+
+pub fn fair_len(q: &[[u64; 5]; 270]) -> u64
+    ensures { λ r. ⌜ r ≡ calls.fairLen (queueOf (now (q .entry))) ⌝ }
+{
+    let list = fair_list(q);
+    list.len
+}
+
+pub fn budget_len(q: &[[u64; 5]; 270]) -> u64
+    ensures { λ r. ⌜ r ≡ calls.budgetLen (queueOf (now (q .entry))) ⌝ }
+{
+    let row = q[269];
+    row[1]
 }
 
 // `enqueue`, and with `front` `enqueue_front`.

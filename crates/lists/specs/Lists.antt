@@ -25,17 +25,23 @@ onAnswer (refused n) g f = g n
 unfoldable pub onOut : {A B : Type 0} → Out A → (A → List ThreadRecord → B) → B
 onOut (out a t) f = f a t
 
+abbrev pub withNext : QueueLinks → Link → QueueLinks
+withNext l next = record { previous = l .previous; next = next; membership = l .membership }
+
+abbrev pub withPrevious : QueueLinks → Link → QueueLinks
+withPrevious l previous = record { previous = previous; next = l .next; membership = l .membership }
+
 -- The record's links are read, and stored again with another next.
 unfoldable pub setNext : List ThreadRecord → ℕ → Link → List ThreadRecord
 setNext t i next =
     onQueueLinks (queueLinksAt t i) t
-    (λ l. after (setQueueLinks t i (record { previous = l .previous; next = next; membership = l .membership })))
+    (λ l. after (setQueueLinks t i (withNext l next)))
 
 -- The record's links are read, and stored again with another previous.
 unfoldable pub setPrevious : List ThreadRecord → ℕ → Link → List ThreadRecord
 setPrevious t i previous =
     onQueueLinks (queueLinksAt t i) t
-    (λ l. after (setQueueLinks t i (record { previous = previous; next = l .next; membership = l .membership })))
+    (λ l. after (setQueueLinks t i (withPrevious l previous)))
 
 -- Inserting stores list links and membership (document 01, "Keys and filing").
 unfoldable pub commitInsert : List ThreadRecord → ℕ → QueueLinks → List ThreadRecord

@@ -1,15 +1,19 @@
 // One list of threads over the table: push, push_front and remove. After scheduler/queue.rs, with the source's order of checks and stores.
 // Every number that is stored to was read in the checks before (crate sound_lists, specs/Inside.antt), so the source's `queue_invariant` has no place here.
 ghost use mathlib.Core.Path.{_≡_};
+ghost use Rattle.thread.specs.Membership.{isUnqueued};
+ghost use Rattle.thread.specs.Records.{withQueueLinks};
+ghost use Rattle.codec.specs.Codec.{decoded};
 ghost use Rattle.rows.specs.Table.{table, out};
 ghost use Rattle.lists.specs.Checks.{assignedTo, headAgrees, tailAgrees, endsAgree, preflightInsert, previousValid, nextValid, validateNeighbors};
-ghost use Rattle.lists.specs.Lists.{setNext, setPrevious, commitInsert, commitRemove, append, push, prepend, pushFront, updatePreviousLink, updateNextLink, unlink, remove};
+ghost use Rattle.lists.specs.Lists.{withNext, withPrevious, setNext, setPrevious, commitInsert, commitRemove, append, push, prepend, pushFront, updatePreviousLink, updateNextLink, unlink, remove};
 ghost use Rattle.lists.specs.Answers.{preflightAnswer, listed};
+use codec::byte_from;
+use codec::queue_links_of;
+use codec::words_of_link;
 use refusal::Refusal;
 use rows::QueueLinksRead;
-use rows::RecordRead;
 use rows::queue_links_at;
-use rows::record_at;
 use rows::set_queue_links;
 use thread::CpuIndex;
 use thread::CpuOption;
@@ -43,6 +47,22 @@ fn assigned_to(membership: QueueMembership, assigned: CpuIndex) -> bool
         return true;
     }
     false
+}
+
+// The checks of an insertion read a row's membership and processor alone, not the whole record.
+fn is_unqueued_row(w: [u64; 32]) -> bool
+    ensures { λ r. ⌜ r ≡ isUnqueued (decoded w .«queue_links» .membership) ⌝ }
+{
+    let links = queue_links_of(w);
+    let membership = links.membership;
+    membership.is_unqueued()
+}
+
+fn is_assigned_row(w: [u64; 32], membership: QueueMembership) -> bool
+    ensures { λ r. ⌜ r ≡ assignedTo membership (decoded w .cpu) ⌝ }
+{
+    let number = byte_from(w[29]);
+    assigned_to(membership, CpuIndex(number))
 }
 
 // The head is of this list and has nothing before it.
@@ -114,65 +134,67 @@ fn preflight_insert(
 ) -> Preflight
     ensures { λ r. ⌜ preflightAnswer r ≡ preflightInsert (table (now (t .entry))) queue id membership ⌝ }
 {
-    let RecordRead::Got(thread) = record_at(t, id) else {
-        return Preflight::Refused(Refusal::Damaged);
-    };
-    let links = thread.queue_links;
-    let current = links.membership;
-    let cpu = thread.cpu;
-    if !current.is_unqueued() {
-        return Preflight::Refused(Refusal::Already);
+    let k = id as usize;
+    if k < t.len() {
+        let row = t[k];
+        if !is_unqueued_row(row) {
+            return Preflight::Refused(Refusal::Already);
+        }
+        if !is_assigned_row(row, membership) {
+            return Preflight::Refused(Refusal::BadState);
+        }
+        if queue.len == 18_446_744_073_709_551_615 {
+            return Preflight::Refused(Refusal::Damaged);
+        }
+        if !ends_agree(t, queue, membership) {
+            return Preflight::Refused(Refusal::Damaged);
+        }
+        return Preflight::Length(queue.len + 1);
     }
-    if !assigned_to(membership, cpu) {
-        return Preflight::Refused(Refusal::BadState);
-    }
-    if queue.len == 18_446_744_073_709_551_615 {
-        return Preflight::Refused(Refusal::Damaged);
-    }
-    if !ends_agree(t, queue, membership) {
-        return Preflight::Refused(Refusal::Damaged);
-    }
-    Preflight::Length(queue.len + 1)
+    Preflight::Refused(Refusal::Damaged)
+}
+
+// Of a record's list links one alone: two words are stored, and none has to be read.
+fn with_next(w: [u64; 32], next: Link) -> [u64; 32]
+    ensures { λ r. ⌜ decoded r ≡ withQueueLinks (withNext (decoded w .«queue_links») next) (decoded w) ⌝ }
+{
+    let words = words_of_link(next);
+    let mut row = w;
+    row[24] = words[0];
+    row[25] = words[1];
+    row
+}
+
+fn with_previous(w: [u64; 32], previous: Link) -> [u64; 32]
+    ensures { λ r. ⌜ decoded r ≡ withQueueLinks (withPrevious (decoded w .«queue_links») previous) (decoded w) ⌝ }
+{
+    let words = words_of_link(previous);
+    let mut row = w;
+    row[22] = words[0];
+    row[23] = words[1];
+    row
 }
 
 // The record's next is stored, its other links as they are at this moment.
 fn set_next(t: &mut [[u64; 32]], i: u64, next: Link)
     ensures { λ r. ⌜ table (now (t .exit)) ≡ setNext (table (now (t .entry))) i next ⌝ }
 {
-    let QueueLinksRead::Got(links) = queue_links_at(t, i) else {
-        return;
-    };
-    let previous = links.previous;
-    let membership = links.membership;
-    set_queue_links(
-        t,
-        i,
-        QueueLinks {
-            previous,
-            next,
-            membership,
-        },
-    );
+    let k = i as usize;
+    if k < t.len() {
+        let row = t[k];
+        t[k] = with_next(row, next);
+    }
 }
 
 // The record's previous is stored, its other links as they are at this moment.
 fn set_previous(t: &mut [[u64; 32]], i: u64, previous: Link)
     ensures { λ r. ⌜ table (now (t .exit)) ≡ setPrevious (table (now (t .entry))) i previous ⌝ }
 {
-    let QueueLinksRead::Got(links) = queue_links_at(t, i) else {
-        return;
-    };
-    let next = links.next;
-    let membership = links.membership;
-    set_queue_links(
-        t,
-        i,
-        QueueLinks {
-            previous,
-            next,
-            membership,
-        },
-    );
+    let k = i as usize;
+    if k < t.len() {
+        let row = t[k];
+        t[k] = with_previous(row, previous);
+    }
 }
 
 fn commit_insert(t: &mut [[u64; 32]], id: u64, links: QueueLinks)

@@ -4,6 +4,8 @@ pub mod Work
 pub mod Queue
 -- A call in two halves: its plan and its work.
 pub mod Plan
+-- The judgement by the tags of a row.
+pub mod RowJudgement
 -- What the answers stand for.
 pub mod Answers
 -- Laws by which the functions on parts meet the definitions.
@@ -12,5 +14,3 @@ pub mod WorkLaws
 pub mod PlanLaws
 -- A small table and lists of calls on it.
 pub mod Samples
--- The calls on that table, by computation.
-pub mod WorkedQueue

@@ -23,6 +23,10 @@ use Rattle.queue.specs.declared.Plan.{Plan}
 use Rattle.queue.specs.Work.{Work, done, turnedDown, halts, insertWork, removeWork}
 use Rattle.queue.specs.Queue.{Step, step, maxRecords, rootOf, partsOf, withParts, marked, worked, isFifo, isBudget, membershipFor, partner, onContained}
 
+-- Of a judged record what the plans go by.
+abbrev pub filedOf : ThreadRecord → ℕ → Filed
+filedOf r k = record { policy = r .parameters .policy; membership = r .«queue_links» .membership; cpu = r .cpu; index = k }
+
 -- BadTable, Halted, NoThread and BadRecord, in that order; then the judged record with the tree of its filing, and Idle is BadState.
 unfoldable pub judgement : List ThreadRecord → Bool → ℕ → Answer Filed
 judgement t halted id =
@@ -31,16 +35,16 @@ judgement t halted id =
     (onRecord (recordAt t id) (refused 4)
     (λ r. choose (isBadRecord r) (refused 11)
     (onIndex (indexFor (r .parameters) (r .runtime)) (refused 2)
-    (λ k. value (record { thread = r; index = k }))))))
+    (λ k. given (filedOf r k) (λ f. value f))))))
 
 -- An enqueue of a judged thread: into the list of its policy and the tree of its filing.
 unfoldable pub planInsertion : Filed → CpuIndex → Answer Plan
 planInsertion f c =
-    choose (isUnqueued (f .thread .«queue_links» .membership))
-    (ifEqual (f .thread .cpu .0) (c .0)
-    (given (membershipFor (f .thread .parameters .policy) c)
-    (λ m. given (isFifo (f .thread .parameters .policy))
-    (λ fifo. given (isBudget (f .thread .parameters .policy))
+    choose (isUnqueued (f .membership))
+    (ifEqual (f .cpu .0) (c .0)
+    (given (membershipFor (f .policy) c)
+    (λ m. given (isFifo (f .policy))
+    (λ fifo. given (isBudget (f .policy))
     (λ budgeted. value (record { membership = m; index = f .index; fifo = fifo; budgeted = budgeted })))))
     (refused 2))
     (refused 3)
@@ -65,8 +69,8 @@ planReady fifo c d budgeted k m = ifEqual (d .0) (c .0) (value (record { members
 -- A removal of a judged thread, which tree k holds: out of the list of its own membership.
 unfoldable pub planRemoval : Filed → ℕ → CpuIndex → Answer Plan
 planRemoval f k c =
-    given (isBudget (f .thread .parameters .policy))
-    (λ budgeted. onMembership (f .thread .«queue_links» .membership)
+    given (isBudget (f .policy))
+    (λ budgeted. onMembership (f .membership)
     (refused 1)
     (λ d priority. planReady true c d budgeted k (membership.ReadyRealTime d priority))
     (λ d. planReady false c d budgeted k (membership.ReadyFair d))
@@ -75,7 +79,7 @@ planRemoval f k c =
 
 unfoldable pub removalPlan : List ThreadRecord → Filed → Link → Link → ℕ → CpuIndex → Answer Plan
 removalPlan t f root other id c =
-    given (isBudget (f .thread .parameters .policy))
+    given (isBudget (f .policy))
     (λ budgeted. andThen (treeFound t root other id budgeted (f .index)) (λ k. planRemoval f k c))
 
 -- A call's work put back into the queue.

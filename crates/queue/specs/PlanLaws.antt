@@ -51,29 +51,29 @@ use Rattle.queue.specs.Work.{Work, done, turnedDown, halts, workOf, inse
 use Rattle.queue.specs.Queue as queue
 use Rattle.queue.specs.Queue.{Step, step, maxRecords, rootOf, partsOf, withParts, marked, isFifo, isBudget, membershipFor, partner, onContained, enqueueCall, removeCall, removeReady, removeFrom, treeWith}
 use Rattle.queue.specs.Answers.{judgementAnswer, treeAnswer, plannedAnswer}
-use Rattle.queue.specs.Plan.{judgement, planInsertion, insertionPlan, treeFound, planReady, planRemoval, removalPlan, settled, insertBy, removeBy, removeFiled}
+use Rattle.queue.specs.Plan.{filedOf, judgement, planInsertion, insertionPlan, treeFound, planReady, planRemoval, removalPlan, settled, insertBy, removeBy, removeFiled}
 
 -- A refusal leaves table and queue as they were.
 abbrev pub kept : List ThreadRecord → CpuRunQueue → ℕ → Out (Step (Unit {0}))
 kept t q n = out (step (refused n) q) t
 
 module _ (t : List ThreadRecord) (q : CpuRunQueue) (id : ℕ) where
-  judged-apart : (f : ThreadRecord → ℕ → Out (Step (Unit {0})))
-      → queue.judged t q id f ≡ onAnswer {A = Filed} (judgement t (q .halted) id) (kept t q) (λ a. f (a .thread) (a .index))
-  unfolding queue.judged judgement ifLess choose onRecord onIndex onAnswer
-  judged-apart f = go (ltb maxRecords (length t)) (q .halted) (recordAt t id)
+  judged-apart : (f : ThreadRecord → ℕ → Out (Step (Unit {0}))) (g : Filed → Out (Step (Unit {0}))) → ((r : ThreadRecord) (k : ℕ) → f r k ≡ g (filedOf r k))
+      → queue.judged t q id f ≡ onAnswer {A = Filed} (judgement t (q .halted) id) (kept t q) g
+  unfolding queue.judged judgement ifLess choose onRecord onIndex onAnswer given
+  judged-apart f g same = go (ltb maxRecords (length t)) (q .halted) (recordAt t id)
     where
       filed : (r : ThreadRecord) (bad : Bool) (i : IndexFor)
           → choose bad (kept t q 11) (onIndex i (kept t q 2) (λ k. f r k))
-          ≡ onAnswer {A = Filed} (choose bad (refused 11) (onIndex i (refused 2) (λ k. value (record { thread = r; index = k })))) (kept t q) (λ a. f (a .thread) (a .index))
+          ≡ onAnswer {A = Filed} (choose bad (refused 11) (onIndex i (refused 2) (λ k. value (filedOf r k)))) (kept t q) g
       filed r true i = refl
       filed r false indexed.None = refl
-      filed r false (indexed.Index k) = refl
+      filed r false (indexed.Index k) = same r k
 
       go : (large halted : Bool) (x : RecordRead)
           → choose large (kept t q 10) (choose halted (kept t q 9) (onRecord x (kept t q 4) (λ r. choose (isBadRecord r) (kept t q 11) (onIndex (indexFor (r .parameters) (r .runtime)) (kept t q 2) (λ k. f r k)))))
-          ≡ onAnswer {A = Filed} (choose large (refused 10) (choose halted (refused 9) (onRecord x (refused 4) (λ r. choose (isBadRecord r) (refused 11) (onIndex (indexFor (r .parameters) (r .runtime)) (refused 2) (λ k. value (record { thread = r; index = k })))))))
-          (kept t q) (λ a. f (a .thread) (a .index))
+          ≡ onAnswer {A = Filed} (choose large (refused 10) (choose halted (refused 9) (onRecord x (refused 4) (λ r. choose (isBadRecord r) (refused 11) (onIndex (indexFor (r .parameters) (r .runtime)) (refused 2) (λ k. value (filedOf r k)))))))
+          (kept t q) g
       go true halted x = refl
       go false true x = refl
       go false false read.Damaged = refl
@@ -82,15 +82,15 @@ module _ (t : List ThreadRecord) (q : CpuRunQueue) (id : ℕ) where
   enqueue-filed : (front : Bool) (c : CpuIndex) (f : Filed) (unqueued here : Bool)
       → choose unqueued
       (choose here
-      (given (membershipFor (f .thread .parameters .policy) c)
-      (λ m. queue.worked q m (f .index) (insertWork front (isFifo (f .thread .parameters .policy)) (isBudget (f .thread .parameters .policy)) t (partsOf q m (f .index)) id m)))
+      (given (membershipFor (f .policy) c)
+      (λ m. queue.worked q m (f .index) (insertWork front (isFifo (f .policy)) (isBudget (f .policy)) t (partsOf q m (f .index)) id m)))
       (kept t q 2))
       (kept t q 3)
       ≡ onAnswer {A = Plan} (choose unqueued
       (choose here
-      (given (membershipFor (f .thread .parameters .policy) c)
-      (λ m. given (isFifo (f .thread .parameters .policy))
-      (λ fifo. given (isBudget (f .thread .parameters .policy))
+      (given (membershipFor (f .policy) c)
+      (λ m. given (isFifo (f .policy))
+      (λ fifo. given (isBudget (f .policy))
       (λ budgeted. value (record { membership = m; index = f .index; fifo = fifo; budgeted = budgeted })))))
       (refused 2))
       (refused 3))
@@ -103,19 +103,23 @@ module _ (t : List ThreadRecord) (q : CpuRunQueue) (id : ℕ) where
   -- An enqueue is the work of its plan.
   pub enqueue-apart : (front : Bool) (c : CpuIndex) → enqueueCall front t q id c ≡ onAnswer {A = Plan} (insertionPlan t (q .halted) id c) (kept t q) (insertBy front t q id)
   unfolding enqueueCall insertionPlan planInsertion ifEqual onAnswer andThen
-  enqueue-apart front c = judged-apart _ ∙ go (judgement t (q .halted) id)
+  enqueue-apart front c = judged-apart _ (λ f. onAnswer {A = Plan} (planInsertion f c) (kept t q) (insertBy front t q id)) same ∙ go (judgement t (q .halted) id)
     where
-      go : (x : Answer Filed)
-          → onAnswer {A = Filed} x (kept t q)
-          (λ a. choose (isUnqueued (a .thread .«queue_links» .membership))
-          (choose (eqb (a .thread .cpu .0) (c .0))
-          (given (membershipFor (a .thread .parameters .policy) c)
-          (λ m. queue.worked q m (a .index) (insertWork front (isFifo (a .thread .parameters .policy)) (isBudget (a .thread .parameters .policy)) t (partsOf q m (a .index)) id m)))
+      same : (r : ThreadRecord) (k : ℕ)
+          → choose (isUnqueued (r .«queue_links» .membership))
+          (choose (eqb (r .cpu .0) (c .0))
+          (given (membershipFor (r .parameters .policy) c)
+          (λ m. queue.worked q m k (insertWork front (isFifo (r .parameters .policy)) (isBudget (r .parameters .policy)) t (partsOf q m k) id m)))
           (kept t q 2))
-          (kept t q 3))
+          (kept t q 3)
+          ≡ onAnswer {A = Plan} (planInsertion (filedOf r k) c) (kept t q) (insertBy front t q id)
+      same r k = enqueue-filed front c (filedOf r k) (isUnqueued (r .«queue_links» .membership)) (eqb (r .cpu .0) (c .0))
+
+      go : (x : Answer Filed)
+          → onAnswer {A = Filed} x (kept t q) (λ f. onAnswer {A = Plan} (planInsertion f c) (kept t q) (insertBy front t q id))
           ≡ onAnswer {A = Plan} (andThen x (λ f. planInsertion f c)) (kept t q) (insertBy front t q id)
       go (refused n) = refl
-      go (value f) = enqueue-filed front c f (isUnqueued (f .thread .«queue_links» .membership)) (eqb (f .thread .cpu .0) (c .0))
+      go (value f) = refl
 
   remove-ready : (fifo budgeted : Bool) (c d : CpuIndex) (k : ℕ) (m : QueueMembership)
       → removeReady fifo t q id c d budgeted k m ≡ onAnswer {A = Plan} (planReady fifo c d budgeted k m) (kept t q) (removeBy t q id)
@@ -128,9 +132,9 @@ module _ (t : List ThreadRecord) (q : CpuRunQueue) (id : ℕ) where
       go true = refl
       go false = refl
 
-  remove-held : (c : CpuIndex) (f : Filed) (k : ℕ) → removeFrom t q id c (f .thread) k ≡ onAnswer {A = Plan} (planRemoval f k c) (kept t q) (removeBy t q id)
+  remove-held : (c : CpuIndex) (r : ThreadRecord) (n k : ℕ) → removeFrom t q id c r k ≡ onAnswer {A = Plan} (planRemoval (filedOf r n) k c) (kept t q) (removeBy t q id)
   unfolding removeFrom planRemoval given onMembership onAnswer
-  remove-held c f k = go (isBudget (f .thread .parameters .policy)) (f .thread .«queue_links» .membership)
+  remove-held c r n k = go (isBudget (r .parameters .policy)) (r .«queue_links» .membership)
     where
       go : (budgeted : Bool) (m : QueueMembership)
           → onMembership m (kept t q 1)
@@ -149,29 +153,22 @@ module _ (t : List ThreadRecord) (q : CpuRunQueue) (id : ℕ) where
       go budgeted (membership.Waiting w) = refl
       go budgeted membership.Terminated = refl
 
-  remove-filed : (c : CpuIndex) (f : Filed)
-      → onAnswer {A = ℕ} (treeWith t q id (isBudget (f .thread .parameters .policy)) (f .index)) (kept t q) (λ k. removeFrom t q id c (f .thread) k)
-      ≡ removeFiled t q id c f
+  remove-filed : (c : CpuIndex) (r : ThreadRecord) (n : ℕ)
+      → onAnswer {A = ℕ} (treeWith t q id (isBudget (r .parameters .policy)) n) (kept t q) (λ k. removeFrom t q id c r k)
+      ≡ removeFiled t q id c (filedOf r n)
   unfolding treeWith treeFound removeFiled removalPlan given onAnswer andThen
-  remove-filed c f = go (treeWith t q id (isBudget (f .thread .parameters .policy)) (f .index))
+  remove-filed c r n = go (treeWith t q id (isBudget (r .parameters .policy)) n)
     where
       go : (x : Answer ℕ)
-          → onAnswer {A = ℕ} x (kept t q) (λ k. removeFrom t q id c (f .thread) k)
-          ≡ onAnswer {A = Plan} (andThen x (λ k. planRemoval f k c)) (kept t q) (removeBy t q id)
-      go (refused n) = refl
-      go (value k) = remove-held c f k
+          → onAnswer {A = ℕ} x (kept t q) (λ k. removeFrom t q id c r k)
+          ≡ onAnswer {A = Plan} (andThen x (λ k. planRemoval (filedOf r n) k c)) (kept t q) (removeBy t q id)
+      go (refused m) = refl
+      go (value k) = remove-held c r n k
 
   -- A removal is the judgement, then the work of its plan.
   pub remove-apart : (c : CpuIndex) → removeCall t q id c ≡ onAnswer {A = Filed} (judgement t (q .halted) id) (kept t q) (removeFiled t q id c)
-  unfolding removeCall onAnswer
-  remove-apart c = judged-apart _ ∙ go (judgement t (q .halted) id)
-    where
-      go : (x : Answer Filed)
-          → onAnswer {A = Filed} x (kept t q)
-          (λ a. onAnswer {A = ℕ} (treeWith t q id (isBudget (a .thread .parameters .policy)) (a .index)) (kept t q) (λ k. removeFrom t q id c (a .thread) k))
-          ≡ onAnswer {A = Filed} x (kept t q) (removeFiled t q id c)
-      go (refused n) = refl
-      go (value f) = remove-filed c f
+  unfolding removeCall
+  remove-apart c = judged-apart _ (removeFiled t q id c) (remove-filed c)
 
 -- Going by a plan, or a judgement, of a call.
 module _ {y : Out (Step (Unit {0}))} (t : List ThreadRecord) (q : CpuRunQueue) (id : ℕ) (c : CpuIndex) where
@@ -295,17 +292,17 @@ index-number p r = go (p .policy) (budgetAvailable r) (roleIndex (p .role)) (rol
     go policy.Idle available n h = omega arith
 
 filed-number : (t : List ThreadRecord) (halted : Bool) (id : ℕ) → filedNumber (judgement t halted id) < 12
-unfolding judgement ifLess choose onRecord onIndex
+unfolding judgement ifLess choose onRecord onIndex given
 filed-number t halted id = go (ltb maxRecords (length t)) halted (recordAt t id)
   where
     filed : (r : ThreadRecord) (bad : Bool) (i : IndexFor) → indexNumber i < 12
-        → filedNumber (choose bad (refused 11) (onIndex i (refused 2) (λ k. value (record { thread = r; index = k })))) < 12
+        → filedNumber (choose bad (refused 11) (onIndex i (refused 2) (λ k. value (filedOf r k)))) < 12
     filed r true i h = omega arith
     filed r false indexed.None h = omega arith
     filed r false (indexed.Index k) h = h
 
     go : (large marked : Bool) (x : RecordRead)
-        → filedNumber (choose large (refused 10) (choose marked (refused 9) (onRecord x (refused 4) (λ r. choose (isBadRecord r) (refused 11) (onIndex (indexFor (r .parameters) (r .runtime)) (refused 2) (λ k. value (record { thread = r; index = k }))))))) < 12
+        → filedNumber (choose large (refused 10) (choose marked (refused 9) (onRecord x (refused 4) (λ r. choose (isBadRecord r) (refused 11) (onIndex (indexFor (r .parameters) (r .runtime)) (refused 2) (λ k. value (filedOf r k))))))) < 12
     go true marked x = omega arith
     go false true x = omega arith
     go false false read.Damaged = omega arith
@@ -320,10 +317,10 @@ judged-below t halted id {r} {f} e m =
 insertion-number : (c : CpuIndex) (x : Answer Filed) → filedNumber x < 12 → planNumber (andThen x (λ f. planInsertion f c)) < 12
 unfolding andThen planInsertion ifEqual choose given
 insertion-number c (refused n) h = omega arith
-insertion-number c (value f) h = go (isUnqueued (f .thread .«queue_links» .membership)) (eqb (f .thread .cpu .0) (c .0))
+insertion-number c (value f) h = go (isUnqueued (f .membership)) (eqb (f .cpu .0) (c .0))
   where
     go : (unqueued here : Bool)
-        → planNumber (choose unqueued (choose here (value (record { membership = membershipFor (f .thread .parameters .policy) c; index = f .index; fifo = isFifo (f .thread .parameters .policy); budgeted = isBudget (f .thread .parameters .policy) })) (refused 2)) (refused 3)) < 12
+        → planNumber (choose unqueued (choose here (value (record { membership = membershipFor (f .policy) c; index = f .index; fifo = isFifo (f .policy); budgeted = isBudget (f .policy) })) (refused 2)) (refused 3)) < 12
     go true true = h
     go true false = omega arith
     go false here = omega arith
@@ -359,17 +356,17 @@ found-number t root other id budgeted k h = go (index.contains t root id) budget
 removal-number : (f : Filed) (c : CpuIndex) (x : Answer ℕ) → foundNumber x < 12 → planNumber (andThen x (λ k. planRemoval f k c)) < 12
 unfolding andThen planRemoval given onMembership planReady ifEqual choose
 removal-number f c (refused n) h = omega arith
-removal-number f c (value k) h = go (f .thread .«queue_links» .membership)
+removal-number f c (value k) h = go (f .membership)
   where
     ready : (fifo here : Bool) (m : QueueMembership)
-        → planNumber (choose here (value (record { membership = m; index = k; fifo = fifo; budgeted = isBudget (f .thread .parameters .policy) })) (refused 1)) < 12
+        → planNumber (choose here (value (record { membership = m; index = k; fifo = fifo; budgeted = isBudget (f .policy) })) (refused 1)) < 12
     ready fifo true m = h
     ready fifo false m = omega arith
 
     go : (m : QueueMembership)
         → planNumber (onMembership m (refused 1)
-        (λ d priority. planReady true c d (isBudget (f .thread .parameters .policy)) k (membership.ReadyRealTime d priority))
-        (λ d. planReady false c d (isBudget (f .thread .parameters .policy)) k (membership.ReadyFair d))
+        (λ d priority. planReady true c d (isBudget (f .policy)) k (membership.ReadyRealTime d priority))
+        (λ d. planReady false c d (isBudget (f .policy)) k (membership.ReadyFair d))
         (λ w. refused 1) (refused 1)) < 12
     go membership.None = omega arith
     go (membership.ReadyRealTime d priority) = ready true (eqb (d .0) (c .0)) (membership.ReadyRealTime d priority)
@@ -381,7 +378,7 @@ pub removal-below : (t : List ThreadRecord) (f : Filed) (root other : Link) (id 
 unfolding removalPlan given
 removal-below t f root other id c {r} {p} h e m =
     let path : planNumber (removalPlan t f root other id c) ≡ p .index = sym (ap planNumber e) ∙ ap (λ r. planNumber (plannedAnswer r)) m in
-    let bound : planNumber (removalPlan t f root other id c) < 12 = removal-number f c (treeFound t root other id (isBudget (f .thread .parameters .policy)) (f .index)) (found-number t root other id (isBudget (f .thread .parameters .policy)) (f .index) h) in
+    let bound : planNumber (removalPlan t f root other id c) < 12 = removal-number f c (treeFound t root other id (isBudget (f .policy)) (f .index)) (found-number t root other id (isBudget (f .policy)) (f .index) h) in
     omega arith
 
 pub partner-within : {n k : ℕ} → n ≡ partner k → k < 12 → n < 12

@@ -1,4 +1,5 @@
 // The ready queue of one processor: enqueue at either end and remove. After `CpuRunQueue` of scheduler/queue.rs.
+mod judging;
 mod planning;
 mod work;
 
@@ -17,13 +18,13 @@ ghost use Rattle.queue.specs.Work as work;
 ghost use Rattle.queue.specs.Queue as calls;
 ghost use Rattle.queue.specs.Plan as plans;
 ghost use Rattle.queue.specs.Answers.{stepOf};
+use policy::SchedulingPolicy;
 use refusal::Refusal;
 use thread::CpuIndex;
 use thread::Link;
 use thread::QueueMembership;
 use thread::ThreadId;
 use thread::ThreadQueue;
-use thread::ThreadRecord;
 use time::Epoch;
 
 // The root of one tree.
@@ -55,9 +56,11 @@ pub struct QueueStep {
     pub queue: CpuRunQueue,
 }
 
-// A judged thread, and the number of the tree that it is filed in.
+// What the plans go by of a judged thread, and the number of the tree that it is filed in.
 pub struct Filed {
-    pub thread: ThreadRecord,
+    pub policy: SchedulingPolicy,
+    pub membership: QueueMembership,
+    pub cpu: CpuIndex,
     pub index: u64,
 }
 

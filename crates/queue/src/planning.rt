@@ -11,18 +11,17 @@ use crate::Judgement;
 use crate::Plan;
 use crate::Planned;
 use crate::TreeFound;
+use crate::judging::filed_of_row;
+use crate::judging::index_of_row;
+use crate::judging::is_bad_row;
 use policy::SchedulingPolicy;
 use ready_index::Contained;
 use ready_index::contains;
 use refusal::Refusal;
-use rows::RecordRead;
-use rows::record_at;
 use thread::CpuIndex;
 use thread::IndexFor;
 use thread::Link;
 use thread::QueueMembership;
-use thread::index_for;
-use thread::is_bad_record;
 
 // The named thread is judged: table, mark, number, record and policy, in this order.
 pub fn judge(t: &[[u64; 32]], halted: bool, id: u64) -> Judgement
@@ -34,19 +33,19 @@ pub fn judge(t: &[[u64; 32]], halted: bool, id: u64) -> Judgement
     if halted {
         return Judgement::Refused(Refusal::Halted);
     }
-    let RecordRead::Got(thread) = record_at(t, id) else {
-        return Judgement::Refused(Refusal::NoThread);
-    };
-    if is_bad_record(thread) {
-        return Judgement::Refused(Refusal::BadRecord);
+    let k = id as usize;
+    if k < t.len() {
+        let row = t[k];
+        if is_bad_row(row) {
+            return Judgement::Refused(Refusal::BadRecord);
+        }
+        let filing = index_of_row(row);
+        return match filing {
+            IndexFor::None => Judgement::Refused(Refusal::BadState),
+            IndexFor::Index(index) => Judgement::Filed(filed_of_row(row, index)),
+        };
     }
-    let parameters = thread.parameters;
-    let runtime = thread.runtime;
-    let filing = index_for(parameters, runtime);
-    match filing {
-        IndexFor::None => Judgement::Refused(Refusal::BadState),
-        IndexFor::Index(index) => Judgement::Filed(Filed { thread, index }),
-    }
+    Judgement::Refused(Refusal::NoThread)
 }
 
 pub fn is_fifo(policy: SchedulingPolicy) -> bool
@@ -90,12 +89,9 @@ pub fn membership_for(policy: SchedulingPolicy, cpu: CpuIndex) -> QueueMembershi
 pub fn plan_insertion(filed: Filed, cpu: CpuIndex) -> Planned
     ensures { λ r. ⌜ plannedAnswer r ≡ plans.planInsertion filed cpu ⌝ }
 {
-    let thread = filed.thread;
-    let links = thread.queue_links;
-    let current = links.membership;
-    let assigned = thread.cpu;
-    let parameters = thread.parameters;
-    let policy = parameters.policy;
+    let current = filed.membership;
+    let assigned = filed.cpu;
+    let policy = filed.policy;
     if !current.is_unqueued() {
         return Planned::Refused(Refusal::Already);
     }
@@ -189,12 +185,9 @@ pub fn plan_ready(
 pub fn plan_removal(filed: Filed, index: u64, cpu: CpuIndex) -> Planned
     ensures { λ r. ⌜ plannedAnswer r ≡ plans.planRemoval filed index cpu ⌝ }
 {
-    let thread = filed.thread;
-    let links = thread.queue_links;
-    let parameters = thread.parameters;
-    let policy = parameters.policy;
+    let policy = filed.policy;
     let budgeted = is_budget(policy);
-    let membership = links.membership;
+    let membership = filed.membership;
     match membership {
         QueueMembership::None => Planned::Refused(Refusal::Damaged),
         QueueMembership::ReadyRealTime {
@@ -235,9 +228,7 @@ pub fn removal_plan(
 ) -> Planned
     ensures { λ r. ⌜ plannedAnswer r ≡ plans.removalPlan (table (now (t .entry))) filed root other id cpu ⌝ }
 {
-    let thread = filed.thread;
-    let parameters = thread.parameters;
-    let policy = parameters.policy;
+    let policy = filed.policy;
     let budgeted = is_budget(policy);
     let found = tree_found(t, root, other, id, budgeted, filed.index);
     match found {

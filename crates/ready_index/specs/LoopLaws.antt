@@ -7,7 +7,7 @@ use native.Mathlib.Numerals.{unary-clauses}
 use Prim.Native.Nat.{ℕ, zero, suc, _+_, _-_, _<_, _≤_}
 use lib.Dec.{ltb}
 use lib.ListN.{length, getD, set, length-set}
-use borrow.Author.Tests.{ltb-true, ltb-false, eq-eqb, ne-eqb}
+use borrow.Author.Tests.{ltb-true, ltb-false}
 use Rattle.refusal.specs.Cases.{choose, ifLess, ifEqual}
 use Rattle.thread.specs.declared.Link.{Link}
 use Rattle.thread.specs.declared.Link.the-variants as link
@@ -15,9 +15,8 @@ use Rattle.thread.specs.declared.Links.{Links}
 use Rattle.thread.specs.declared.TreeKey.{TreeKey}
 use Rattle.thread.specs.declared.ThreadRecord.{ThreadRecord}
 use Rattle.thread.specs.Membership.{onLink}
-use Rattle.rows.specs.Table.{Out, out, linksAt, setLinks}
-use Rattle.rows.specs.TableCases.{onLinks, onMade}
-use Rattle.ready_index.specs.declared.Turned.{Turned}
+use Rattle.rows.specs.Table.{Out, out, linksAt}
+use Rattle.rows.specs.TableCases.{onLinks}
 use Rattle.ready_index.specs.declared.Rooted.{Rooted}
 use Rattle.ready_index.specs.declared.Rooted.the-variants as rooted
 use Rattle.ready_index.specs.declared.Least.{Least}
@@ -35,7 +34,7 @@ use Rattle.ready_index.specs.declared.Succeeded.{Succeeded}
 use Rattle.ready_index.specs.declared.Succeeded.the-variants as succeeded
 use Rattle.ready_index.specs.Cases.{onTurned, onWay, onSought}
 use Rattle.ready_index.specs.CasesLaws.{answers}
-use Rattle.ready_index.specs.Index.{descend, wayAt, lookFor, Walk, bottom, lost, walk, hung, rebuildStep, rebuild, soughtAt, Search, found, missing, search, Successor, next, none, successor}
+use Rattle.ready_index.specs.Index.{descend, wayAt, lookFor, Walk, bottom, lost, walk, rebuildStep, rebuild, soughtAt, Search, found, missing, search, Successor, next, none, successor}
 use Rattle.ready_index.specs.Path.{stepOf, stack, walkOf, walkSteps, lastSought, searchOf, searchSteps, successorOf, successorSteps}
 use Rattle.ready_index.specs.PathLaws.{kept, push, pop, no-steps}
 
@@ -152,20 +151,6 @@ lost-steps m = omega arith
 pub walk-within : (r : Walked) (n m : ℕ) → walkSteps r ≤ m → r ≡ walked.Bottom n → 0 + n ≤ m
 unfolding walkSteps
 walk-within r n m h e = let h : n ≤ m = rw e at h in omega arith
-
--- Where the step led to the left, its row has 0.
-module _ (step : List ℕ) (l : Links) (sub : Link) where
-  pub hung-left : {y : Links} → getD step 1 0 ≡ 0 → y ≡ record { left = sub; right = l .right; height = l .height } → y ≡ hung (stepOf step) l sub
-  unfolding hung choose
-  hung-left p h = rw (eq-eqb (getD step 1 0) 0 p) h
-
-  pub hung-right : {y : Links} → (getD step 1 0 ≡ 0 → ⊥) → y ≡ record { left = l .left; right = sub; height = l .height } → y ≡ hung (stepOf step) l sub
-  unfolding hung choose
-  hung-right p h = rw (ne-eqb (getD step 1 0) 0 p) h
-
-  pub hanging : {y : Out Turned} {links : Links} (t : List ThreadRecord) (i : ℕ) (a f : List ThreadRecord → Out Turned) → links ≡ hung (stepOf step) l sub
-      → y ≡ onMade (setLinks t i links) a f → y ≡ onMade (setLinks t i (hung (stepOf step) l sub)) a f
-  hanging t i a f e h = rw (sym e) h
 
 module _ {y : Out Rooted} (rows : List (List ℕ)) (first n : ℕ) (t : List ThreadRecord) (sub : Link) where
   pub up : 0 < n

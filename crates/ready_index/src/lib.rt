@@ -7,15 +7,19 @@ ghost use mathlib.Core.Path.{_≡_};
 ghost use lib.ListN.{length};
 ghost use Rattle.rows.specs.Table.{table, out};
 ghost use Rattle.ready_index.specs.Index as index;
+ghost use Rattle.ready_index.specs.InPlace.{hungAt};
 ghost use Rattle.ready_index.specs.Path.{stepOf, stack, walkOf, walkSteps, lastSought, searchOf, searchSteps, successorOf, successorSteps};
 use order::Ordering;
 use rotations::balance;
+use rotations::rebalance;
 use rows::Change;
 use rows::KeyRead;
 use rows::LinksRead;
 use rows::key_at;
 use rows::links_at;
+use rows::set_left;
 use rows::set_links;
+use rows::set_right;
 use thread::Link;
 use thread::Links;
 use thread::TreeKey;
@@ -231,24 +235,15 @@ fn walk(t: &[[u64; 32]], path: &mut [[u64; 2]], key: TreeKey, root: Link) -> Wal
     }
 }
 
-// The links with a new subtree where the step led.
-fn hung(step: [u64; 2], links: Links, sub: Link) -> Links
-    ensures { λ r. ⌜ r ≡ index.hung (stepOf step) links sub ⌝ }
+// The new subtree hung under a node where the step led.
+fn hang(t: &mut [[u64; 32]], step: [u64; 2], sub: Link) -> Change
+    ensures { λ r. ⌜ out r (table (now (t .exit))) ≡ hungAt (table (now (t .entry))) (stepOf step) sub ⌝ }
 {
-    let left = links.left;
-    let right = links.right;
+    let parent = step[0];
     if step[1] == 0 {
-        return Links {
-            left: sub,
-            right,
-            height: links.height,
-        };
+        return set_left(t, parent, sub);
     }
-    Links {
-        left,
-        right: sub,
-        height: links.height,
-    }
+    set_right(t, parent, sub)
 }
 
 // One step up: the new subtree is hung under the node, which is then balanced.
@@ -256,14 +251,10 @@ fn rebuild_step(t: &mut [[u64; 32]], step: [u64; 2], sub: Link) -> Turned
     ensures { λ r. ⌜ out r (table (now (t .exit))) ≡ index.rebuildStep (table (now (t .entry))) (stepOf step) sub ⌝ }
 {
     let parent = step[0];
-    let LinksRead::Got(links) = links_at(t, parent) else {
+    let Change::Made = hang(t, step, sub) else {
         return Turned::Damaged;
     };
-    let linked = hung(step, links, sub);
-    let Change::Made = set_links(t, parent, linked) else {
-        return Turned::Damaged;
-    };
-    balance(t, parent)
+    rebalance(t, parent)
 }
 
 // Up along so many steps of the path, those from the row `start` on. After `rebuild`.

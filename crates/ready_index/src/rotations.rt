@@ -4,6 +4,7 @@ ghost use mathlib.Core.Path.{_≡_};
 ghost use Rattle.avl.specs.Rotation.{leanOf};
 ghost use Rattle.rows.specs.Table.{table, out};
 ghost use Rattle.ready_index.specs.Balance as spec;
+ghost use Rattle.ready_index.specs.InPlace.{isEven, heightStored};
 use crate::HeightRead;
 use crate::Turned;
 use crate::first;
@@ -12,6 +13,7 @@ use avl::lean_of;
 use rows::Change;
 use rows::LinksRead;
 use rows::links_at;
+use rows::set_height;
 use rows::set_links;
 use thread::Link;
 use thread::Links;
@@ -269,4 +271,57 @@ pub fn balance(t: &mut [[u64; 32]], i: u64) -> Turned
             Turned::Root(i)
         }
     }
+}
+
+// Neither side is higher by two or more.
+pub fn is_even(left: u8, right: u8) -> bool
+    ensures { λ r. ⌜ r ≡ isEven left right ⌝ }
+{
+    let a = left as u64;
+    let b = right as u64;
+    if b + 1 < a {
+        return false;
+    }
+    if a + 1 < b {
+        return false;
+    }
+    true
+}
+
+// The height above sides of these heights, stored at a node that stays where it is.
+pub fn store_height(t: &mut [[u64; 32]], i: u64, left: u8, right: u8) -> Turned
+    ensures { λ r. ⌜ out r (table (now (t .exit))) ≡ heightStored (table (now (t .entry))) i left right ⌝ }
+{
+    let m = larger(left, right);
+    if m < 255 {
+        let Change::Made = set_height(t, i, m + 1) else {
+            return Turned::Damaged;
+        };
+        return Turned::Root(i);
+    }
+    Turned::Damaged
+}
+
+// `balance` for the way up, where nearly every node stays in its place: then the height alone is stored, and no call is made.
+pub fn rebalance(t: &mut [[u64; 32]], i: u64) -> Turned
+    ensures { λ r. ⌜ out r (table (now (t .exit))) ≡ spec.balance (table (now (t .entry))) i ⌝ }
+{
+    let LinksRead::Got(links) = links_at(t, i) else {
+        return Turned::Damaged;
+    };
+    let left = links.left;
+    let right = links.right;
+    let HeightRead::Got(a) = height(t, left) else {
+        return Turned::Damaged;
+    };
+    let HeightRead::Got(b) = height(t, right) else {
+        return Turned::Damaged;
+    };
+    if is_even(a, b) {
+        return store_height(t, i, a, b);
+    }
+    let Turned::Root(top) = balance(t, i) else {
+        return Turned::Damaged;
+    };
+    Turned::Root(top)
 }

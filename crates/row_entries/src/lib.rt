@@ -6,6 +6,8 @@ ghost use Rattle.lists.specs.Answers.{listed};
 ghost use Rattle.lists.specs.Lists as lists;
 ghost use Rattle.ready_index.specs.Index as index;
 ghost use Rattle.row_entries.specs.Words.{listFrom, linkWords, listWords, leastWords, containedWords, rootWords, inWords};
+use codec::link_from;
+use codec::membership_from;
 use lists::Listed;
 use lists::push;
 use lists::push_front;
@@ -15,9 +17,7 @@ use ready_index::Rooted;
 use ready_index::contains;
 use ready_index::first;
 use ready_index::insert;
-use thread::CpuIndex;
 use thread::Link;
-use thread::QueueMembership;
 use thread::ThreadQueue;
 
 // A record's number, or none.
@@ -54,44 +54,12 @@ pub struct ContainsAnswer {
     pub holds: u64,
 }
 
-fn link_of(some: u64, number: u64) -> Link
-    ensures { λ r. ⌜ r ≡ linkFrom some number ⌝ }
-{
-    if some == 0 {
-        return Link::None;
-    }
-    Link::Some(number)
-}
-
-fn membership_of(tag: u64, first: u64, second: u64) -> QueueMembership
-    ensures { λ r. ⌜ r ≡ membershipFrom tag first second ⌝ }
-{
-    if tag == 0 {
-        return QueueMembership::None;
-    }
-    if tag == 1 {
-        return QueueMembership::ReadyRealTime {
-            cpu: CpuIndex((first % 256) as u8),
-            priority: (second % 256) as u8,
-        };
-    }
-    if tag == 2 {
-        return QueueMembership::ReadyFair {
-            cpu: CpuIndex((first % 256) as u8),
-        };
-    }
-    if tag == 3 {
-        return QueueMembership::Waiting { queue: first };
-    }
-    QueueMembership::Terminated
-}
-
 fn list_of(head_some: u64, head: u64, tail_some: u64, tail: u64, len: u64) -> ThreadQueue
     ensures { λ r. ⌜ r ≡ listFrom «head_some» head «tail_some» tail len ⌝ }
 {
     ThreadQueue {
-        head: link_of(head_some, head),
-        tail: link_of(tail_some, tail),
+        head: link_from(head_some, head),
+        tail: link_from(tail_some, tail),
         len,
     }
 }
@@ -145,7 +113,7 @@ pub extern "C" fn rows_list_push(
     ensures { λ r. ⌜ out r (table (now (t .exit))) ≡ inWords listWords (lists.push (table (now (t .entry))) (listFrom «head_some» head «tail_some» tail len) id (membershipFrom tag first second)) ⌝ }
 {
     let list = list_of(head_some, head, tail_some, tail, len);
-    let membership = membership_of(tag, first, second);
+    let membership = membership_from(tag, first, second);
     list_words(push(t, list, id, membership))
 }
 
@@ -166,7 +134,7 @@ pub extern "C" fn rows_list_push_front(
     ensures { λ r. ⌜ out r (table (now (t .exit))) ≡ inWords listWords (lists.pushFront (table (now (t .entry))) (listFrom «head_some» head «tail_some» tail len) id (membershipFrom tag first second)) ⌝ }
 {
     let list = list_of(head_some, head, tail_some, tail, len);
-    let membership = membership_of(tag, first, second);
+    let membership = membership_from(tag, first, second);
     list_words(push_front(t, list, id, membership))
 }
 
@@ -187,7 +155,7 @@ pub extern "C" fn rows_list_remove(
     ensures { λ r. ⌜ out r (table (now (t .exit))) ≡ inWords listWords (lists.remove (table (now (t .entry))) (listFrom «head_some» head «tail_some» tail len) id (membershipFrom tag first second)) ⌝ }
 {
     let list = list_of(head_some, head, tail_some, tail, len);
-    let membership = membership_of(tag, first, second);
+    let membership = membership_from(tag, first, second);
     list_words(lists::remove(t, list, id, membership))
 }
 
@@ -249,7 +217,7 @@ fn root_words(answer: Rooted) -> IndexAnswer
 pub extern "C" fn rows_index_first(t: &[[u64; 32]], some: u64, number: u64) -> IndexAnswer
     ensures { λ r. ⌜ r ≡ leastWords (index.first (table (now (t .entry))) (linkFrom some number)) ⌝ }
 {
-    let root = link_of(some, number);
+    let root = link_from(some, number);
     least_words(first(t, root))
 }
 
@@ -263,7 +231,7 @@ pub extern "C" fn rows_index_contains(
 ) -> ContainsAnswer
     ensures { λ r. ⌜ r ≡ containedWords (index.contains (table (now (t .entry))) (linkFrom some number) id) ⌝ }
 {
-    let root = link_of(some, number);
+    let root = link_from(some, number);
     contained_words(contains(t, root, id))
 }
 
@@ -278,7 +246,7 @@ pub extern "C" fn rows_index_insert(
 ) -> IndexAnswer
     ensures { λ r. ⌜ out r (table (now (t .exit))) ≡ inWords rootWords (index.insert (table (now (t .entry))) (linkFrom some number) id) ⌝ }
 {
-    let root = link_of(some, number);
+    let root = link_from(some, number);
     root_words(insert(t, path, root, id))
 }
 
@@ -293,6 +261,6 @@ pub extern "C" fn rows_index_remove(
 ) -> IndexAnswer
     ensures { λ r. ⌜ out r (table (now (t .exit))) ≡ inWords rootWords (index.remove (table (now (t .entry))) (linkFrom some number) id) ⌝ }
 {
-    let root = link_of(some, number);
+    let root = link_from(some, number);
     root_words(ready_index::remove(t, path, root, id))
 }

@@ -6,11 +6,12 @@ use lib.ListN.{length, getD, set, length-map, List·getD-map}
 use borrow.Author.Tests.{lt-ltb, le-ltb}
 use Rattle.refusal.specs.Cases.{choose, ifLess}
 use Rattle.algorithms.specs.declared.PolicyRuntime.{PolicyRuntime}
+use Rattle.thread.specs.declared.Link.{Link}
 use Rattle.thread.specs.declared.Links.{Links}
 use Rattle.thread.specs.declared.QueueLinks.{QueueLinks}
 use Rattle.thread.specs.declared.ThreadRecord.{ThreadRecord}
 use Rattle.thread.specs.declared.TreeKey.{TreeKey}
-use Rattle.thread.specs.Records.{withRuntime, withTurn, withLinks, withQueueLinks}
+use Rattle.thread.specs.Records.{withRuntime, withTurn, withLinks, withLeft, withRight, withHeight, withQueueLinks}
 use Rattle.thread.specs.TreeKey.{readyIndexKey}
 use Rattle.codec.specs.Codec.{decoded, linksOf, queueLinksOf}
 use Rattle.rows.specs.declared.LinksRead.the-variants as links
@@ -18,7 +19,7 @@ use Rattle.rows.specs.declared.KeyRead.the-variants as key
 use Rattle.rows.specs.declared.QueueLinksRead.the-variants as queueLinks
 use Rattle.rows.specs.declared.RecordRead.the-variants as read
 use Rattle.rows.specs.declared.Change.the-variants as change
-use Rattle.rows.specs.Table.{out, table, recordOf, changed, reading, storing, linksAt, keyAt, queueLinksAt, recordAt, setLinks, setQueueLinks, setRuntime, setTurn}
+use Rattle.rows.specs.Table.{out, table, recordOf, changed, reading, storing, linksAt, keyAt, queueLinksAt, recordAt, setLinks, setLeft, setRight, setHeight, setQueueLinks, setRuntime, setTurn}
 
 map-set : (rows : List (List ℕ)) (i : ℕ) (w : List ℕ) → map decoded (set rows i w) ≡ set (map decoded rows) i (decoded w)
 map-set [] i w = refl
@@ -100,6 +101,33 @@ module _ (rows : List (List ℕ)) (i : ℕ) where
   pub set-links-outside : (l : Links) → length rows ≤ i → out change.Damaged (table rows) ≡ setLinks (table rows) i l
   unfolding setLinks
   set-links-outside l = storing-none (withLinks l)
+
+  pub set-left-inside : (l : Link) (w : List ℕ) → i < length rows → decoded w ≡ withLeft l (decoded (getD rows i []))
+      → out change.Made (table (set rows i w)) ≡ setLeft (table rows) i l
+  unfolding setLeft
+  set-left-inside l = storing-row (withLeft l)
+
+  pub set-left-outside : (l : Link) → length rows ≤ i → out change.Damaged (table rows) ≡ setLeft (table rows) i l
+  unfolding setLeft
+  set-left-outside l = storing-none (withLeft l)
+
+  pub set-right-inside : (l : Link) (w : List ℕ) → i < length rows → decoded w ≡ withRight l (decoded (getD rows i []))
+      → out change.Made (table (set rows i w)) ≡ setRight (table rows) i l
+  unfolding setRight
+  set-right-inside l = storing-row (withRight l)
+
+  pub set-right-outside : (l : Link) → length rows ≤ i → out change.Damaged (table rows) ≡ setRight (table rows) i l
+  unfolding setRight
+  set-right-outside l = storing-none (withRight l)
+
+  pub set-height-inside : (n : ℕ) (w : List ℕ) → i < length rows → decoded w ≡ withHeight n (decoded (getD rows i []))
+      → out change.Made (table (set rows i w)) ≡ setHeight (table rows) i n
+  unfolding setHeight
+  set-height-inside n = storing-row (withHeight n)
+
+  pub set-height-outside : (n : ℕ) → length rows ≤ i → out change.Damaged (table rows) ≡ setHeight (table rows) i n
+  unfolding setHeight
+  set-height-outside n = storing-none (withHeight n)
 
   pub set-queue-links-inside : (l : QueueLinks) (w : List ℕ) → i < length rows → decoded w ≡ withQueueLinks l (decoded (getD rows i []))
       → out change.Made (table (set rows i w)) ≡ setQueueLinks (table rows) i l

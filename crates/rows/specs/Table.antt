@@ -4,10 +4,11 @@ use mathlib.Core.List.{List, [], map}
 use lib.ListN.{length, getD, set}
 use Rattle.refusal.specs.Cases.{ifLess}
 use Rattle.algorithms.specs.declared.PolicyRuntime.{PolicyRuntime}
+use Rattle.thread.specs.declared.Link.{Link}
 use Rattle.thread.specs.declared.Links.{Links}
 use Rattle.thread.specs.declared.QueueLinks.{QueueLinks}
 use Rattle.thread.specs.declared.ThreadRecord.{ThreadRecord}
-use Rattle.thread.specs.Records.{withRuntime, withTurn, withLinks, withQueueLinks}
+use Rattle.thread.specs.Records.{withRuntime, withTurn, withLinks, withLeft, withRight, withHeight, withQueueLinks}
 use Rattle.thread.specs.TreeKey.{readyIndexKey}
 use Rattle.codec.specs.Codec.{decoded}
 use Rattle.rows.specs.declared.LinksRead.{LinksRead}
@@ -66,6 +67,16 @@ recordAt t i = reading t i (λ r. read.Got r) read.Damaged
 
 unfoldable pub setLinks : List ThreadRecord → ℕ → Links → Out Change
 setLinks t i l = storing t i (withLinks l)
+
+-- One of the tree links, or their height; the others stay.
+unfoldable pub setLeft : List ThreadRecord → ℕ → Link → Out Change
+setLeft t i l = storing t i (withLeft l)
+
+unfoldable pub setRight : List ThreadRecord → ℕ → Link → Out Change
+setRight t i l = storing t i (withRight l)
+
+unfoldable pub setHeight : List ThreadRecord → ℕ → ℕ → Out Change
+setHeight t i n = storing t i (withHeight n)
 
 unfoldable pub setQueueLinks : List ThreadRecord → ℕ → QueueLinks → Out Change
 setQueueLinks t i l = storing t i (withQueueLinks l)

@@ -12,19 +12,22 @@ use Rattle.policy.specs.declared.SchedulingParameters.{SchedulingParameters}
 use Rattle.policy.specs.declared.SchedulingPolicy.the-variants as policy
 use Rattle.policy.specs.PolicyCases.{onPolicy}
 use Rattle.algorithms.specs.declared.PolicyRuntime.{PolicyRuntime}
+use Rattle.thread.specs.declared.Link.{Link}
 use Rattle.thread.specs.declared.Links.{Links}
 use Rattle.thread.specs.declared.QueueLinks.{QueueLinks}
 use Rattle.thread.specs.declared.ThreadRecord.{ThreadRecord}
 use Rattle.thread.specs.declared.TreeKey.{TreeKey}
-use Rattle.thread.specs.Records.{withRuntime, withTurn, withLinks, withQueueLinks}
+use Rattle.thread.specs.Records.{withRuntime, withTurn, withLinks, withLeft, withRight, withQueueLinks}
 use Rattle.thread.specs.TreeKey.{algorithmKey, treeKey, readyIndexKey}
 use Rattle.codec.specs.Codec.{decoded}
+use Rattle.rows.specs.declared.LinksRead.{LinksRead}
 use Rattle.rows.specs.declared.LinksRead.the-variants as links
 use Rattle.rows.specs.declared.KeyRead.the-variants as key
 use Rattle.rows.specs.declared.QueueLinksRead.the-variants as queueLinks
 use Rattle.rows.specs.declared.RecordRead.the-variants as read
 use Rattle.rows.specs.declared.Change.the-variants as change
-use Rattle.rows.specs.Table.{Out, out, after, recordOf, changed, reading, storing, linksAt, keyAt, queueLinksAt, recordAt, setLinks, setQueueLinks, setRuntime, setTurn}
+use Rattle.rows.specs.Table.{Out, out, after, recordOf, changed, reading, storing, linksAt, keyAt, queueLinksAt, recordAt, setLinks, setLeft, setRight, setHeight, setQueueLinks, setRuntime, setTurn}
+use Rattle.rows.specs.TableCases.{onLinks}
 
 -- One lemma about `set` at the same place, one at another, one beyond the end.
 get-set-same : {A : Type 0} (l : List A) (i : ℕ) (a d : A) → i < length l → getD (set l i a) i d ≡ a
@@ -207,6 +210,41 @@ module _ (t : List ThreadRecord) (i : ℕ) (l : Links) where
   pub queue-links-set-links : (j : ℕ) → queueLinksAt (after (setLinks t i l)) j ≡ queueLinksAt t j
   unfolding queueLinksAt
   queue-links-set-links j = rw after-set-links (reading-kept t i (withLinks l) (λ (r : ThreadRecord). queueLinks.Got (r .«queue_links»)) queueLinks.Damaged j refl)
+
+-- A store of one tree link or of the height is a store of the links that were read with it.
+module _ (t : List ThreadRecord) (i : ℕ) {l : Links} (e : linksAt t i ≡ links.Got l) where
+  links-read : recordOf t i .«ready_tree» ≡ l
+  unfolding onLinks
+  links-read = ap (λ (x : LinksRead). onLinks x l (λ m. m)) (sym (links-within t i (links-got-within t i e)) ∙ e)
+
+  pub set-left-links : (sub : Link) → setLeft t i sub ≡ setLinks t i (record { left = sub; right = l .right; height = l .height })
+  unfolding setLeft setLinks storing changed
+  set-left-links sub = rw links-read
+
+  pub set-right-links : (sub : Link) → setRight t i sub ≡ setLinks t i (record { left = l .left; right = sub; height = l .height })
+  unfolding setRight setLinks storing changed
+  set-right-links sub = rw links-read
+
+  pub set-height-links : (n : ℕ) → setHeight t i n ≡ setLinks t i (record { left = l .left; right = l .right; height = n })
+  unfolding setHeight setLinks storing changed
+  set-height-links n = rw links-read
+
+-- Where no links are read, none is stored.
+module _ (t : List ThreadRecord) (i : ℕ) (e : linksAt t i ≡ links.Damaged) where
+  outside : length t ≤ i
+  outside = go (ltb i (length t)) refl
+    where
+      go : (b : Bool) → ltb i (length t) ≡ b → length t ≤ i
+      go true k = let f : linksAt t i ≡ links.Got (recordOf t i .«ready_tree») = links-within t i (ltb-true i (length t) k) in absurd (let z : _≡_ {A = ℕ} 0 1 = cc in omega arith)
+      go false k = ltb-false i (length t) k
+
+  pub set-left-damaged : (sub : Link) → setLeft t i sub ≡ out change.Damaged t
+  unfolding setLeft
+  set-left-damaged sub = storing-beyond t i (withLeft sub) outside
+
+  pub set-right-damaged : (sub : Link) → setRight t i sub ≡ out change.Damaged t
+  unfolding setRight
+  set-right-damaged sub = storing-beyond t i (withRight sub) outside
 
 -- `set_queue_links` changes the list links of its record and nothing else.
 module _ (t : List ThreadRecord) (i : ℕ) (l : QueueLinks) where

@@ -1,15 +1,19 @@
 // The table of records as rows of 32 words, read and changed by a record's number. Each store touches the words of one part.
 ghost use mathlib.Core.Path.{_≡_};
-ghost use Rattle.rows.specs.Table.{table, out, linksAt, keyAt, queueLinksAt, recordAt, setLinks, setQueueLinks, setRuntime, setTurn};
+ghost use Rattle.rows.specs.Table.{table, out, linksAt, keyAt, queueLinksAt, recordAt, setLinks, setLeft, setRight, setHeight, setQueueLinks, setRuntime, setTurn};
 use algorithms::PolicyRuntime;
 use codec::decode;
 use codec::key_of;
 use codec::links_of;
 use codec::queue_links_of;
+use codec::with_height;
+use codec::with_left;
 use codec::with_links;
 use codec::with_queue_links;
+use codec::with_right;
 use codec::with_runtime;
 use codec::with_turn;
+use thread::Link;
 use thread::Links;
 use thread::QueueLinks;
 use thread::ThreadRecord;
@@ -97,6 +101,46 @@ pub fn set_links(t: &mut [[u64; 32]], i: u64, links: Links) -> Change
     if k < t.len() {
         let row = t[k];
         t[k] = with_links(row, links);
+        Change::Made
+    } else {
+        Change::Damaged
+    }
+}
+
+// One of the tree links, or their height alone: two words or one are stored, and none has to be read.
+pub fn set_left(t: &mut [[u64; 32]], i: u64, link: Link) -> Change
+    ensures { λ r. ⌜ out r (table (now (t .exit))) ≡ setLeft (table (now (t .entry))) i link ⌝ }
+{
+    let k = i as usize;
+    if k < t.len() {
+        let row = t[k];
+        t[k] = with_left(row, link);
+        Change::Made
+    } else {
+        Change::Damaged
+    }
+}
+
+pub fn set_right(t: &mut [[u64; 32]], i: u64, link: Link) -> Change
+    ensures { λ r. ⌜ out r (table (now (t .exit))) ≡ setRight (table (now (t .entry))) i link ⌝ }
+{
+    let k = i as usize;
+    if k < t.len() {
+        let row = t[k];
+        t[k] = with_right(row, link);
+        Change::Made
+    } else {
+        Change::Damaged
+    }
+}
+
+pub fn set_height(t: &mut [[u64; 32]], i: u64, height: u8) -> Change
+    ensures { λ r. ⌜ out r (table (now (t .exit))) ≡ setHeight (table (now (t .entry))) i height ⌝ }
+{
+    let k = i as usize;
+    if k < t.len() {
+        let row = t[k];
+        t[k] = with_height(row, height);
         Change::Made
     } else {
         Change::Damaged

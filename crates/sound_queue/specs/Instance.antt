@@ -2,13 +2,15 @@
 use Prim.Native.Nat.{ℕ}
 use mathlib.Core.Path.{_≡_, refl}
 use mathlib.Core.Bool.{true, false, Bool}
-use mathlib.Core.List.{[], _∷_}
+use mathlib.Core.List.{List, [], _∷_}
 use Rattle.refusal.specs.Cases.{choose, ifLess, ifEqual, given}
 use Rattle.order.specs.Order.{compareNumbers, thenBy, compareParts, onOrdering}
+use Rattle.policy.specs.declared.SchedulingPolicy.the-variants as policy
 use Rattle.policy.specs.PolicyCases.{onPolicy, onRole, onBackend, onBudget}
 use Rattle.policy.specs.Budget.{soundBudget}
 use Rattle.algorithms.specs.Runtime.{onRuntime, sameKind, candidateKey}
 use Rattle.avl.specs.Rotation.{leanOf, onLean}
+use Rattle.thread.specs.declared.ThreadRecord.{ThreadRecord}
 use Rattle.thread.specs.Membership.{onLink, onMembership, onCpu, isNone, pointsTo, isUnqueued, isReadyRealTime, isReadyFair, isWaiting, isTerminated, sameMembership, readyCpu}
 use Rattle.thread.specs.Judgement.{hasBudget, isBadBudget, isBadRecord}
 use Rattle.thread.specs.Filing.{budgetAvailable, roleIndex, indexFor, onIndex}
@@ -44,37 +46,48 @@ two = leftBy (enqueueAt false 0 ∷ enqueueAt true 2 ∷ []) newQueue nine
 abbrev pair : ℕ → Bool
 pair = including 2 (including 0 nobody)
 
--- No rule refuses the FIFO thread of the sample table, nor the fair one, nor either budget thread.
-pub may-enqueue : (MayEnqueue (cpu 0) nine 0) × (MayEnqueue (cpu 0) nine 1) × (MayEnqueue (cpu 0) nine 2) × (MayEnqueue (cpu 0) nine 3)
-unfolding choose ifLess ifEqual given compareNumbers thenBy compareParts onOrdering onPolicy onRole onBackend onBudget soundBudget onRuntime sameKind candidateKey leanOf onLean onLink onMembership onCpu isNone pointsTo isUnqueued isReadyRealTime isReadyFair isWaiting isTerminated sameMembership readyCpu hasBudget isBadBudget isBadRecord budgetAvailable roleIndex indexFor onIndex algorithmKey treeKey readyIndexKey parts compareTreeKeys recordOf changed reading storing linksAt keyAt queueLinksAt recordAt setLinks setQueueLinks onLinks onKey onQueueLinks onRecord onMade assignedTo headAgrees tailAgrees endsAgree preflightInsert previousValid nextValid validateNeighbors onAnswer onOut setNext setPrevious commitInsert commitRemove append prepend push pushFront updatePreviousLink updateNextLink unlink list.remove onHeight onTurned onRooted onWay onSought height larger update rotateLeft rotateRight balanceLeft balanceRight balance wayAt lookFor contains onWalk walk hung rebuildStep rebuild insert soughtAt onSearch search onSuccessor successor replace index.remove countedIn countedOut totalIn totalOut pushAt insertWork removeWork listOf partsOf withParts worked isFifo isBudget membershipFor judged enqueueCall partner onContained treeWith removeReady removeFrom removeCall made andAfter then leftBy
-may-enqueue = (
-  record { below = omega arith; judged = refl; notIdle = λ e. let z : _≡_ {A = ℕ} 0 1 = cc in omega arith; unqueued = refl; assigned = refl; fits = omega arith },
-  record { below = omega arith; judged = refl; notIdle = λ e. let z : _≡_ {A = ℕ} 0 1 = cc in omega arith; unqueued = refl; assigned = refl; fits = tt },
-  record { below = omega arith; judged = refl; notIdle = λ e. let z : _≡_ {A = ℕ} 0 1 = cc in omega arith; unqueued = refl; assigned = refl; fits = tt },
-  record { below = omega arith; judged = refl; notIdle = λ e. let z : _≡_ {A = ℕ} 0 1 = cc in omega arith; unqueued = refl; assigned = refl; fits = tt },
-)
+-- The budget thread once its time has run out.
+abbrev ranOut : List ThreadRecord
+ranOut = changed (two .table) 2 (withRuntime (budgetThread 0 .runtime))
 
--- Two accepted calls lead there,
-pub two-reached : Reached (cpu 0) pair (two .queue) (two .table)
-unfolding choose ifLess ifEqual given compareNumbers thenBy compareParts onOrdering onPolicy onRole onBackend onBudget soundBudget onRuntime sameKind candidateKey leanOf onLean onLink onMembership onCpu isNone pointsTo isUnqueued isReadyRealTime isReadyFair isWaiting isTerminated sameMembership readyCpu hasBudget isBadBudget isBadRecord budgetAvailable roleIndex indexFor onIndex algorithmKey treeKey readyIndexKey parts compareTreeKeys recordOf changed reading storing linksAt keyAt queueLinksAt recordAt setLinks setQueueLinks onLinks onKey onQueueLinks onRecord onMade assignedTo headAgrees tailAgrees endsAgree preflightInsert previousValid nextValid validateNeighbors onAnswer onOut setNext setPrevious commitInsert commitRemove append prepend push pushFront updatePreviousLink updateNextLink unlink list.remove onHeight onTurned onRooted onWay onSought height larger update rotateLeft rotateRight balanceLeft balanceRight balance wayAt lookFor contains onWalk walk hung rebuildStep rebuild insert soughtAt onSearch search onSuccessor successor replace index.remove countedIn countedOut totalIn totalOut pushAt insertWork removeWork listOf partsOf withParts worked isFifo isBudget membershipFor judged enqueueCall partner onContained treeWith removeReady removeFrom removeCall made andAfter then leftBy
-two-reached =
-    reached.enqueued (including 0 nobody) (one .queue) (two .queue) (one .table) (two .table) true 2
-    (reached.enqueued nobody newQueue (one .queue) nine (one .table) false 0 (reached.new nine (omega arith)) (omega arith) refl) tt refl
+-- What computation gives of the sample table and of these calls.
+pub record Computed : Type 0 where
+  -- No rule refuses the FIFO thread of the sample table, nor the fair one, nor either budget thread.
+  pub mayEnqueue : (MayEnqueue (cpu 0) nine 0) × (MayEnqueue (cpu 0) nine 1) × (MayEnqueue (cpu 0) nine 2) × (MayEnqueue (cpu 0) nine 3)
+  -- Two accepted calls lead to the pair.
+  pub reached : Reached (cpu 0) pair (two .queue) (two .table)
+  -- The second is a queued budget thread, and its record is not bad when its time has run out.
+  pub queued : pair 2 ≡ true
+  pub budgeted : recordOf (two .table) 2 .parameters .policy ≡ policy.Budget
+  pub judged : isBadRecord (withRuntime (budgetThread 0 .runtime) (recordOf (two .table) 2)) ≡ false
 
--- so the queue is sound,
+pub computed : Computed
+unfolding choose ifLess ifEqual given compareNumbers thenBy compareParts onOrdering onPolicy onRole onBackend onBudget soundBudget onRuntime sameKind candidateKey leanOf onLean onLink onMembership onCpu isNone pointsTo isUnqueued isReadyRealTime isReadyFair isWaiting isTerminated sameMembership readyCpu hasBudget isBadBudget isBadRecord budgetAvailable roleIndex indexFor onIndex algorithmKey treeKey readyIndexKey parts compareTreeKeys recordOf changed reading storing linksAt keyAt queueLinksAt recordAt setLinks setQueueLinks onLinks onKey onQueueLinks onRecord onMade assignedTo headAgrees tailAgrees endsAgree preflightInsert previousValid nextValid validateNeighbors onAnswer onOut setNext setPrevious commitInsert commitRemove append prepend push pushFront updatePreviousLink updateNextLink unlink list.remove onHeight onTurned onRooted onWay onSought height larger update rotateLeft rotateRight balanceLeft balanceRight balance wayAt lookFor contains onWalk walk hung rebuildStep rebuild insert soughtAt onSearch search onSuccessor successor replace index.remove countedIn countedOut totalIn totalOut pushAt insertWork removeWork listOf partsOf withParts worked isFifo isBudget membershipFor judged enqueueCall partner onContained treeWith removeReady removeFrom removeCall made andAfter then leftBy including
+computed = record {
+  mayEnqueue = (
+    record { below = omega arith; judged = refl; notIdle = λ e. let z : _≡_ {A = ℕ} 0 1 = cc in omega arith; unqueued = refl; assigned = refl; fits = omega arith },
+    record { below = omega arith; judged = refl; notIdle = λ e. let z : _≡_ {A = ℕ} 0 1 = cc in omega arith; unqueued = refl; assigned = refl; fits = tt },
+    record { below = omega arith; judged = refl; notIdle = λ e. let z : _≡_ {A = ℕ} 0 1 = cc in omega arith; unqueued = refl; assigned = refl; fits = tt },
+    record { below = omega arith; judged = refl; notIdle = λ e. let z : _≡_ {A = ℕ} 0 1 = cc in omega arith; unqueued = refl; assigned = refl; fits = tt },
+  );
+  reached = reached.enqueued (including 0 nobody) (one .queue) (two .queue) (one .table) (two .table) true 2
+      (reached.enqueued nobody newQueue (one .queue) nine (one .table) false 0 (reached.new nine (omega arith)) (omega arith) refl) tt refl;
+  queued = refl;
+  budgeted = refl;
+  judged = refl;
+}
+
+-- The queue is sound,
 pub two-sound : Sound (cpu 0) pair (two .queue) (two .table)
-two-sound = reached-sound two-reached
+two-sound = reached-sound (computed .reached)
 
 -- also when the budget thread's time has run out, so that it stands in the partner of the tree of its filing;
-pub exhausted-sound : Sound (cpu 0) pair (two .queue) (changed (two .table) 2 (withRuntime (budgetThread 0 .runtime)))
-unfolding choose ifLess ifEqual given compareNumbers thenBy compareParts onOrdering onPolicy onRole onBackend onBudget soundBudget onRuntime sameKind candidateKey leanOf onLean onLink onMembership onCpu isNone pointsTo isUnqueued isReadyRealTime isReadyFair isWaiting isTerminated sameMembership readyCpu hasBudget isBadBudget isBadRecord budgetAvailable roleIndex indexFor onIndex algorithmKey treeKey readyIndexKey parts compareTreeKeys recordOf changed reading storing linksAt keyAt queueLinksAt recordAt setLinks setQueueLinks onLinks onKey onQueueLinks onRecord onMade assignedTo headAgrees tailAgrees endsAgree preflightInsert previousValid nextValid validateNeighbors onAnswer onOut setNext setPrevious commitInsert commitRemove append prepend push pushFront updatePreviousLink updateNextLink unlink list.remove onHeight onTurned onRooted onWay onSought height larger update rotateLeft rotateRight balanceLeft balanceRight balance wayAt lookFor contains onWalk walk hung rebuildStep rebuild insert soughtAt onSearch search onSuccessor successor replace index.remove countedIn countedOut totalIn totalOut pushAt insertWork removeWork listOf partsOf withParts worked isFifo isBudget membershipFor judged enqueueCall partner onContained treeWith removeReady removeFrom removeCall made andAfter then leftBy including
-exhausted-sound = refresh-sound two-sound 2 (budgetThread 0 .runtime) refl refl refl
+pub exhausted-sound : Sound (cpu 0) pair (two .queue) ranOut
+exhausted-sound = refresh-sound two-sound 2 (budgetThread 0 .runtime) (computed .queued) (computed .budgeted) (computed .judged)
 
 -- from there it is removed, and the FIFO thread alone is queued.
-pub exhausted-removed : Accepted (cpu 0) pair (excluding 2 pair) 2 (changed (two .table) 2 (withRuntime (budgetThread 0 .runtime)))
-    (removeCall (changed (two .table) 2 (withRuntime (budgetThread 0 .runtime))) (two .queue) 2 (cpu 0))
-unfolding including choose
-exhausted-removed = remove-accepted exhausted-sound 2 refl
+pub exhausted-removed : Accepted (cpu 0) pair (excluding 2 pair) 2 ranOut (removeCall ranOut (two .queue) 2 (cpu 0))
+exhausted-removed = remove-accepted exhausted-sound 2 (computed .queued)
 
 pub alone-queued : (excluding 2 pair 0 ≡ true) × (excluding 2 pair 2 ≡ false) × (excluding 2 pair 1 ≡ false)
 unfolding including excluding choose

@@ -17,8 +17,9 @@ use Rattle.thread.specs.Records.{withRuntime}
 use Rattle.thread.specs.Judgement.{isBadRecord}
 use Rattle.thread.specs.Filing.{roleIndex}
 use Rattle.thread.specs.FilingLaws.{role-index-le}
-use Rattle.rows.specs.Table.{out, recordOf, changed, queueLinksAt}
-use Rattle.rows.specs.TableLaws.{length-changed, record-same, record-other, after-set-runtime, links-set-runtime, key-set-runtime-other, queue-links-set-runtime}
+use Rattle.rows.specs.declared.RecordRead.the-variants as read
+use Rattle.rows.specs.Table.{out, recordOf, recordAt, changed, queueLinksAt}
+use Rattle.rows.specs.TableLaws.{length-changed, record-same, record-other, reading-other, after-set-runtime, links-set-runtime, key-set-runtime-other, queue-links-set-runtime}
 use Rattle.ready_index.specs.declared.Rooted.the-variants as rooted
 use Rattle.ready_index.specs.Index.{insert, remove}
 use Rattle.sound_index.specs.Holds.{besidesLinks}
@@ -31,7 +32,7 @@ use Rattle.sound_queue.specs.Forest.{Forest, placed, Replanted}
 use Rattle.sound_queue.specs.ForestLaws.{forest-still, planted, uprooted}
 use Rattle.sound_queue.specs.Sound.{Queued, Sound, withoutLinks}
 use Rattle.sound_queue.specs.LinksLaws.{besides-queue-links, both-stores, same-parameters, same-runtime, same-cpu, queued-still}
-use Rattle.sound_queue.specs.SoundLaws.{queued-placed, queued-inside}
+use Rattle.sound_queue.specs.SoundLaws.{queued-placed, not-queued-placed, queued-inside}
 use Rattle.sound_queue.specs.Runtimes.{trees-sound, BudgetTree, with-time, exhausted, file-in}
 
 -- The queue with these roots.
@@ -47,17 +48,20 @@ withRoots q roots =
       halted = q .halted;
     }
 
--- The removal is accepted, then the insertion; the queue is sound, with the same threads queued, and of every record only tree links changed, of the thread also the runtime.
-pub record Moved (cpu : CpuIndex) (queued : ℕ → Bool) (q : CpuRunQueue) (t : List ThreadRecord) (i from to : ℕ) (x : PolicyRuntime) : Type 0 where
+-- The removal is accepted, then the insertion; the queue is sound, with the same threads queued, the thread in its new tree and every other where it stood. Of every record
+-- only tree links changed, of the thread also the runtime, and a record that is not queued did not change at all.
+pub record Moved (cpu : CpuIndex) (queued : ℕ → Bool) (q : CpuRunQueue) (t : List ThreadRecord) (place : ℕ → ℕ) (i to : ℕ) (x : PolicyRuntime) : Type 0 where
   pub out-of : List ThreadRecord
   pub rest : Link
-  pub removes : remove t (rootOf q from) i ≡ out (rooted.Root rest) out-of
+  pub removes : remove t (rootOf q (place i)) i ≡ out (rooted.Root rest) out-of
   pub table : List ThreadRecord
   pub top : Link
-  pub inserts : insert (changed out-of i (withRuntime x)) (getD (set (q .indices) from (record { root = rest })) to emptyRoot .root) i ≡ out (rooted.Root top) table
-  pub sound : Sound cpu queued (withRoots q (set (set (q .indices) from (record { root = rest })) to (record { root = top }))) table
+  pub inserts : insert (changed out-of i (withRuntime x)) (getD (set (q .indices) (place i) (record { root = rest })) to emptyRoot .root) i ≡ out (rooted.Root top) table
+  pub sound : Sound cpu queued (withRoots q (set (set (q .indices) (place i) (record { root = rest })) to (record { root = top }))) table
+  pub places : (j : ℕ) → sound .place j ≡ placed i to place j
   pub uprooted : besidesLinks out-of ≡ besidesLinks t
   pub planted : besidesLinks table ≡ besidesLinks (changed out-of i (withRuntime x))
+  pub others : (j : ℕ) → queued j ≡ false → recordAt table j ≡ recordAt t j
 
 module _ {cpu : CpuIndex} {queued : ℕ → Bool} {q : CpuRunQueue} {t : List ThreadRecord} (S : Sound cpu queued q t) (i to : ℕ) (x : PolicyRuntime)
     (e : queued i ≡ true) (b : recordOf t i .parameters .policy ≡ policy.Budget) (g : isBadRecord (withRuntime x (recordOf t i)) ≡ false)
@@ -150,7 +154,21 @@ module _ {cpu : CpuIndex} {queued : ℕ → Bool} {q : CpuRunQueue} {t : List Th
           (λ z. rw (z, placed-same i to (placed i 12 (S .place))) moved-record)
           (λ z. rw (place j z) (other-record j z h))
 
-      moved-by : Moved cpu queued q t i (S .place i) to x
+      other-place : (j : ℕ) → placed i to (placed i 12 (S .place)) j ≡ placed i to (S .place) j
+      other-place j = same-or-not j i
+          (λ z. rw (z, placed-same i to (placed i 12 (S .place)), placed-same i to (S .place)))
+          (λ z. place j z ∙ sym (placed-other i to (S .place) j z))
+
+      not-queued : (j : ℕ) → queued j ≡ false → recordAt (P .table) j ≡ recordAt t j
+      unfolding recordAt
+      not-queued j h =
+          let d : j ≢ i = λ z. let w : true ≡ false = sym e ∙ ap queued (sym z) ∙ h in let y : _≡_ {A = ℕ} 0 1 = cc in omega arith in
+          P .others j (omega (arith, placed-other i 12 (S .place) j d, not-queued-placed S j h)) d
+          ∙ reading-other (R .table) i (withRuntime x) (λ (r : ThreadRecord). read.Got r) read.Damaged j d
+          ∙ R .others j (not-queued-placed S j h) d
+
+      moved-by : Moved cpu queued q t (S .place) i to x
+      unfolding trees-sound
       moved-by = record {
         out-of = R .table;
         rest = R .link;
@@ -161,10 +179,12 @@ module _ {cpu : CpuIndex} {queued : ℕ → Bool} {q : CpuRunQueue} {t : List Th
         sound = trees-sound S (P .table)
             (besides-length refreshed (P .table) (P .besides) ∙ length-changed (R .table) i (withRuntime x) ∙ besides-length t (R .table) (R .besides)) parameters links
             (withRoots q (set roots to (record { root = P .link }))) (placed i to (placed i 12 (S .place))) refl refl refl refl refl (P .forest) stands threads;
+        places = other-place;
         uprooted = R .besides;
         planted = P .besides;
+        others = not-queued;
       }
 
   -- A queued budget thread moves to either tree of its role, with any runtime that its record is not bad with.
-  pub moved : Moved cpu queued q t i (S .place i) to x
+  pub moved : Moved cpu queued q t (S .place) i to x
   moved = let R = is-taken in moved-by R (is-put R)

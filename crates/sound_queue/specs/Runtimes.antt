@@ -36,7 +36,7 @@ use Rattle.sound_queue.specs.ListsLaws.{lists-still, lists-same}
 use Rattle.sound_queue.specs.Sound.{Filed, by-filing, in-partner, Queued, queuedOf, Sound}
 use Rattle.sound_queue.specs.SoundLaws.{queued-inside}
 
-list-at-by : (r q : CpuRunQueue) (n : ℕ) → r .realtime ≡ q .realtime → r .fair ≡ q .fair → listAt r n ≡ listAt q n
+pub list-at-by : (r q : CpuRunQueue) (n : ℕ) → r .realtime ≡ q .realtime → r .fair ≡ q .fair → listAt r n ≡ listAt q n
 unfolding listAt
 list-at-by r q zero a b = b
 list-at-by r q (suc p) a b = ap (λ (l : List ThreadQueue). getD l p emptyQueue) a
@@ -44,15 +44,15 @@ list-at-by r q (suc p) a b = ap (λ (l : List ThreadQueue). getD l p emptyQueue)
 -- Trees and runtimes may change, roots and the queue's epoch too: the queue is sound if the twelve trees stand and each queued record is filed in its tree.
 module _ {cpu : CpuIndex} {queued : ℕ → Bool} {q : CpuRunQueue} {t : List ThreadRecord} (S : Sound cpu queued q t) (s : List ThreadRecord) (l : length s ≡ length t)
     (same : (j : ℕ) → recordOf s j .parameters ≡ recordOf t j .parameters) (links : (j : ℕ) → queueLinksAt s j ≡ queueLinksAt t j) where
-  row-kept : (j : ℕ) → rowOf queued t j ≡ rowOf queued s j
+  pub row-kept : (j : ℕ) → rowOf queued t j ≡ rowOf queued s j
   unfolding rowOf
   row-kept j = rw (same j)
 
-  count-kept : (p : SchedulingPolicy → Bool) → count (length t) (queuedOf p queued t) ≡ count (length s) (queuedOf p queued s)
+  pub count-kept : (p : SchedulingPolicy → Bool) → count (length t) (queuedOf p queued t) ≡ count (length s) (queuedOf p queued s)
   unfolding queuedOf
   count-kept p = rw l (count-same (length t) (queuedOf p queued s) (queuedOf p queued t) (λ j m. rw (same j)))
 
-  pub trees-sound : (r : CpuRunQueue) (place : ℕ → ℕ) → r .realtime ≡ q .realtime → r .fair ≡ q .fair → r .«realtime_len» ≡ q .«realtime_len» → r .«budget_threads» ≡ q .«budget_threads»
+  unfoldable pub trees-sound : (r : CpuRunQueue) (place : ℕ → ℕ) → r .realtime ≡ q .realtime → r .fair ≡ q .fair → r .«realtime_len» ≡ q .«realtime_len» → r .«budget_threads» ≡ q .«budget_threads»
       → r .halted ≡ q .halted → Forest (r .indices) s place → ((j : ℕ) → ltb (place j) 12 ≡ queued j) → ((j : ℕ) → queued j ≡ true → Queued cpu (recordOf s j) (place j))
       → Sound cpu queued r s
   trees-sound r place a b c d e F stands threads = record {
@@ -129,12 +129,12 @@ module _ {cpu : CpuIndex} {queued : ℕ → Bool} {q : CpuRunQueue} {t : List Th
   other-record : (j : ℕ) → j ≢ i → recordOf refreshed j ≡ recordOf t j
   other-record j d = record-other t i (withRuntime x) j d
 
-  same-parameters : (j : ℕ) → recordOf refreshed j .parameters ≡ recordOf t j .parameters
+  pub same-parameters : (j : ℕ) → recordOf refreshed j .parameters ≡ recordOf t j .parameters
   same-parameters j = same-or-not j i
       (λ z. rw (z, record-same t i (withRuntime x) (queued-inside S i e)))
       (λ z. ap (λ (r : ThreadRecord). r .parameters) (other-record j z))
 
-  refreshed-queued : (j : ℕ) → queued j ≡ true → Queued cpu (recordOf refreshed j) (S .place j)
+  pub refreshed-queued : (j : ℕ) → queued j ≡ true → Queued cpu (recordOf refreshed j) (S .place j)
   refreshed-queued j h = same-or-not j i
       (λ z. rw (z, record-same t i (withRuntime x) (queued-inside S i e)) (record {
         judged = g;
@@ -144,7 +144,8 @@ module _ {cpu : CpuIndex} {queued : ℕ → Bool} {q : CpuRunQueue} {t : List Th
       }))
       (λ z. rw (other-record j z) (S .threads j h))
 
-  pub refresh-sound : Sound cpu queued q (changed t i (withRuntime x))
+  unfoldable pub refresh-sound : Sound cpu queued q (changed t i (withRuntime x))
+  unfolding trees-sound
   refresh-sound =
       trees-sound S refreshed (length-changed t i (withRuntime x)) same-parameters
       (λ j. rw (after-set-runtime t i x) at (queue-links-set-runtime t i x j))
@@ -155,3 +156,8 @@ module _ {cpu : CpuIndex} {queued : ℕ → Bool} {q : CpuRunQueue} {t : List Th
         rw (after-set-runtime t i x) at (key-set-runtime t i x j (budget-key-kept (recordOf t i .parameters) x (recordOf t i .runtime) (recordOf t i .«ready_turn») b)),
       )) (S .forest))
       (S .stands) refreshed-queued
+
+  -- It stands in the same tree.
+  pub refresh-place : (j : ℕ) → refresh-sound .place j ≡ S .place j
+  unfolding refresh-sound trees-sound
+  refresh-place j = refl

@@ -3,6 +3,7 @@ use Prim.Native.Nat.{ℕ}
 use Rattle.policy.specs.declared.SchedulingParameters.{SchedulingParameters}
 use Rattle.algorithms.specs.declared.PolicyRuntime.{PolicyRuntime}
 use Rattle.thread.specs.declared.CpuIndex.{CpuIndex}
+use Rattle.thread.specs.declared.Link.{Link}
 use Rattle.thread.specs.declared.Links.{Links}
 use Rattle.thread.specs.declared.QueueLinks.{QueueLinks}
 use Rattle.thread.specs.declared.ThreadRecord.{ThreadRecord}
@@ -22,6 +23,16 @@ withTurn n r =
 abbrev pub withLinks : Links → ThreadRecord → ThreadRecord
 withLinks l r =
     record { parameters = r .parameters; runtime = r .runtime; «ready_turn» = r .«ready_turn»; «ready_tree» = l; «queue_links» = r .«queue_links»; cpu = r .cpu }
+
+-- One of the tree links, or the height of the tree links.
+abbrev pub withLeft : Link → ThreadRecord → ThreadRecord
+withLeft l r = withLinks (record { left = l; right = r .«ready_tree» .right; height = r .«ready_tree» .height }) r
+
+abbrev pub withRight : Link → ThreadRecord → ThreadRecord
+withRight l r = withLinks (record { left = r .«ready_tree» .left; right = l; height = r .«ready_tree» .height }) r
+
+abbrev pub withHeight : ℕ → ThreadRecord → ThreadRecord
+withHeight n r = withLinks (record { left = r .«ready_tree» .left; right = r .«ready_tree» .right; height = n }) r
 
 abbrev pub withQueueLinks : QueueLinks → ThreadRecord → ThreadRecord
 withQueueLinks l r =

@@ -1,7 +1,6 @@
 // A thread's record: links, memberships, keys, filing and the judgement of it. After task/thread.rs, task/wait.rs and scheduler/queue.rs.
 ghost use mathlib.Core.Path.{_≡_};
 ghost use Rattle.thread.specs.Membership.{emptyQueue, isNone, pointsTo, isUnqueued, isReadyRealTime, isReadyFair, isWaiting, isTerminated, sameMembership, readyCpu, isReadyOn};
-ghost use Rattle.order.specs.Order.{compareNumbers};
 ghost use Rattle.thread.specs.TreeKey.{algorithmKey, treeKey, readyIndexKey, compareFromTurn, compareFromBand, compareFromLow, compareTreeKeys};
 ghost use Rattle.thread.specs.Judgement.{hasBudget, isBadBudget, isBadRecord};
 ghost use Rattle.thread.specs.Filing.{budgetAvailable, roleIndex, indexFor};
@@ -313,13 +312,6 @@ pub fn is_ready_on(membership: QueueMembership, cpu: CpuIndex) -> bool
     false
 }
 
-// A byte as a word, so that every part of a key is compared as a number.
-fn wide(value: u8) -> u64
-    ensures { λ r. ⌜ r ≡ value ⌝ }
-{
-    value as u64
-}
-
 // The priority for FIFO, the pass for Stride, otherwise the turn.
 fn algorithm_key(parameters: SchedulingParameters, runtime: PolicyRuntime, turn: u64) -> Wide
     ensures { λ r. ⌜ r ≡ algorithmKey parameters runtime turn ⌝ }
@@ -370,31 +362,29 @@ pub fn ready_index_key(thread: ThreadRecord, id: u64) -> TreeKey
     tree_key(parameters, runtime, thread.ready_turn, id)
 }
 
-fn compare_bands(a: u8, b: u8) -> Ordering
-    ensures { λ r. ⌜ r ≡ compareNumbers a b ⌝ }
-{
-    compare_numbers(wide(a), wide(b))
-}
-
-// Turn and number. Here and below, a later part is looked at only where all before it are equal.
+// Turn and number. Here and below, a later part is looked at only where all before it are equal; a test on the numbers leaves no Ordering to take apart again.
 fn compare_from_turn(a: TreeKey, b: TreeKey) -> Ordering
     ensures { λ r. ⌜ r ≡ compareFromTurn a b ⌝ }
 {
-    match compare_numbers(a.turn, b.turn) {
-        Ordering::Less => Ordering::Less,
-        Ordering::Equal => compare_numbers(a.id, b.id),
-        Ordering::Greater => Ordering::Greater,
+    if a.turn < b.turn {
+        return Ordering::Less;
     }
+    if b.turn < a.turn {
+        return Ordering::Greater;
+    }
+    compare_numbers(a.id, b.id)
 }
 
 fn compare_from_band(a: TreeKey, b: TreeKey) -> Ordering
     ensures { λ r. ⌜ r ≡ compareFromBand a b ⌝ }
 {
-    match compare_bands(a.band, b.band) {
-        Ordering::Less => Ordering::Less,
-        Ordering::Equal => compare_from_turn(a, b),
-        Ordering::Greater => Ordering::Greater,
+    if a.band < b.band {
+        return Ordering::Less;
     }
+    if b.band < a.band {
+        return Ordering::Greater;
+    }
+    compare_from_turn(a, b)
 }
 
 fn compare_from_low(a: TreeKey, b: TreeKey) -> Ordering
@@ -402,11 +392,13 @@ fn compare_from_low(a: TreeKey, b: TreeKey) -> Ordering
 {
     let left = a.algorithm;
     let right = b.algorithm;
-    match compare_numbers(left.low, right.low) {
-        Ordering::Less => Ordering::Less,
-        Ordering::Equal => compare_from_band(a, b),
-        Ordering::Greater => Ordering::Greater,
+    if left.low < right.low {
+        return Ordering::Less;
     }
+    if right.low < left.low {
+        return Ordering::Greater;
+    }
+    compare_from_band(a, b)
 }
 
 // Algorithm, band, turn, number; a later part decides only where all before it are equal.
@@ -415,11 +407,13 @@ pub fn compare_tree_keys(a: TreeKey, b: TreeKey) -> Ordering
 {
     let left = a.algorithm;
     let right = b.algorithm;
-    match compare_numbers(left.high, right.high) {
-        Ordering::Less => Ordering::Less,
-        Ordering::Equal => compare_from_low(a, b),
-        Ordering::Greater => Ordering::Greater,
+    if left.high < right.high {
+        return Ordering::Less;
     }
+    if right.high < left.high {
+        return Ordering::Greater;
+    }
+    compare_from_low(a, b)
 }
 
 fn has_budget(budget: BudgetOption) -> bool

@@ -1,6 +1,6 @@
 -- The ● cases of document 01 about the ready index: the tree that a sequence of calls leaves, as numbers.
 use Prim.Native.Nat.{ℕ}
-use mathlib.Core.List.{List, [], _∷_}
+use mathlib.Core.List.{List, [], _∷_, _++_}
 use Rattle.policy.specs.declared.SchedulingRole.the-variants as role
 use Rattle.policy.specs.Parameters.{ofFifo}
 use Rattle.algorithms.specs.declared.PolicyRuntime.the-variants as runtime
@@ -15,6 +15,7 @@ use Rattle.ready_index.specs.declared.Rooted.{Rooted}
 use Rattle.ready_index.specs.declared.Rooted.the-variants as rooted
 use Rattle.ready_index.specs.Index.{insert, remove}
 use Rattle.worked_cases.specs.Rows.{Row, row}
+use Rattle.worked_cases.specs.Seen.{linkSeen, linksSeen}
 
 -- A FIFO record whose turn decides among those of one priority.
 abbrev turning : ℕ → ThreadRecord
@@ -33,18 +34,13 @@ abbrev insertAll : List ℕ → Out Rooted → Out Rooted
 insertAll [] o = o
 insertAll (i ∷ rest) o = insertAll rest (then insert i o)
 
--- 1 and the number, or 0.
-abbrev linked : Link → List ℕ → List ℕ
-linked link.None rest = 0 ∷ rest
-linked (link.Some n) rest = 1 ∷ n ∷ rest
-
 abbrev linksNumbers : LinksRead → List ℕ
-linksNumbers (links.Got l) = linked (l .left) (linked (l .right) (l .height ∷ []))
+linksNumbers (links.Got l) = linksSeen l
 linksNumbers links.Damaged = []
 
 -- The root, and the links and height of a record.
 abbrev seen : ℕ → Out Rooted → List ℕ
-seen i (out (rooted.Root root) t) = linked root (linksNumbers (linksAt t i))
+seen i (out (rooted.Root root) t) = linkSeen root ++ linksNumbers (linksAt t i)
 seen i (out rooted.Damaged t) = []
 
 abbrev empty : Out Rooted

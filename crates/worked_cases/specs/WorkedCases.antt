@@ -1,33 +1,51 @@
--- The ● cases of document 01, each subject's rows in one table, and one proof over it by computation.
+-- The ● cases of document 01, and others of the queue and of selection, each subject's rows in one table, and one proof over it by computation.
 use mathlib.Core.Path.{_≡_, refl}
 use mathlib.Core.Bool.{true}
 use mathlib.Core.List.{List, _++_}
 use Rattle.refusal.specs.Cases.{choose, ifLess, ifEqual, given}
-use Rattle.time.specs.Time.{rises, periodStart, chargeOf, checkedAdd, periodEnd, onDeadline}
-use Rattle.policy.specs.Budget.{soundBudget}
-use Rattle.policy.specs.PolicyCases.{onPolicy, onRole, onBackend, onBudget}
-use Rattle.budget.specs.Runtime as budget
-use Rattle.arbitration.specs.Config.{soundConfig, ranksRise, newConfig, acceptsBudget}
-use Rattle.arbitration.specs.Window.{newWindow, refreshed, isPriority, isProtected, onMode, usesAllowance, charged, protectionDeadline, dueAt}
-use Rattle.arbitration.specs.Key.{exhaustedOf, shutOut, strictFifo, hurried, favoured, algorithmOf, onAlgorithm, tierOf, keyOf}
-use Rattle.arbitration.specs.Calls as call
-use Rattle.worked_cases.specs.Rows.{Row, allAsSaid}
 use Rattle.order.specs.Order.{compareNumbers, thenBy, compareParts, onOrdering}
+use Rattle.time.specs.Time.{rises, periodStart, chargeOf, checkedAdd, periodEnd, onDeadline}
+use Rattle.policy.specs.PolicyCases.{onPolicy, onRole, onBackend, onBudget}
+use Rattle.policy.specs.Budget.{soundBudget}
+use Rattle.budget.specs.Runtime as budget
+use Rattle.algorithms.specs.Runtime.{onRuntime, sameKind, candidateKey, epochRefreshed, ofBudget}
 use Rattle.avl.specs.Rotation.{leanOf, onLean}
-use Rattle.thread.specs.Membership.{onLink}
+use Rattle.arbitration.specs.Config.{soundConfig, ranksRise, newConfig, acceptsBudget}
+use Rattle.arbitration.specs.Window.{isPriority, isProtected, onMode, usesAllowance, charged, protectionDeadline, dueAt}
+use Rattle.arbitration.specs.Window as windows
+use Rattle.arbitration.specs.Key.{exhaustedOf, shutOut, strictFifo, hurried, favoured, algorithmOf, onAlgorithm, ordinaryRank, tierOf, keyOf, compareKeys}
+use Rattle.arbitration.specs.Calls as call
+use Rattle.thread.specs.Membership.{onLink, onMembership, onCpu, isNone, pointsTo, isUnqueued, isReadyRealTime, isReadyFair, isWaiting, isTerminated, sameMembership, readyCpu, isReadyOn}
+use Rattle.thread.specs.Judgement.{hasBudget, isBadBudget, isBadRecord}
+use Rattle.thread.specs.Filing.{budgetAvailable, roleIndex, indexFor, onIndex}
 use Rattle.thread.specs.TreeKey.{algorithmKey, treeKey, readyIndexKey, parts, compareTreeKeys}
-use Rattle.rows.specs.Table.{recordOf, changed, reading, storing, linksAt, keyAt, setLinks}
-use Rattle.rows.specs.TableCases.{onLinks, onKey, onMade}
+use Rattle.rows.specs.Table.{recordOf, changed, reading, storing, linksAt, keyAt, queueLinksAt, recordAt, setLinks, setQueueLinks, setRuntime}
+use Rattle.rows.specs.TableCases.{onLinks, onKey, onQueueLinks, onRecord, onMade}
+use Rattle.lists.specs.Checks.{assignedTo, headAgrees, tailAgrees, endsAgree, preflightInsert, previousValid, nextValid, validateNeighbors}
+use Rattle.lists.specs.Lists.{onAnswer, onOut, setNext, setPrevious, commitInsert, commitRemove, append, prepend, push, pushFront, updatePreviousLink, updateNextLink, unlink}
+use Rattle.lists.specs.Lists as list
 use Rattle.ready_index.specs.Cases.{onHeight, onTurned, onRooted, onWay, onSought}
-use Rattle.ready_index.specs.Balance as balance
+use Rattle.ready_index.specs.Balance.{height, larger, update, rotateLeft, rotateRight, balanceLeft, balanceRight, balance}
+use Rattle.ready_index.specs.Index.{descend, first, wayAt, lookFor, contains, onWalk, walk, hung, rebuildStep, rebuild, insert, soughtAt, onSearch, search, onSuccessor, successor, replace}
 use Rattle.ready_index.specs.Index as index
+use Rattle.queue.specs.Work.{countedIn, countedOut, totalIn, totalOut, pushAt, insertWork, removeWork}
+use Rattle.queue.specs.Queue.{listOf, partsOf, withParts, worked, isFifo, isBudget, membershipFor, judged, enqueueCall, partner, onContained, treeWith, removeReady, removeFrom, removeCall}
+use Rattle.queue.specs.Samples.{made, andAfter, then, leftBy}
+use Rattle.selection.specs.Leaves.{onLeaves}
+use Rattle.selection.specs.Demands.{candidateOf, demandOf, either, joined, addDemand, comparePasses, lesserPass, onPass, lowestPass, gathered, onCandidate, ofCurrent}
+use Rattle.selection.specs.Renewal.{leastLink, headOf, refreshRecord, refreshRuntime, moveOne, moveAll, withTrees, renewRoles, isEpoch, isHalt, renew}
+use Rattle.selection.specs.Heads.{headAt, gatherHeads, onReady, onKeyOption, comesBefore, lesserReady, readyWith, leastOf}
+use Rattle.selection.specs.Peek.{chosen, peekRunning, peekParts, selectionParts, withSelectionParts, restored, peekNext}
+use Rattle.worked_cases.specs.Rows.{Row, allAsSaid}
 use Rattle.worked_cases.specs.LeafCases.{budgetRows, windowRows}
 use Rattle.worked_cases.specs.TreeCases.{treeRows}
+use Rattle.worked_cases.specs.QueueCases.{queueRows}
+use Rattle.worked_cases.specs.SelectionCases.{selectionRows}
 
 -- Each subject adds its rows here.
 abbrev pub table : List Row
-table = budgetRows ++ windowRows ++ treeRows
+table = budgetRows ++ windowRows ++ treeRows ++ queueRows ++ selectionRows
 
 pub worked-cases : allAsSaid table ≡ true
-unfolding choose ifLess ifEqual given rises periodStart chargeOf checkedAdd periodEnd onDeadline soundBudget onPolicy onRole onBackend onBudget budget.judged budget.refreshedJudged budget.refreshed soundConfig ranksRise newConfig acceptsBudget refreshed isPriority isProtected onMode usesAllowance charged protectionDeadline dueAt exhaustedOf shutOut strictFifo hurried favoured algorithmOf onAlgorithm tierOf keyOf call.judged call.accountCall compareNumbers thenBy compareParts onOrdering leanOf onLean onLink algorithmKey treeKey readyIndexKey parts compareTreeKeys recordOf changed reading storing linksAt keyAt setLinks onLinks onKey onMade onHeight onTurned onRooted onWay onSought balance.height balance.larger balance.update balance.rotateLeft balance.rotateRight balance.balanceLeft balance.balanceRight balance.balance index.wayAt index.walk index.onWalk index.hung index.rebuildStep index.rebuild index.insert index.soughtAt index.search index.onSearch index.successor index.onSuccessor index.replace index.remove
+unfolding choose ifLess ifEqual given compareNumbers thenBy compareParts onOrdering onPolicy onRole onBackend onBudget soundBudget onRuntime sameKind candidateKey leanOf onLean onLink onMembership onCpu isNone pointsTo isUnqueued isReadyRealTime isReadyFair isWaiting isTerminated sameMembership readyCpu hasBudget isBadBudget isBadRecord budgetAvailable roleIndex indexFor onIndex algorithmKey treeKey readyIndexKey parts compareTreeKeys recordOf changed reading storing linksAt keyAt queueLinksAt recordAt setLinks setQueueLinks onLinks onKey onQueueLinks onRecord onMade assignedTo headAgrees tailAgrees endsAgree preflightInsert previousValid nextValid validateNeighbors onAnswer onOut setNext setPrevious commitInsert commitRemove append prepend push pushFront updatePreviousLink updateNextLink unlink list.remove onHeight onTurned onRooted onWay onSought height larger update rotateLeft rotateRight balanceLeft balanceRight balance wayAt lookFor contains onWalk walk hung rebuildStep rebuild insert soughtAt onSearch search onSuccessor successor replace index.remove countedIn countedOut totalIn totalOut pushAt insertWork removeWork listOf partsOf withParts worked isFifo isBudget membershipFor judged enqueueCall partner onContained treeWith removeReady removeFrom removeCall made andAfter then leftBy rises periodStart checkedAdd periodEnd onDeadline epochRefreshed ofBudget budget.judged budget.refreshed budget.refreshedJudged setRuntime descend first isReadyOn soundConfig ranksRise acceptsBudget windows.refreshed isPriority isProtected protectionDeadline dueAt exhaustedOf shutOut strictFifo hurried favoured algorithmOf onAlgorithm ordinaryRank tierOf keyOf compareKeys onLeaves candidateOf demandOf either joined addDemand comparePasses lesserPass onPass lowestPass gathered onCandidate ofCurrent leastLink headOf refreshRecord refreshRuntime moveOne moveAll withTrees renewRoles isEpoch isHalt renew headAt gatherHeads onReady onKeyOption comesBefore lesserReady readyWith leastOf chosen peekRunning peekParts selectionParts withSelectionParts restored peekNext chargeOf newConfig onMode usesAllowance charged call.judged call.accountCall
 worked-cases = refl

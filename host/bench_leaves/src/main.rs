@@ -1,8 +1,8 @@
 //! One window call many times: `bench_leaves --bench NAME --side SIDE --calls N`.
 //!
-//! NAME is refresh, account_dispatch or candidate_key. SIDE is port (the port through C, on words),
-//! rust (the kernel's Rust behind the same words), native (the kernel's Rust on its own types) or
-//! empty (the loop alone). The inputs are the same for all sides; `instructions` counts and divides.
+//! NAME is refresh, account_dispatch or candidate_key. SIDE is port (the port through C, on lent words),
+//! rust (the kernel's Rust behind the same lent words) or native (the kernel's Rust on its own types).
+//! The inputs are the same for all sides; `instructions` counts what the call alone takes.
 
 #[path = "../../compare/src/calls.rs"]
 #[allow(dead_code)]
@@ -21,12 +21,11 @@ use rust::Native;
 const INPUTS: usize = 256;
 const PERIOD: u64 = 10_000_000;
 
-#[derive(Clone, Copy)]
 struct Input {
     window: WindowWords,
     start: u64,
     now: u64,
-    candidate: CandidateWords,
+    candidate: Row,
     mode: u64,
     demand: DemandWords,
 }
@@ -42,110 +41,84 @@ impl Random {
         (u128::from(mixed ^ mixed >> 31) * u128::from(bound) >> 64) as u64
     }
 
-    fn parameters(&mut self) -> ParametersWords {
-        let tag = self.below(3);
-        ParametersWords {
-            policy: PolicyWords {
-                tag,
-                priority: if tag == 0 { self.below(256) } else { 0 },
-            },
-            band: self.below(256),
-            role: self.below(3),
-            weight: 16,
-            quantum_ns: if tag == 1 { 1_000_000 } else { 0 },
-            backend: 0,
-            budget: BudgetOptionWords {
-                some: u64::from(tag == 2),
-                budget: BudgetWords {
-                    budget_ns: 2_000_000,
-                    period_ns: PERIOD,
-                    burst_ns: 1_000_000,
-                },
-            },
-        }
+    /// A candidate's row: the parameters, the pass, whether it has time left, the turn.
+    fn candidate(&mut self) -> Row {
+        let mut row = [0; 32];
+        row[0] = self.below(3);
+        row[1] = if row[0] == 0 { self.below(256) } else { 0 };
+        row[2] = self.below(256);
+        row[3] = self.below(3);
+        row[4] = 16;
+        row[5] = if row[0] == 1 { 1_000_000 } else { 0 };
+        row[7] = u64::from(row[0] == 2);
+        row[8..11].copy_from_slice(&[2_000_000, PERIOD, 1_000_000]);
+        row[13] = self.below(1 << 40);
+        row[14] = u64::from(self.below(4) != 0);
+        row[16] = (1 << 63) + self.below(1 << 20);
+        row
     }
 
     /// Document 01's window, a few milliseconds after the last interval, at times in a new period.
     fn input(&mut self) -> Input {
         let start = self.below(1_000_000) * 1_000_000 + self.below(1_000_000);
+        let mut window = [PERIOD, 2_000_000, 3_000_000, 0, 1, 2, 3, 0, 1, 0, 0, 0];
+        window[7] = self.below(2);
+        window[9] = start / PERIOD;
+        window[10] = self.below(2_000_001);
+        window[11] = self.below(3_000_001);
         Input {
-            window: WindowWords {
-                config: ConfigWords {
-                    period_ns: PERIOD,
-                    priority_allowance_ns: 2_000_000,
-                    protected_floor_ns: 3_000_000,
-                    priority_rank: 0,
-                    budget_rank: 1,
-                    fair_rank: 2,
-                    borrow_rank: 3,
-                    prefer_fair: self.below(2),
-                },
-                epoch: OptionWords {
-                    some: 1,
-                    number: start / PERIOD,
-                },
-                priority_remaining_ns: self.below(2_000_001),
-                protected_remaining_ns: self.below(3_000_001),
-            },
+            window,
             start,
             now: start + self.below(3_000_000),
-            candidate: CandidateWords {
-                parameters: self.parameters(),
-                pass_high: 0,
-                pass_low: self.below(1 << 40),
-                turn: (1 << 63) + self.below(1 << 20),
-                budget_available: u64::from(self.below(4) != 0),
-            },
+            candidate: self.candidate(),
             mode: self.below(5),
-            demand: DemandWords {
-                protected: self.below(2),
-                fair: self.below(2),
-                window_sensitive: self.below(2),
-                eligible_budget: self.below(2),
-                any_budget: self.below(2),
-            },
+            demand: [(); 5].map(|()| self.below(2)),
         }
     }
 }
 
-/// Runs `call` on one input after the other.
-fn repeat<T, R>(inputs: &[T], calls: u64, call: impl Fn(&T) -> R) {
+/// Runs `call` on one input's words after the other's.
+fn repeat(inputs: &[Input], calls: u64, call: impl Fn(&Input, &mut WindowWords, &mut KeyWords)) {
     for number in 0..calls {
         let input = black_box(&inputs[number as usize % INPUTS]);
-        black_box(&call(input));
+        let (mut window, mut key) = (input.window, [0; 9]);
+        call(input, &mut window, &mut key);
+        black_box((&window, &key));
     }
 }
 
 fn run(bench: &str, side: &str, calls: u64) -> Option<()> {
     let mut random = Random(1);
     let inputs: Vec<Input> = (0..INPUTS).map(|_| random.input()).collect();
-    let natives: Vec<Native> = inputs
-        .iter()
-        .map(|i| Native::of(i.window, i.start, i.now, i.candidate, i.mode, i.demand))
-        .collect();
-    match (bench, side) {
-        ("refresh" | "account_dispatch" | "candidate_key", "empty") => {
-            repeat(&inputs, calls, |_| ());
+    let natives: Vec<Native> = inputs.iter().map(Native::of).collect();
+    let native = |call: fn(&mut Native)| {
+        for number in 0..calls {
+            let mut input = natives[number as usize % INPUTS];
+            call(black_box(&mut input));
         }
-        ("refresh", "port") => repeat(&inputs, calls, |i| leaves_window_refresh(i.window, i.now)),
-        ("refresh", "rust") => repeat(&inputs, calls, |i| rust::refresh(i.window, i.now)),
-        ("refresh", "native") => repeat(&natives, calls, Native::refresh),
-        ("account_dispatch", "port") => repeat(&inputs, calls, |i| {
-            let parameters = i.candidate.parameters;
-            leaves_window_account_dispatch(i.window, i.start, i.now, parameters, i.mode)
+    };
+    match (bench, side) {
+        ("refresh", "port") => repeat(&inputs, calls, |i, window, _| {
+            window_refresh(window, i.now);
         }),
-        ("account_dispatch", "rust") => repeat(&inputs, calls, |i| {
-            let parameters = i.candidate.parameters;
-            rust::account_dispatch(i.window, i.start, i.now, parameters, i.mode)
+        ("refresh", "rust") => repeat(&inputs, calls, |i, window, _| {
+            rust::rust_window_refresh(window, i.now);
         }),
-        ("account_dispatch", "native") => repeat(&natives, calls, Native::account_dispatch),
-        ("candidate_key", "port") => repeat(&inputs, calls, |i| {
-            leaves_window_candidate_key(i.window, i.now, i.candidate, i.demand)
+        ("refresh", "native") => native(rust::native_window_refresh),
+        ("account_dispatch", "port") => repeat(&inputs, calls, |i, window, _| {
+            window_account_dispatch(window, i.start, i.now, &i.candidate, i.mode);
         }),
-        ("candidate_key", "rust") => repeat(&inputs, calls, |i| {
-            rust::candidate_key(i.window, i.now, i.candidate, i.demand)
+        ("account_dispatch", "rust") => repeat(&inputs, calls, |i, window, _| {
+            rust::rust_window_account_dispatch(window, i.start, i.now, &i.candidate, i.mode);
         }),
-        ("candidate_key", "native") => repeat(&natives, calls, Native::candidate_key),
+        ("account_dispatch", "native") => native(rust::native_window_account_dispatch),
+        ("candidate_key", "port") => repeat(&inputs, calls, |i, window, key| {
+            window_candidate_key(window, i.now, &i.candidate, &i.demand, key);
+        }),
+        ("candidate_key", "rust") => repeat(&inputs, calls, |i, window, key| {
+            rust::rust_window_candidate_key(window, i.now, &i.candidate, &i.demand, key);
+        }),
+        ("candidate_key", "native") => native(rust::native_window_candidate_key),
         _ => return None,
     }
     Some(())
@@ -164,7 +137,7 @@ fn main() -> ExitCode {
     match ran() {
         Some(()) => ExitCode::SUCCESS,
         None => {
-            eprintln!("usage: bench_leaves --bench NAME --side port|rust|native|empty --calls N");
+            eprintln!("usage: bench_leaves --bench NAME --side port|rust|native --calls N");
             ExitCode::from(2)
         }
     }

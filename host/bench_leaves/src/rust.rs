@@ -1,5 +1,6 @@
-//! The kernel's window calls on words, as the port has them, and on its own types.
+//! The kernel's window calls on lent words, as the port has them, and on its own types.
 
+use crate::Input;
 use crate::calls::*;
 use crate::policy::*;
 use crate::scheduler::algorithms::arbitration::*;
@@ -36,169 +37,141 @@ fn mode_tag(mode: DispatchMode) -> u64 {
     }
 }
 
-fn parameters_of(w: ParametersWords) -> SchedulingParameters {
-    let policy = match w.policy.tag {
-        0 => SchedulingPolicy::fifo(ThreadPriority::new(w.policy.priority as u8)),
+fn parameters_of(w: &Row) -> SchedulingParameters {
+    let policy = match w[0] {
+        0 => SchedulingPolicy::fifo(ThreadPriority::new(w[1] as u8)),
         1 => SchedulingPolicy::Fair,
         2 => SchedulingPolicy::Budget,
         _ => SchedulingPolicy::Idle,
     };
-    let backend = match w.backend {
+    let backend = match w[6] {
         0 => FairBackend::Stride,
         _ => FairBackend::RoundRobin,
     };
-    let b = w.budget.budget;
     SchedulingParameters::of_any(
         policy,
-        ThreadPriority::new(w.band as u8),
-        role_of(w.role),
-        ThreadWeight::of_any(w.weight as u16),
-        w.quantum_ns,
+        ThreadPriority::new(w[2] as u8),
+        role_of(w[3]),
+        ThreadWeight::of_any(w[4] as u16),
+        w[5],
         backend,
-        flag(w.budget.some).then(|| BudgetParameters::of_any(b.budget_ns, b.period_ns, b.burst_ns)),
+        flag(w[7]).then(|| BudgetParameters::of_any(w[8], w[9], w[10])),
     )
 }
 
-fn window_of(w: WindowWords) -> CpuWindow {
-    let c = w.config;
+fn window_of(w: &WindowWords) -> CpuWindow {
     let order = ArbitrationOrder {
-        priority_rank: c.priority_rank as u8,
-        budget_rank: c.budget_rank as u8,
-        fair_rank: c.fair_rank as u8,
-        borrow_rank: c.borrow_rank as u8,
+        priority_rank: w[3] as u8,
+        budget_rank: w[4] as u8,
+        fair_rank: w[5] as u8,
+        borrow_rank: w[6] as u8,
     };
-    let config = ArbitrationConfig::of_any(
-        c.period_ns,
-        c.priority_allowance_ns,
-        c.protected_floor_ns,
-        order,
-        flag(c.prefer_fair),
-    );
-    CpuWindow::of_any(
-        config,
-        flag(w.epoch.some).then_some(w.epoch.number),
-        w.priority_remaining_ns,
-        w.protected_remaining_ns,
-    )
+    let config = ArbitrationConfig::of_any(w[0], w[1], w[2], order, flag(w[7]));
+    CpuWindow::of_any(config, flag(w[8]).then_some(w[9]), w[10], w[11])
 }
 
+/// The whole window's words.
 fn window_words(window: CpuWindow) -> WindowWords {
     let (config, epoch, priority_remaining_ns, protected_remaining_ns) = window.parts();
     let (period_ns, priority_allowance_ns, protected_floor_ns, order, prefer_fair) = config.parts();
-    WindowWords {
-        config: ConfigWords {
-            period_ns,
-            priority_allowance_ns,
-            protected_floor_ns,
-            priority_rank: order.priority_rank.into(),
-            budget_rank: order.budget_rank.into(),
-            fair_rank: order.fair_rank.into(),
-            borrow_rank: order.borrow_rank.into(),
-            prefer_fair: prefer_fair.into(),
-        },
-        epoch: OptionWords {
-            some: epoch.is_some().into(),
-            number: epoch.unwrap_or(0),
-        },
+    [
+        period_ns,
+        priority_allowance_ns,
+        protected_floor_ns,
+        order.priority_rank.into(),
+        order.budget_rank.into(),
+        order.fair_rank.into(),
+        order.borrow_rank.into(),
+        prefer_fair.into(),
+        epoch.is_some().into(),
+        epoch.unwrap_or(0),
         priority_remaining_ns,
         protected_remaining_ns,
-    }
+    ]
 }
 
-fn demand_of(w: DemandWords) -> Demand {
+/// The words that a call can change: its epoch and what remains.
+fn store_progress(words: &mut WindowWords, window: CpuWindow) {
+    words[8..12].copy_from_slice(&window_words(window)[8..12]);
+}
+
+fn demand_of(w: &DemandWords) -> Demand {
     Demand {
-        protected: flag(w.protected),
-        fair: flag(w.fair),
-        window_sensitive: flag(w.window_sensitive),
-        eligible_budget: flag(w.eligible_budget),
-        any_budget: flag(w.any_budget),
+        protected: flag(w[0]),
+        fair: flag(w[1]),
+        window_sensitive: flag(w[2]),
+        eligible_budget: flag(w[3]),
+        any_budget: flag(w[4]),
     }
 }
 
-fn candidate_of(w: CandidateWords) -> Candidate {
+fn candidate_of(w: &Row) -> Candidate {
     Candidate {
-        parameters: parameters_of(w.parameters),
-        fair_pass: u128::from(w.pass_high) << 64 | u128::from(w.pass_low),
-        turn: w.turn,
-        budget_available: flag(w.budget_available),
+        parameters: parameters_of(w),
+        fair_pass: u128::from(w[12]) << 64 | u128::from(w[13]),
+        turn: w[16],
+        budget_available: flag(w[14]),
     }
 }
 
-fn key_words(answer: Option<(DispatchKey, DispatchMode)>) -> KeyOptionWords {
-    let none = KeyWords {
-        urgency: 0,
-        rank: 0,
-        algorithm_rank: 0,
-        algorithm_high: 0,
-        algorithm_low: 0,
-        band: 0,
-        turn: 0,
+fn key_words(answer: Option<(DispatchKey, DispatchMode)>) -> KeyWords {
+    let Some((key, mode)) = answer else {
+        return [0; 9];
     };
-    match answer {
-        None => KeyOptionWords {
-            some: 0,
-            mode: 0,
-            key: none,
-        },
-        Some((key, mode)) => KeyOptionWords {
-            some: 1,
-            mode: mode_tag(mode),
-            key: KeyWords {
-                urgency: key.urgency.into(),
-                rank: key.rank.into(),
-                algorithm_rank: key.algorithm_rank.into(),
-                algorithm_high: (key.algorithm >> 64) as u64,
-                algorithm_low: key.algorithm as u64,
-                band: key.band.into(),
-                turn: key.turn,
-            },
-        },
-    }
+    [
+        1,
+        mode_tag(mode),
+        key.urgency.into(),
+        key.rank.into(),
+        key.algorithm_rank.into(),
+        (key.algorithm >> 64) as u64,
+        key.algorithm as u64,
+        key.band.into(),
+        key.turn,
+    ]
 }
 
 #[inline(never)]
-pub extern "C" fn refresh(window: WindowWords, now: u64) -> StepWords {
+#[unsafe(no_mangle)]
+pub extern "C" fn rust_window_refresh(window: &mut WindowWords, now: u64) -> u64 {
     let mut state = window_of(window);
     state.refresh(now);
-    StepWords {
-        number: 0,
-        window: window_words(state),
-    }
+    store_progress(window, state);
+    0
 }
 
 #[inline(never)]
-pub extern "C" fn account_dispatch(
-    window: WindowWords,
+#[unsafe(no_mangle)]
+pub extern "C" fn rust_window_account_dispatch(
+    window: &mut WindowWords,
     start: u64,
     end: u64,
-    parameters: ParametersWords,
+    row: &Row,
     mode: u64,
-) -> StepWords {
+) -> u64 {
     let mut state = window_of(window);
-    let accepted = state.account_dispatch(start, end, parameters_of(parameters), mode_of(mode));
-    StepWords {
-        number: if accepted { 0 } else { 7 },
-        window: window_words(state),
-    }
+    let accepted = state.account_dispatch(start, end, parameters_of(row), mode_of(mode));
+    store_progress(window, state);
+    if accepted { 0 } else { 7 }
 }
 
 #[inline(never)]
-pub extern "C" fn candidate_key(
-    window: WindowWords,
+#[unsafe(no_mangle)]
+pub extern "C" fn rust_window_candidate_key(
+    window: &mut WindowWords,
     now: u64,
-    candidate: CandidateWords,
-    demand: DemandWords,
-) -> WindowKeyWords {
+    candidate: &Row,
+    demand: &DemandWords,
+    answer: &mut KeyWords,
+) -> u64 {
     let mut state = window_of(window);
-    let answer = state.candidate_key(now, candidate_of(candidate), demand_of(demand));
-    WindowKeyWords {
-        number: 0,
-        key: key_words(answer),
-        window: window_words(state),
-    }
+    let key = state.candidate_key(now, candidate_of(candidate), demand_of(demand));
+    store_progress(window, state);
+    *answer = key_words(key);
+    0
 }
 
-/// One input in the kernel's own types.
+/// One input in the kernel's own types, and room for its key.
 #[derive(Clone, Copy)]
 pub struct Native {
     window: CpuWindow,
@@ -207,46 +180,41 @@ pub struct Native {
     candidate: Candidate,
     mode: DispatchMode,
     demand: Demand,
+    key: Option<(DispatchKey, DispatchMode)>,
 }
 
 impl Native {
-    pub fn of(
-        window: WindowWords,
-        start: u64,
-        now: u64,
-        candidate: CandidateWords,
-        mode: u64,
-        demand: DemandWords,
-    ) -> Self {
+    pub fn of(input: &Input) -> Self {
         Self {
-            window: window_of(window),
-            start,
-            now,
-            candidate: candidate_of(candidate),
-            mode: mode_of(mode),
-            demand: demand_of(demand),
+            window: window_of(&input.window),
+            start: input.start,
+            now: input.now,
+            candidate: candidate_of(&input.candidate),
+            mode: mode_of(input.mode),
+            demand: demand_of(&input.demand),
+            key: None,
         }
     }
+}
 
-    #[inline(never)]
-    pub fn refresh(&self) -> CpuWindow {
-        let mut state = self.window;
-        state.refresh(self.now);
-        state
-    }
+#[inline(never)]
+#[unsafe(no_mangle)]
+pub fn native_window_refresh(input: &mut Native) {
+    input.window.refresh(input.now);
+}
 
-    #[inline(never)]
-    pub fn account_dispatch(&self) -> (CpuWindow, bool) {
-        let mut state = self.window;
-        let accepted =
-            state.account_dispatch(self.start, self.now, self.candidate.parameters, self.mode);
-        (state, accepted)
-    }
+#[inline(never)]
+#[unsafe(no_mangle)]
+pub fn native_window_account_dispatch(input: &mut Native) {
+    let parameters = input.candidate.parameters;
+    let window = &mut input.window;
+    window.account_dispatch(input.start, input.now, parameters, input.mode);
+}
 
-    #[inline(never)]
-    pub fn candidate_key(&self) -> (CpuWindow, Option<(DispatchKey, DispatchMode)>) {
-        let mut state = self.window;
-        let answer = state.candidate_key(self.now, self.candidate, self.demand);
-        (state, answer)
-    }
+#[inline(never)]
+#[unsafe(no_mangle)]
+pub fn native_window_candidate_key(input: &mut Native) {
+    input.key = input
+        .window
+        .candidate_key(input.now, input.candidate, input.demand);
 }

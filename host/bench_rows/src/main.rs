@@ -1,4 +1,5 @@
-//! A tree of N nodes, from which a thread is removed and inserted again, C times: `bench_rows --side SIDE --nodes N --calls C`.
+//! A tree of N nodes, from which a thread is removed and inserted again, C times: `bench_rows --side SIDE --nodes N --calls C`,
+//! with `--kind fifo|stride|round-robin|budget` for the records' policy (stride where it is not given).
 //!
 //! SIDE is port (the port through C, on rows), rust (the kernel's Rust over a slice of nodes with their keys stored) or records (the
 //! kernel's Rust over its own records, whose keys it reads by `ready_index_key`). Keys and order of calls are the same for all;
@@ -7,18 +8,6 @@
 #[path = "../../compare_rows/src/calls.rs"]
 #[allow(dead_code)]
 mod calls;
-#[path = "../../compare/src/generator.rs"]
-#[allow(dead_code)]
-mod generator;
-#[path = "../../compare_rows/src/make.rs"]
-#[allow(dead_code)]
-mod make;
-#[path = "../../compare_rows/src/rows.rs"]
-#[allow(dead_code)]
-mod rows;
-#[path = "../../compare/src/values.rs"]
-#[allow(dead_code)]
-mod values;
 
 include!(concat!(env!("OUT_DIR"), "/source.rs"));
 
@@ -26,11 +15,13 @@ use std::env;
 use std::hint::black_box;
 use std::process::ExitCode;
 
-use calls::{LinkWords, Path, Row, rows_index_insert, rows_index_remove};
-use generator::Random;
+use calls::{LinkWords, rows_index_insert, rows_index_remove};
 use kernel::oracle::{KeptTree, Record, TreeKey, record_tree_key};
 use ready_index::{Links, MutationScratch, Nodes, Tree};
-use values::Picks;
+use tables::generator::Random;
+use tables::make;
+use tables::rows::{self, Path, Row};
+use tables::values::Picks;
 
 trait Side {
     fn insert(&mut self, id: u64);
@@ -176,10 +167,20 @@ fn run(mut side: impl Side, mut random: Random, nodes: u64, calls: u64) {
     }
 }
 
-fn bench(side: &str, nodes: u64, calls: u64) -> Option<()> {
+fn kind_of(name: &str) -> Option<make::Kind> {
+    match name {
+        "fifo" => Some(make::Kind::Fifo),
+        "stride" => Some(make::Kind::Stride),
+        "round-robin" => Some(make::Kind::RoundRobin),
+        "budget" => Some(make::Kind::Budget),
+        _ => None,
+    }
+}
+
+fn bench(side: &str, kind: make::Kind, nodes: u64, calls: u64) -> Option<()> {
     let mut random = Random::new(1);
     let records: Vec<Record> = (0..nodes)
-        .map(|_| make::record(&mut random, make::Kind::Stride))
+        .map(|_| make::record(&mut random, kind))
         .collect();
     match side {
         "port" => run(Port::of(&records), random, nodes, calls),
@@ -199,12 +200,15 @@ fn main() -> ExitCode {
     let ran = || {
         let nodes = value("--nodes")?.parse().ok()?;
         let calls = value("--calls")?.parse().ok()?;
-        bench(value("--side")?, nodes, calls)
+        let kind = kind_of(value("--kind").unwrap_or("stride"))?;
+        bench(value("--side")?, kind, nodes, calls)
     };
     match ran() {
         Some(()) => ExitCode::SUCCESS,
         None => {
-            eprintln!("usage: bench_rows --side port|rust|records --nodes N --calls C");
+            eprintln!(
+                "usage: bench_rows --side port|rust|records --nodes N --calls C [--kind KIND]"
+            );
             ExitCode::from(2)
         }
     }

@@ -2,46 +2,11 @@
 
 use kernel::oracle::{Budget, Config, Runtime};
 
-use crate::tally::Tally;
-use crate::values::Picks;
+use tables::product::{Digits, each};
+use tables::tally::Tally;
+use tables::values::Picks;
 
-/// The digits of one number of a product whose size shows only as the picks are made.
-struct Digits {
-    rest: u128,
-    size: u128,
-}
-
-impl Picks for Digits {
-    fn below(&mut self, bound: u64) -> u64 {
-        let bound = u128::from(bound);
-        let digit = self.rest % bound;
-        self.rest /= bound;
-        self.size = self.size.saturating_mul(bound);
-        digit as u64
-    }
-}
-
-/// A step that shares no factor with the picks' bounds, which are below 64.
-fn step_from(least: u128) -> u128 {
-    (least.max(1)..)
-        .find(|step| (2..64).all(|factor| step % factor != 0 || *step == 1))
-        .unwrap_or(1)
-}
-
-/// Calls `check` on at most about `limit` numbers of its product, in even steps.
-fn each(limit: u128, mut check: impl FnMut(&mut Digits)) {
-    let mut number = 0;
-    let mut size = 1;
-    while number < size {
-        let mut digits = Digits {
-            rest: number,
-            size: 1,
-        };
-        check(&mut digits);
-        size = size.max(digits.size);
-        number += step_from(size / limit);
-    }
-}
+use crate::checks::Checks;
 
 fn parameters(tally: &mut Tally, limit: u128) {
     for value in 0..=u16::MAX {
@@ -60,6 +25,7 @@ fn parameters(tally: &mut Tally, limit: u128) {
         tally.params_fair(p.weight(), p.quantum(), p.byte(), p.role(), p.backend())
     });
     each(limit, |p| tally.params_fifo(p.byte(), p.byte(), p.role()));
+    each(limit, |p| tally.policy(p.policy()));
 }
 
 fn budgets(tally: &mut Tally, limit: u128) {
@@ -141,6 +107,8 @@ fn configs(tally: &mut Tally, limit: u128) {
         tally.config_accepts(config, params);
         let backend = p.backend();
         tally.config_admits(config, params, backend);
+        let prefer = p.flag();
+        tally.config_with_prefer_fair(config, prefer);
     });
 }
 
@@ -149,6 +117,7 @@ fn windows(tally: &mut Tally, limit: u128, pick: fn(&mut Digits) -> Config) {
         let config = pick(p);
         let now = p.reading(config.period);
         let window = p.window(config, now);
+        tally.window_period_ns(window);
         tally.window_refresh(window, now);
         tally.window_period_deadline(window, now);
         let waiting = p.flag();

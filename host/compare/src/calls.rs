@@ -1,182 +1,121 @@
-//! The words that cross the C boundary, in the layout of the port's crate `words`, and the calls of its crate `leaves`.
+//! The port's calls on lent words, of its crates record_entries and window_entries. What the words stand for: crates/codec/specs/Codec.antt for a row,
+//! crates/window_words/specs/WindowWords.antt and crates/record_entries/specs/RecordWords.antt for the others.
 
-macro_rules! words {
-    ($($name:ident { $($field:ident: $kind:ty),+ $(,)? })+) => {
-        $(
-            #[repr(C)]
-            #[derive(Clone, Copy, Debug, PartialEq, Eq)]
-            pub struct $name {
-                $(pub $field: $kind,)+
-            }
-        )+
-    };
-}
+pub type Row = [u64; 32];
+pub type WindowWords = [u64; 12];
+pub type DemandWords = [u64; 5];
+pub type KeyWords = [u64; 9];
+pub type DeadlineWords = [u64; 2];
+pub type BudgetWords = [u64; 3];
+pub type BudgetRuntimeWords = [u64; 4];
 
-words! {
-    OptionWords { some: u64, number: u64 }
-    PolicyWords { tag: u64, priority: u64 }
-    BudgetWords { budget_ns: u64, period_ns: u64, burst_ns: u64 }
-    BudgetOptionWords { some: u64, budget: BudgetWords }
-    ParametersWords {
-        policy: PolicyWords, band: u64, role: u64, weight: u64, quantum_ns: u64, backend: u64,
-        budget: BudgetOptionWords,
-    }
-    BudgetRuntimeWords { epoch: OptionWords, remaining_ns: u64, burst_remaining_ns: u64 }
-    RuntimeWords { kind: u64, first: u64, second: u64, third: u64, fourth: u64 }
-    ConfigWords {
-        period_ns: u64, priority_allowance_ns: u64, protected_floor_ns: u64,
-        priority_rank: u64, budget_rank: u64, fair_rank: u64, borrow_rank: u64, prefer_fair: u64,
-    }
-    WindowWords {
-        config: ConfigWords, epoch: OptionWords,
-        priority_remaining_ns: u64, protected_remaining_ns: u64,
-    }
-    DemandWords {
-        protected: u64, fair: u64, window_sensitive: u64, eligible_budget: u64, any_budget: u64,
-    }
-    CandidateWords {
-        parameters: ParametersWords, pass_high: u64, pass_low: u64, turn: u64, budget_available: u64,
-    }
-    KeyWords {
-        urgency: u64, rank: u64, algorithm_rank: u64, algorithm_high: u64, algorithm_low: u64,
-        band: u64, turn: u64,
-    }
-    BudgetMadeWords { number: u64, budget: BudgetWords }
-    ParametersOptionWords { some: u64, parameters: ParametersWords }
-    BudgetAnswerWords { number: u64, runtime: BudgetRuntimeWords }
-    DeadlineAnswerWords { number: u64, deadline: OptionWords }
-    BudgetDeadlineWords { number: u64, deadline: OptionWords, runtime: BudgetRuntimeWords }
-    ReconfiguredWords { number: u64, changed: u64, runtime: BudgetRuntimeWords }
-    RuntimeAnswerWords { number: u64, runtime: RuntimeWords }
-    RuntimeDeadlineWords { number: u64, deadline: OptionWords, runtime: RuntimeWords }
-    RuntimeKeyWords { pass_high: u64, pass_low: u64, turn: u64 }
-    ConfigMadeWords { number: u64, config: ConfigWords }
-    WindowMadeWords { number: u64, window: WindowWords }
-    StepWords { number: u64, window: WindowWords }
-    WindowDeadlineWords { answer: DeadlineAnswerWords, window: WindowWords }
-    KeyOptionWords { some: u64, mode: u64, key: KeyWords }
-    WindowKeyWords { number: u64, key: KeyOptionWords, window: WindowWords }
-}
-
-// Every call takes and gives plain numbers by value, keeps nothing and is total.
+// Every call takes plain numbers and lent words, keeps nothing and is total.
 unsafe extern "C" {
-    pub safe fn leaves_budget_parameters_new(
+    pub safe fn budget_parameters_new(
         budget_ns: u64,
         period_ns: u64,
         burst_ns: u64,
-    ) -> BudgetMadeWords;
-    pub safe fn leaves_thread_weight_new(value: u16) -> OptionWords;
-    pub safe fn leaves_parameters_fair(
+        answer: &mut BudgetWords,
+    ) -> u64;
+    pub safe fn thread_weight_new(value: u16) -> u16;
+    pub safe fn policy_class_and_priority(row: &Row, answer: &mut [u64; 2]) -> u64;
+    pub safe fn parameters_fair(
+        row: &mut Row,
         weight: u16,
         quantum_ns: u64,
         band: u8,
         role: u64,
         backend: u64,
-    ) -> ParametersOptionWords;
-    pub safe fn leaves_parameters_budget(
-        budget: BudgetWords,
-        band: u8,
-        role: u64,
-    ) -> ParametersWords;
-    pub safe fn leaves_parameters_fifo(priority: u8, band: u8, role: u64) -> ParametersWords;
-    pub safe fn leaves_parameters_idle() -> ParametersWords;
-    pub safe fn leaves_budget_runtime_new(parameters: BudgetWords) -> BudgetAnswerWords;
-    pub safe fn leaves_budget_refresh(
-        runtime: BudgetRuntimeWords,
-        now: u64,
-        parameters: BudgetWords,
-    ) -> BudgetAnswerWords;
-    pub safe fn leaves_budget_account_interval(
-        runtime: BudgetRuntimeWords,
+    ) -> u64;
+    pub safe fn parameters_budget(row: &mut Row, budget: &BudgetWords, band: u8, role: u64);
+    pub safe fn parameters_fifo(row: &mut Row, priority: u8, band: u8, role: u64);
+    pub safe fn parameters_idle(row: &mut Row);
+
+    pub safe fn budget_new(runtime: &mut BudgetRuntimeWords, budget: &BudgetWords) -> u64;
+    pub safe fn budget_refresh(
+        runtime: &mut BudgetRuntimeWords,
+        now_ns: u64,
+        budget: &BudgetWords,
+    ) -> u64;
+    pub safe fn budget_account_interval(
+        runtime: &mut BudgetRuntimeWords,
         start: u64,
         end: u64,
-        parameters: BudgetWords,
-    ) -> BudgetAnswerWords;
-    pub safe fn leaves_budget_period_deadline(
-        now: u64,
-        parameters: BudgetWords,
-    ) -> DeadlineAnswerWords;
-    pub safe fn leaves_budget_deadline(
-        runtime: BudgetRuntimeWords,
-        now: u64,
-        parameters: BudgetWords,
+        budget: &BudgetWords,
+    ) -> u64;
+    pub safe fn budget_finish_turn(runtime: &mut BudgetRuntimeWords, budget: &BudgetWords) -> u64;
+    pub safe fn budget_period_deadline(
+        now_ns: u64,
+        budget: &BudgetWords,
+        answer: &mut DeadlineWords,
+    ) -> u64;
+    pub safe fn budget_deadline(
+        runtime: &mut BudgetRuntimeWords,
+        now_ns: u64,
+        budget: &BudgetWords,
         borrow: bool,
-    ) -> BudgetDeadlineWords;
-    pub safe fn leaves_budget_finish_turn(
-        runtime: BudgetRuntimeWords,
-        parameters: BudgetWords,
-    ) -> BudgetAnswerWords;
-    pub safe fn leaves_budget_reconfigure(
-        runtime: BudgetRuntimeWords,
-        old: BudgetWords,
-        new: BudgetWords,
-    ) -> ReconfiguredWords;
-    pub safe fn leaves_runtime_new(
-        parameters: ParametersWords,
-        fair: RuntimeWords,
-    ) -> RuntimeAnswerWords;
-    pub safe fn leaves_runtime_account(
-        state: RuntimeWords,
-        parameters: ParametersWords,
-        start: u64,
-        end: u64,
-    ) -> RuntimeAnswerWords;
-    pub safe fn leaves_runtime_epoch_refresh(
-        state: RuntimeWords,
-        now: u64,
-        parameters: ParametersWords,
-    ) -> RuntimeAnswerWords;
-    pub safe fn leaves_runtime_candidate_key(
-        state: RuntimeWords,
-        parameters: ParametersWords,
-        turn: u64,
-    ) -> RuntimeKeyWords;
-    pub safe fn leaves_runtime_next_deadline(
-        state: RuntimeWords,
-        now: u64,
-        parameters: ParametersWords,
+        answer: &mut DeadlineWords,
+    ) -> u64;
+    pub safe fn budget_reconfigure(
+        runtime: &BudgetRuntimeWords,
+        old: &BudgetWords,
+        new: &BudgetWords,
+        answer: &mut [u64; 5],
+    ) -> u64;
+
+    pub safe fn runtime_new(row: &mut Row, pass_high: u64, pass_low: u64, remaining_ns: u64)
+    -> u64;
+    pub safe fn runtime_account(row: &mut Row, start: u64, end: u64) -> u64;
+    pub safe fn runtime_epoch_refresh(row: &mut Row, now_ns: u64) -> u64;
+    pub safe fn runtime_finish_turn(row: &mut Row) -> u64;
+    pub safe fn runtime_candidate_key(row: &Row, turn: u64, answer: &mut [u64; 3]);
+    pub safe fn runtime_next_deadline(
+        row: &mut Row,
+        now_ns: u64,
         competition: bool,
         borrow: bool,
-    ) -> RuntimeDeadlineWords;
-    pub safe fn leaves_runtime_finish_turn(
-        state: RuntimeWords,
-        parameters: ParametersWords,
-    ) -> RuntimeAnswerWords;
-    pub safe fn leaves_config_new(config: ConfigWords) -> ConfigMadeWords;
-    pub safe fn leaves_config_accepts(config: ConfigWords, parameters: ParametersWords) -> bool;
-    pub safe fn leaves_config_admits(
-        config: ConfigWords,
-        parameters: ParametersWords,
-        backend: u64,
-    ) -> bool;
-    pub safe fn leaves_window_new(config: ConfigWords) -> WindowMadeWords;
-    pub safe fn leaves_window_refresh(window: WindowWords, now: u64) -> StepWords;
-    pub safe fn leaves_window_account_dispatch(
-        window: WindowWords,
+        answer: &mut DeadlineWords,
+    ) -> u64;
+
+    pub safe fn config_new(window: &mut WindowWords) -> u64;
+    pub safe fn config_with_prefer_fair(window: &mut WindowWords, prefer_fair: bool);
+    pub safe fn config_accepts(window: &WindowWords, row: &Row) -> bool;
+    pub safe fn config_admits(window: &WindowWords, row: &Row, backend: u64) -> bool;
+    pub safe fn window_new(window: &mut WindowWords) -> u64;
+    pub safe fn window_period_ns(window: &WindowWords) -> u64;
+    pub safe fn window_refresh(window: &mut WindowWords, now_ns: u64) -> u64;
+    pub safe fn window_account_dispatch(
+        window: &mut WindowWords,
         start: u64,
         end: u64,
-        parameters: ParametersWords,
+        row: &Row,
         mode: u64,
-    ) -> StepWords;
-    pub safe fn leaves_window_period_deadline(window: WindowWords, now: u64)
-    -> WindowDeadlineWords;
-    pub safe fn leaves_window_protection_deadline(
-        window: WindowWords,
-        now: u64,
+    ) -> u64;
+    pub safe fn window_period_deadline(
+        window: &mut WindowWords,
+        now_ns: u64,
+        answer: &mut DeadlineWords,
+    ) -> u64;
+    pub safe fn window_protection_deadline(
+        window: &mut WindowWords,
+        now_ns: u64,
         protected_waiting: bool,
-    ) -> WindowDeadlineWords;
-    pub safe fn leaves_window_candidate_key(
-        window: WindowWords,
-        now: u64,
-        candidate: CandidateWords,
-        demand: DemandWords,
-    ) -> WindowKeyWords;
-    pub safe fn leaves_window_next_deadline(
-        window: WindowWords,
-        now: u64,
+        answer: &mut DeadlineWords,
+    ) -> u64;
+    pub safe fn window_next_deadline(
+        window: &mut WindowWords,
+        now_ns: u64,
         mode: u64,
         competition: bool,
-        demand: DemandWords,
-    ) -> WindowDeadlineWords;
-    pub safe fn leaves_compare_keys(a: KeyWords, b: KeyWords) -> u64;
+        demand: &DemandWords,
+        answer: &mut DeadlineWords,
+    ) -> u64;
+    pub safe fn window_candidate_key(
+        window: &mut WindowWords,
+        now_ns: u64,
+        candidate: &Row,
+        demand: &DemandWords,
+        answer: &mut KeyWords,
+    ) -> u64;
+    pub safe fn dispatch_keys_compare(a: &KeyWords, b: &KeyWords) -> u64;
 }

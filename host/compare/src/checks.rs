@@ -2,43 +2,64 @@
 
 use kernel::oracle::{self, *};
 
-use crate::tally::Tally;
+use core::fmt::Debug;
+
+use tables::tally::Tally;
+
 use crate::{expected, port};
 
-impl Tally {
-    pub fn budget_new(&mut self, b: Budget) {
+/// Each comparison, for a tally.
+pub trait Checks {
+    fn compare<T: PartialEq + Debug>(
+        &mut self,
+        function: &'static str,
+        input: impl Debug,
+        port: T,
+        expected: T,
+    );
+
+    fn budget_new(&mut self, b: Budget) {
         let made = port::budget_new(b.budget, b.period, b.burst);
         let wanted = expected::budget_made(b.budget, b.period, b.burst);
         self.compare("BudgetParameters::new", b, made, wanted);
     }
 
-    pub fn weight_new(&mut self, value: u16) {
-        let wanted = oracle::weight_new(value).map(u64::from);
+    fn weight_new(&mut self, value: u16) {
+        let wanted = oracle::weight_new(value);
         self.compare("ThreadWeight::new", value, port::weight_new(value), wanted);
     }
 
-    pub fn params_fair(&mut self, weight: u16, quantum: u64, band: u8, role: Role, f: Backend) {
+    fn params_fair(&mut self, weight: u16, quantum: u64, band: u8, role: Role, f: Backend) {
         let made = port::params_fair(weight, quantum, band, role, f);
         let wanted = oracle::params_fair(weight, quantum, band, role, f);
         let input = (weight, quantum, band, role, f);
         self.compare("SchedulingParameters::fair", input, made, wanted);
     }
 
-    pub fn params_budget(&mut self, budget: Budget, band: u8, role: Role) {
+    fn params_budget(&mut self, budget: Budget, band: u8, role: Role) {
         let made = port::params_budget(budget, band, role);
         let wanted = oracle::params_budget(budget, band, role);
         let input = (budget, band, role);
         self.compare("SchedulingParameters::budget", input, made, wanted);
     }
 
-    pub fn params_fifo(&mut self, priority: u8, band: u8, role: Role) {
+    fn params_fifo(&mut self, priority: u8, band: u8, role: Role) {
         let made = port::params_fifo(priority, band, role);
         let wanted = oracle::params_fifo(priority, band, role);
         let input = (priority, band, role);
         self.compare("SchedulingParameters::fifo", input, made, wanted);
     }
 
-    pub fn params_idle(&mut self) {
+    fn policy(&mut self, policy: Policy) {
+        let given = port::policy_class(policy);
+        let wanted = oracle::policy_class(policy);
+        self.compare("SchedulingPolicy::class", policy, given, wanted);
+        let given = port::policy_priority(policy);
+        let wanted = oracle::policy_priority(policy);
+        self.compare("SchedulingPolicy::priority", policy, given, wanted);
+    }
+
+    fn params_idle(&mut self) {
         let wanted = oracle::params_idle();
         self.compare(
             "SchedulingParameters::idle",
@@ -48,27 +69,27 @@ impl Tally {
         );
     }
 
-    pub fn budget_runtime_new(&mut self, budget: Budget) {
+    fn budget_runtime_new(&mut self, budget: Budget) {
         let made = port::budget_runtime_new(budget);
         let wanted = expected::runtime_of_budget(budget);
         self.compare("BudgetRuntime::new", budget, made, wanted);
     }
 
-    pub fn budget_refresh(&mut self, runtime: BudgetRt, now: u64, budget: Budget) {
+    fn budget_refresh(&mut self, runtime: BudgetRt, now: u64, budget: Budget) {
         let given = port::budget_refresh(runtime, now, budget);
         let wanted = expected::refresh(runtime, now, budget);
         let input = (runtime, now, budget);
         self.compare("BudgetRuntime::refresh", input, given, wanted);
     }
 
-    pub fn budget_account(&mut self, runtime: BudgetRt, start: u64, end: u64, budget: Budget) {
+    fn budget_account(&mut self, runtime: BudgetRt, start: u64, end: u64, budget: Budget) {
         let given = port::budget_account_interval(runtime, start, end, budget);
         let wanted = expected::account_interval(runtime, start, end, budget);
         let input = (runtime, start, end, budget);
         self.compare("BudgetRuntime::account_interval", input, given, wanted);
     }
 
-    pub fn budget_period_deadline(&mut self, now: u64, budget: Budget) {
+    fn budget_period_deadline(&mut self, now: u64, budget: Budget) {
         let given = port::budget_period_deadline(now, budget);
         let wanted = expected::period_deadline(now, budget);
         self.compare(
@@ -79,55 +100,55 @@ impl Tally {
         );
     }
 
-    pub fn budget_deadline(&mut self, runtime: BudgetRt, now: u64, budget: Budget, borrow: bool) {
+    fn budget_deadline(&mut self, runtime: BudgetRt, now: u64, budget: Budget, borrow: bool) {
         let given = port::budget_deadline(runtime, now, budget, borrow);
         let wanted = expected::deadline(runtime, now, budget, borrow);
         let input = (runtime, now, budget, borrow);
         self.compare("BudgetRuntime::deadline", input, given, wanted);
     }
 
-    pub fn budget_finish_turn(&mut self, runtime: BudgetRt, budget: Budget) {
+    fn budget_finish_turn(&mut self, runtime: BudgetRt, budget: Budget) {
         let given = port::budget_finish_turn(runtime, budget);
         let wanted = expected::finish_turn(runtime, budget);
         let input = (runtime, budget);
         self.compare("BudgetRuntime::finish_turn", input, given, wanted);
     }
 
-    pub fn budget_reconfigure(&mut self, runtime: BudgetRt, old: Budget, new: Budget) {
+    fn budget_reconfigure(&mut self, runtime: BudgetRt, old: Budget, new: Budget) {
         let given = port::budget_reconfigure(runtime, old, new);
         let wanted = expected::reconfigure(runtime, old, new);
         let input = (runtime, old, new);
         self.compare("BudgetRuntime::reconfigure", input, given, wanted);
     }
 
-    pub fn runtime_new(&mut self, params: Params, fair: Runtime) {
+    fn runtime_new(&mut self, params: Params, fair: Runtime) {
         let made = port::runtime_new(params, fair);
         let wanted = expected::policy_runtime_new(params, fair);
         self.compare("PolicyRuntime::new", (params, fair), made, wanted);
     }
 
-    pub fn runtime_account(&mut self, runtime: Runtime, params: Params, start: u64, end: u64) {
+    fn runtime_account(&mut self, runtime: Runtime, params: Params, start: u64, end: u64) {
         let given = port::runtime_account(runtime, params, start, end);
         let wanted = expected::account(runtime, params, start, end);
         let input = (runtime, params, start, end);
         self.compare("PolicyRuntime::account", input, given, wanted);
     }
 
-    pub fn runtime_epoch_refresh(&mut self, runtime: Runtime, now: u64, params: Params) {
+    fn runtime_epoch_refresh(&mut self, runtime: Runtime, now: u64, params: Params) {
         let given = port::runtime_epoch_refresh(runtime, now, params);
         let wanted = expected::epoch_refresh(runtime, now, params);
         let input = (runtime, now, params);
         self.compare("PolicyRuntime::epoch_refresh", input, given, wanted);
     }
 
-    pub fn runtime_candidate_key(&mut self, runtime: Runtime, params: Params, turn: u64) {
+    fn runtime_candidate_key(&mut self, runtime: Runtime, params: Params, turn: u64) {
         let given = port::runtime_candidate_key(runtime, params, turn);
         let wanted = oracle::runtime_candidate_key(runtime, params, turn);
         let input = (runtime, params, turn);
         self.compare("PolicyRuntime::candidate_key", input, given, wanted);
     }
 
-    pub fn runtime_next_deadline(
+    fn runtime_next_deadline(
         &mut self,
         runtime: Runtime,
         now: u64,
@@ -141,20 +162,27 @@ impl Tally {
         self.compare("PolicyRuntime::next_deadline", input, given, wanted);
     }
 
-    pub fn runtime_finish_turn(&mut self, runtime: Runtime, params: Params) {
+    fn runtime_finish_turn(&mut self, runtime: Runtime, params: Params) {
         let given = port::runtime_finish_turn(runtime, params);
         let wanted = expected::runtime_turn_finished(runtime, params);
         let input = (runtime, params);
         self.compare("PolicyRuntime::finish_turn", input, given, wanted);
     }
 
-    pub fn config_new(&mut self, config: Config) {
+    fn config_new(&mut self, config: Config) {
         let made = port::config_new(config);
         let wanted = expected::config_made(config);
         self.compare("ArbitrationConfig::new", config, made, wanted);
     }
 
-    pub fn config_accepts(&mut self, config: Config, params: Params) {
+    fn config_with_prefer_fair(&mut self, config: Config, prefer: bool) {
+        let given = port::config_with_prefer_fair(config, prefer);
+        let wanted = oracle::config_with_prefer_fair(config, prefer);
+        let input = (config, prefer);
+        self.compare("ArbitrationConfig::with_prefer_fair", input, given, wanted);
+    }
+
+    fn config_accepts(&mut self, config: Config, params: Params) {
         let given = port::config_accepts(config, params);
         let wanted = oracle::config_accepts(config, params);
         self.compare(
@@ -165,14 +193,14 @@ impl Tally {
         );
     }
 
-    pub fn config_admits(&mut self, config: Config, params: Params, backend: Backend) {
+    fn config_admits(&mut self, config: Config, params: Params, backend: Backend) {
         let given = port::config_admits(config, params, backend);
         let wanted = oracle::config_admits(config, params, backend);
         let input = (config, params, backend);
         self.compare("ArbitrationConfig::admits", input, given, wanted);
     }
 
-    pub fn window_new(&mut self, config: Config) {
+    fn window_new(&mut self, config: Config) {
         let made = port::window_new(config);
         self.compare(
             "CpuWindow::new",
@@ -182,14 +210,20 @@ impl Tally {
         );
     }
 
-    pub fn window_refresh(&mut self, window: Window, now: u64) -> Window {
+    fn window_period_ns(&mut self, window: Window) {
+        let given = port::window_period_ns(window);
+        let wanted = oracle::window_period_ns(window);
+        self.compare("CpuWindow::period_ns", window, given, wanted);
+    }
+
+    fn window_refresh(&mut self, window: Window, now: u64) -> Window {
         let given = port::window_refresh(window, now);
         let wanted = expected::refreshed(window, now);
         self.compare("CpuWindow::refresh", (window, now), given, wanted);
         wanted.1
     }
 
-    pub fn window_account(
+    fn window_account(
         &mut self,
         window: Window,
         start: u64,
@@ -204,13 +238,13 @@ impl Tally {
         wanted.1
     }
 
-    pub fn window_period_deadline(&mut self, window: Window, now: u64) {
+    fn window_period_deadline(&mut self, window: Window, now: u64) {
         let given = port::window_period_deadline(window, now);
         let wanted = expected::window_period(window, now);
         self.compare("CpuWindow::period_deadline", (window, now), given, wanted);
     }
 
-    pub fn window_protection(&mut self, window: Window, now: u64, waiting: bool) -> Window {
+    fn window_protection(&mut self, window: Window, now: u64, waiting: bool) -> Window {
         let given = port::window_protection_deadline(window, now, waiting);
         let wanted = expected::protection(window, now, waiting);
         let input = (window, now, waiting);
@@ -218,7 +252,7 @@ impl Tally {
         wanted.1
     }
 
-    pub fn window_candidate_key(
+    fn window_candidate_key(
         &mut self,
         window: Window,
         now: u64,
@@ -233,7 +267,7 @@ impl Tally {
         (key, wanted.1)
     }
 
-    pub fn window_next_deadline(
+    fn window_next_deadline(
         &mut self,
         window: Window,
         now: u64,
@@ -248,8 +282,20 @@ impl Tally {
         wanted.1
     }
 
-    pub fn key_compare(&mut self, a: Key, b: Key) {
+    fn key_compare(&mut self, a: Key, b: Key) {
         let given = port::key_compare(a, b);
         self.compare("compare_keys", (a, b), given, oracle::key_compare(a, b));
+    }
+}
+
+impl Checks for Tally {
+    fn compare<T: PartialEq + Debug>(
+        &mut self,
+        function: &'static str,
+        input: impl Debug,
+        port: T,
+        expected: T,
+    ) {
+        Tally::compare(self, function, input, port, expected);
     }
 }

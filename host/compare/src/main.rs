@@ -7,18 +7,15 @@ mod boundary;
 mod calls;
 mod checks;
 mod expected;
-mod generator;
 mod port;
 mod random;
-mod tally;
-mod values;
 mod words;
 
 use std::env;
 use std::process::ExitCode;
 use std::time::Duration;
 
-use tally::Tally;
+use tables::tally::Tally;
 
 const USAGE: &str = "usage: compare [--seed N] [--seconds S] [--limit N]";
 

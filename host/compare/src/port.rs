@@ -1,30 +1,100 @@
-//! The port's calls on the oracle's plain values. A refusal is its number in document 01.
+//! The port's calls on the oracle's plain values. A refusal is its number in document 01, and leaves the answer's words untouched.
 
 use core::cmp::Ordering;
 
 use kernel::oracle::*;
 
-use crate::calls::*;
+use crate::calls;
 use crate::words::*;
 
 /// A value, or the number of a refusal.
 pub type Answer<T> = Result<T, u64>;
 
-fn answer<T>(number: u64, value: impl FnOnce() -> T) -> Answer<T> {
-    if number == 0 {
-        Ok(value())
-    } else {
-        Err(number)
+/// What answers' words hold before a call.
+const UNTOUCHED: u64 = 0x5555_5555;
+
+/// Calls with lent answer words, and gives what they stand for.
+fn answered<const N: usize, T>(
+    call: impl FnOnce(&mut [u64; N]) -> u64,
+    value: impl FnOnce([u64; N]) -> T,
+) -> Answer<T> {
+    let mut words = [UNTOUCHED; N];
+    match call(&mut words) {
+        0 => Ok(value(words)),
+        number => {
+            assert_eq!(words, [UNTOUCHED; N], "an answer beside a refusal");
+            Err(number)
+        }
+    }
+}
+
+/// The number of a call as its verdict.
+fn verdict(number: u64) -> Answer<()> {
+    match number {
+        0 => Ok(()),
+        number => Err(number),
     }
 }
 
 pub fn budget_new(budget: u64, period: u64, burst: u64) -> Answer<Budget> {
-    let made = leaves_budget_parameters_new(budget, period, burst);
-    answer(made.number, || Budget::of(made.budget))
+    answered(
+        |answer| calls::budget_parameters_new(budget, period, burst, answer),
+        budget_of,
+    )
 }
 
-pub fn weight_new(value: u16) -> Option<u64> {
-    Option::of(leaves_thread_weight_new(value))
+pub fn weight_new(value: u16) -> Option<u16> {
+    match calls::thread_weight_new(value) {
+        0 => None,
+        weight => Some(weight),
+    }
+}
+
+pub fn policy_class(policy: Policy) -> Class {
+    match class_and_priority(policy).0 {
+        0 => Class::RealTime,
+        1 => Class::Fair,
+        2 => Class::Budget,
+        3 => Class::Idle,
+        other => panic!("a class of {other}"),
+    }
+}
+
+pub fn policy_priority(policy: Policy) -> Option<u8> {
+    let priority = option_of(class_and_priority(policy).1);
+    priority.map(|number| u8::try_from(number).expect("a priority"))
+}
+
+fn class_and_priority(policy: Policy) -> (u64, [u64; 2]) {
+    let params = Params {
+        policy,
+        ..params_idle()
+    };
+    let mut answer = [UNTOUCHED; 2];
+    let row = row_words(params, Runtime::Idle);
+    let class = calls::policy_class_and_priority(&row, &mut answer);
+    (class, answer)
+}
+
+/// A row of parameters that no constructor makes, so that each part must be put in its place.
+fn unwanted() -> calls::Row {
+    let params = Params {
+        policy: Policy::Budget,
+        band: 77,
+        role: Role::Protected,
+        weight: 1,
+        quantum: 1,
+        backend: Backend::RoundRobin,
+        budget: None,
+    };
+    row_words(params, Runtime::Idle)
+}
+
+/// The parameters that a call stores in a row.
+fn constructed(call: impl FnOnce(&mut calls::Row)) -> Params {
+    let mut row = unwanted();
+    call(&mut row);
+    row_parts(&row).0
 }
 
 pub fn params_fair(
@@ -34,32 +104,62 @@ pub fn params_fair(
     role: Role,
     backend: Backend,
 ) -> Option<Params> {
-    let made = leaves_parameters_fair(weight, quantum, band, role.words(), backend.words());
-    bool::of(made.some).then(|| Params::of(made.parameters))
+    let mut row = unwanted();
+    let (role, backend) = (role_word(role), backend_word(backend));
+    let made = calls::parameters_fair(&mut row, weight, quantum, band, role, backend);
+    let made = flag_of(made);
+    assert!(made || row == unwanted(), "parameters that were not made");
+    made.then(|| row_parts(&row).0)
 }
 
 pub fn params_budget(budget: Budget, band: u8, role: Role) -> Params {
-    Params::of(leaves_parameters_budget(budget.words(), band, role.words()))
+    let words = budget_words(budget);
+    constructed(|row| calls::parameters_budget(row, &words, band, role_word(role)))
 }
 
 pub fn params_fifo(priority: u8, band: u8, role: Role) -> Params {
-    Params::of(leaves_parameters_fifo(priority, band, role.words()))
+    constructed(|row| calls::parameters_fifo(row, priority, band, role_word(role)))
 }
 
 pub fn params_idle() -> Params {
-    Params::of(leaves_parameters_idle())
+    constructed(|row| calls::parameters_idle(row))
 }
 
-fn budget_answer(words: BudgetAnswerWords) -> Answer<BudgetRt> {
-    answer(words.number, || BudgetRt::of(words.runtime))
+/// Calls with a budget runtime's lent words.
+fn on_budget(
+    runtime: BudgetRt,
+    call: impl FnOnce(&mut calls::BudgetRuntimeWords) -> u64,
+) -> (u64, BudgetRt) {
+    let mut words = budget_runtime_words(runtime);
+    let number = call(&mut words);
+    let after = budget_runtime_of(words);
+    assert!(number == 0 || after == runtime, "a runtime after a refusal");
+    (number, after)
+}
+
+fn stepped(
+    runtime: BudgetRt,
+    call: impl FnOnce(&mut calls::BudgetRuntimeWords) -> u64,
+) -> Answer<BudgetRt> {
+    let (number, after) = on_budget(runtime, call);
+    verdict(number).map(|()| after)
 }
 
 pub fn budget_runtime_new(budget: Budget) -> Answer<BudgetRt> {
-    budget_answer(leaves_budget_runtime_new(budget.words()))
+    let blank = BudgetRt {
+        epoch: Some(UNTOUCHED),
+        remaining: UNTOUCHED,
+        burst: UNTOUCHED,
+    };
+    stepped(blank, |words| {
+        calls::budget_new(words, &budget_words(budget))
+    })
 }
 
 pub fn budget_refresh(runtime: BudgetRt, now: u64, budget: Budget) -> Answer<BudgetRt> {
-    budget_answer(leaves_budget_refresh(runtime.words(), now, budget.words()))
+    stepped(runtime, |words| {
+        calls::budget_refresh(words, now, &budget_words(budget))
+    })
 }
 
 pub fn budget_account_interval(
@@ -68,13 +168,16 @@ pub fn budget_account_interval(
     end: u64,
     budget: Budget,
 ) -> Answer<BudgetRt> {
-    let words = leaves_budget_account_interval(runtime.words(), start, end, budget.words());
-    budget_answer(words)
+    stepped(runtime, |words| {
+        calls::budget_account_interval(words, start, end, &budget_words(budget))
+    })
 }
 
 pub fn budget_period_deadline(now: u64, budget: Budget) -> Answer<Option<u64>> {
-    let words = leaves_budget_period_deadline(now, budget.words());
-    answer(words.number, || Option::of(words.deadline))
+    answered(
+        |answer| calls::budget_period_deadline(now, &budget_words(budget), answer),
+        option_of,
+    )
 }
 
 pub fn budget_deadline(
@@ -83,45 +186,86 @@ pub fn budget_deadline(
     budget: Budget,
     borrow: bool,
 ) -> Answer<(BudgetRt, Option<u64>)> {
-    let words = leaves_budget_deadline(runtime.words(), now, budget.words(), borrow);
-    answer(words.number, || {
-        (BudgetRt::of(words.runtime), Option::of(words.deadline))
-    })
+    let mut after = runtime;
+    let deadline = answered(
+        |answer| {
+            let (number, left) = on_budget(runtime, |words| {
+                calls::budget_deadline(words, now, &budget_words(budget), borrow, answer)
+            });
+            after = left;
+            number
+        },
+        option_of,
+    );
+    deadline.map(|deadline| (after, deadline))
 }
 
 pub fn budget_finish_turn(runtime: BudgetRt, budget: Budget) -> Answer<BudgetRt> {
-    budget_answer(leaves_budget_finish_turn(runtime.words(), budget.words()))
+    stepped(runtime, |words| {
+        calls::budget_finish_turn(words, &budget_words(budget))
+    })
 }
 
 /// None: another period, and nothing changes.
 pub fn budget_reconfigure(runtime: BudgetRt, old: Budget, new: Budget) -> Answer<Option<BudgetRt>> {
-    let words = leaves_budget_reconfigure(runtime.words(), old.words(), new.words());
-    answer(words.number, || {
-        bool::of(words.changed).then(|| BudgetRt::of(words.runtime))
-    })
+    let before = budget_runtime_words(runtime);
+    answered(
+        |answer| calls::budget_reconfigure(&before, &budget_words(old), &budget_words(new), answer),
+        |[some, epoch, remaining, burst, changed]| {
+            flag_of(changed).then(|| budget_runtime_of([some, epoch, remaining, burst]))
+        },
+    )
 }
 
-fn runtime_answer(words: RuntimeAnswerWords) -> Answer<Runtime> {
-    answer(words.number, || Runtime::of(words.runtime))
+/// Calls with a record's lent row, whose parameters must stay as they are.
+fn on_row(
+    params: Params,
+    runtime: Runtime,
+    call: impl FnOnce(&mut calls::Row) -> u64,
+) -> (u64, Runtime) {
+    let mut row = row_words(params, runtime);
+    let number = call(&mut row);
+    let (same, after) = row_parts(&row);
+    assert_eq!(same, params, "the parameters of a row");
+    assert!(number == 0 || after == runtime, "a runtime after a refusal");
+    (number, after)
+}
+
+fn ran(
+    params: Params,
+    runtime: Runtime,
+    call: impl FnOnce(&mut calls::Row) -> u64,
+) -> Answer<Runtime> {
+    let (number, after) = on_row(params, runtime, call);
+    verdict(number).map(|()| after)
 }
 
 pub fn runtime_new(params: Params, fair: Runtime) -> Answer<Runtime> {
-    runtime_answer(leaves_runtime_new(params.words(), fair.words()))
+    let Runtime::Fair { pass, remaining } = fair else {
+        panic!("what a fair thread starts with");
+    };
+    let [high, low] = halves(pass);
+    ran(params, Runtime::Idle, |row| {
+        calls::runtime_new(row, high, low, remaining)
+    })
 }
 
 pub fn runtime_account(runtime: Runtime, params: Params, start: u64, end: u64) -> Answer<Runtime> {
-    let words = leaves_runtime_account(runtime.words(), params.words(), start, end);
-    runtime_answer(words)
+    ran(params, runtime, |row| {
+        calls::runtime_account(row, start, end)
+    })
 }
 
 pub fn runtime_epoch_refresh(runtime: Runtime, now: u64, params: Params) -> Answer<Runtime> {
-    let words = leaves_runtime_epoch_refresh(runtime.words(), now, params.words());
-    runtime_answer(words)
+    ran(params, runtime, |row| {
+        calls::runtime_epoch_refresh(row, now)
+    })
 }
 
 pub fn runtime_candidate_key(runtime: Runtime, params: Params, turn: u64) -> (u128, u64) {
-    let key = leaves_runtime_candidate_key(runtime.words(), params.words(), turn);
-    (whole(key.pass_high, key.pass_low), key.turn)
+    let mut answer = [UNTOUCHED; 3];
+    calls::runtime_candidate_key(&row_words(params, runtime), turn, &mut answer);
+    (whole(answer[0], answer[1]), answer[2])
 }
 
 pub fn runtime_next_deadline(
@@ -131,47 +275,67 @@ pub fn runtime_next_deadline(
     competition: bool,
     borrow: bool,
 ) -> Answer<(Runtime, Option<u64>)> {
-    let state = runtime.words();
-    let words = leaves_runtime_next_deadline(state, now, params.words(), competition, borrow);
-    answer(words.number, || {
-        (Runtime::of(words.runtime), Option::of(words.deadline))
-    })
+    let mut after = runtime;
+    let deadline = answered(
+        |answer| {
+            let (number, left) = on_row(params, runtime, |row| {
+                calls::runtime_next_deadline(row, now, competition, borrow, answer)
+            });
+            after = left;
+            number
+        },
+        option_of,
+    );
+    deadline.map(|deadline| (after, deadline))
 }
 
 pub fn runtime_finish_turn(runtime: Runtime, params: Params) -> Answer<Runtime> {
-    runtime_answer(leaves_runtime_finish_turn(runtime.words(), params.words()))
+    ran(params, runtime, |row| calls::runtime_finish_turn(row))
 }
 
 pub fn config_new(config: Config) -> Answer<Config> {
-    let made = leaves_config_new(config.words());
-    answer(made.number, || Config::of(made.config))
+    let mut words = config_words(config);
+    let number = calls::config_new(&mut words);
+    let made = window_of(words).config;
+    assert!(number == 0 || made == config, "a refused configuration");
+    verdict(number).map(|()| made)
+}
+
+pub fn config_with_prefer_fair(config: Config, prefer_fair: bool) -> Config {
+    let mut words = config_words(config);
+    calls::config_with_prefer_fair(&mut words, prefer_fair);
+    window_of(words).config
 }
 
 pub fn config_accepts(config: Config, params: Params) -> bool {
-    leaves_config_accepts(config.words(), params.words())
+    calls::config_accepts(&config_words(config), &row_words(params, Runtime::Idle))
 }
 
 pub fn config_admits(config: Config, params: Params, backend: Backend) -> bool {
-    leaves_config_admits(config.words(), params.words(), backend.words())
+    let row = row_words(params, Runtime::Idle);
+    calls::config_admits(&config_words(config), &row, backend_word(backend))
 }
 
 pub fn window_new(config: Config) -> Answer<Window> {
-    let made = leaves_window_new(config.words());
-    answer(made.number, || Window::of(made.window))
+    let mut words = config_words(config);
+    let number = calls::window_new(&mut words);
+    assert!(number == 0 || words == config_words(config), "no window");
+    verdict(number).map(|()| window_of(words))
 }
 
-fn step(words: StepWords) -> (Answer<()>, Window) {
-    (answer(words.number, || ()), Window::of(words.window))
+pub fn window_period_ns(window: Window) -> u64 {
+    calls::window_period_ns(&window_words(window))
 }
 
-fn with_deadline(words: WindowDeadlineWords) -> (Answer<Option<u64>>, Window) {
-    let given = words.answer;
-    let deadline = answer(given.number, || Option::of(given.deadline));
-    (deadline, Window::of(words.window))
+/// Calls with a window's lent words.
+fn on_window<T>(window: Window, call: impl FnOnce(&mut calls::WindowWords) -> T) -> (T, Window) {
+    let mut words = window_words(window);
+    let answer = call(&mut words);
+    (answer, window_of(words))
 }
 
 pub fn window_refresh(window: Window, now: u64) -> (Answer<()>, Window) {
-    step(leaves_window_refresh(window.words(), now))
+    on_window(window, |words| verdict(calls::window_refresh(words, now)))
 }
 
 pub fn window_account_dispatch(
@@ -181,13 +345,20 @@ pub fn window_account_dispatch(
     params: Params,
     mode: Mode,
 ) -> (Answer<()>, Window) {
-    let before = window.words();
-    let words = leaves_window_account_dispatch(before, start, end, params.words(), mode.words());
-    step(words)
+    let row = row_words(params, Runtime::Idle);
+    on_window(window, |words| {
+        let number = calls::window_account_dispatch(words, start, end, &row, mode_word(mode));
+        verdict(number)
+    })
 }
 
 pub fn window_period_deadline(window: Window, now: u64) -> (Answer<Option<u64>>, Window) {
-    with_deadline(leaves_window_period_deadline(window.words(), now))
+    on_window(window, |words| {
+        answered(
+            |answer| calls::window_period_deadline(words, now, answer),
+            option_of,
+        )
+    })
 }
 
 pub fn window_protection_deadline(
@@ -195,8 +366,12 @@ pub fn window_protection_deadline(
     now: u64,
     protected_waiting: bool,
 ) -> (Answer<Option<u64>>, Window) {
-    let words = leaves_window_protection_deadline(window.words(), now, protected_waiting);
-    with_deadline(words)
+    on_window(window, |words| {
+        answered(
+            |answer| calls::window_protection_deadline(words, now, protected_waiting, answer),
+            option_of,
+        )
+    })
 }
 
 pub fn window_candidate_key(
@@ -205,12 +380,13 @@ pub fn window_candidate_key(
     candidate: Candidate,
     demand: Demand,
 ) -> (Answer<Option<(Key, Mode)>>, Window) {
-    let words = leaves_window_candidate_key(window.words(), now, candidate.words(), demand.words());
-    let key = words.key;
-    let found = answer(words.number, || {
-        bool::of(key.some).then(|| (Key::of(key.key), Mode::of(key.mode)))
-    });
-    (found, Window::of(words.window))
+    let (candidate, demand) = (candidate_words(candidate), demand_words(demand));
+    on_window(window, |words| {
+        answered(
+            |answer| calls::window_candidate_key(words, now, &candidate, &demand, answer),
+            key_of,
+        )
+    })
 }
 
 pub fn window_next_deadline(
@@ -220,14 +396,17 @@ pub fn window_next_deadline(
     competition: bool,
     demand: Demand,
 ) -> (Answer<Option<u64>>, Window) {
-    let before = window.words();
-    let mode = mode.words();
-    let words = leaves_window_next_deadline(before, now, mode, competition, demand.words());
-    with_deadline(words)
+    let (mode, demand) = (mode_word(mode), demand_words(demand));
+    on_window(window, |words| {
+        answered(
+            |answer| calls::window_next_deadline(words, now, mode, competition, &demand, answer),
+            option_of,
+        )
+    })
 }
 
 pub fn key_compare(a: Key, b: Key) -> Ordering {
-    match leaves_compare_keys(a.words(), b.words()) {
+    match calls::dispatch_keys_compare(&key_words(a), &key_words(b)) {
         0 => Ordering::Less,
         1 => Ordering::Equal,
         2 => Ordering::Greater,

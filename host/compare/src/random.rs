@@ -4,77 +4,11 @@ use std::time::{Duration, Instant};
 
 use kernel::oracle::*;
 
-use crate::generator::Random;
-use crate::tally::Tally;
-use crate::values::Picks;
+use tables::generator::Random;
+use tables::tally::Tally;
+use tables::values::Picks;
 
-impl Random {
-    /// A period that is mostly sound.
-    fn any_period(&mut self) -> u64 {
-        match self.below(4) {
-            0 => self.period(),
-            1 => self.below(20),
-            2 => 1 + self.below(1_000_000_000),
-            _ => self.number(),
-        }
-    }
-
-    fn any_budget(&mut self, period: u64) -> Budget {
-        if self.below(4) == 0 {
-            return self.budget(period);
-        }
-        Budget {
-            budget: self.number().checked_rem(period).map_or(0, |n| n + 1),
-            period,
-            burst: self.number().checked_rem(period).map_or(0, |n| n + 1),
-        }
-    }
-
-    /// A configuration that is mostly sound.
-    fn any_config(&mut self) -> Config {
-        match self.below(8) {
-            0 => return self.config(),
-            1 | 2 => return self.sound_config(),
-            _ => {}
-        }
-        let period = 2 + self.number() % 999_999_999;
-        let floor = 1 + self.number() % (period - 1);
-        Config {
-            period,
-            allowance: self.number() % (period - floor),
-            floor,
-            order: DEFAULT_ORDER,
-            prefer_fair: self.flag(),
-        }
-    }
-
-    /// A clock that goes on, mostly by parts of a period, and back at times.
-    fn later(&mut self, now: u64, period: u64) -> u64 {
-        match self.below(8) {
-            0 => self.reading(period),
-            1 => now.wrapping_sub(self.number().checked_rem(period).unwrap_or(1)),
-            2 => now.wrapping_add(period),
-            3 => self.number(),
-            _ => now.wrapping_add(self.number().checked_rem(period).unwrap_or(1)),
-        }
-    }
-
-    /// Damages one part of a window at times.
-    fn damaged(&mut self, window: Window) -> Window {
-        let mut window = window;
-        match self.below(40) {
-            0 => window.config.period = self.of([0, 1_000_000_001, u64::MAX]),
-            1 => window.config.floor = self.of([0, window.config.period, u64::MAX]),
-            2 => window.config.allowance = window.config.period,
-            3 => window.config.order = self.order(),
-            4 => window.epoch = self.of([None, Some(0), Some(u64::MAX)]),
-            5 => window.priority_remaining = self.number(),
-            6 => window.protected_remaining = self.number(),
-            _ => {}
-        }
-        window
-    }
-}
+use crate::checks::Checks;
 
 /// A budget's life: refreshed, charged, reconfigured.
 fn budget_run(tally: &mut Tally, random: &mut Random) {
@@ -162,6 +96,8 @@ fn window_run(tally: &mut Tally, random: &mut Random) {
         tally.config_accepts(window.config, candidate.params);
         let backend = random.backend();
         tally.config_admits(window.config, candidate.params, backend);
+        tally.config_with_prefer_fair(window.config, demand.fair);
+        tally.window_period_ns(window);
         tally.window_period_deadline(window, end);
         tally.window_refresh(window, end);
         tally.window_protection(window, end, demand.protected);
@@ -187,6 +123,8 @@ fn parameters_run(tally: &mut Tally, random: &mut Random) {
     tally.weight_new(weight);
     tally.params_fair(weight, quantum, band, role, backend);
     tally.params_fifo(priority, band, role);
+    let policy = random.policy();
+    tally.policy(policy);
     let period = random.any_period();
     let budget = random.any_budget(period);
     tally.params_budget(budget, band, role);

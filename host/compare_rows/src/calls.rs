@@ -1,9 +1,6 @@
 //! The port's C calls on rows, as crates/row_entries declares them. A slice goes as its address and its count of rows.
 
-pub type Row = [u64; 32];
-
-/// The steps of one descent, lent for the time of a call.
-pub type Path = [[u64; 2]; 40];
+use tables::rows::{Path, Row};
 
 #[repr(C)]
 #[derive(Clone, Copy, Debug)]

@@ -2,12 +2,12 @@
 
 use kernel::oracle::*;
 
-use crate::generator::Random;
 use crate::lists::{Call, Listed};
-use crate::make::{self, Kind};
-use crate::table::Table;
-use crate::tally::Tally;
-use crate::values::Picks;
+use tables::generator::Random;
+use tables::make::{self, Kind};
+use tables::table::Table;
+use tables::tally::Tally;
+use tables::values::Picks;
 
 /// A membership that a list can have.
 fn of_list(random: &mut Random) -> Membership {

@@ -3,9 +3,9 @@
 use kernel::oracle::*;
 
 use crate::calls::{rows_list_push, rows_list_push_front, rows_list_remove};
-use crate::port::{self, Answer};
-use crate::table::{Table, expected};
-use crate::tally::Tally;
+use crate::port;
+use tables::table::{Answer, Table, expected};
+use tables::tally::Tally;
 
 #[derive(Clone, Copy, Debug)]
 pub enum Call {
@@ -61,10 +61,7 @@ impl Listed {
         let (mut by_port, mut by_source) = (self.list, self.list);
         let port = call.by_port(&mut self.table, &mut by_port, id, m);
         let source = call.by_source(&mut self.table, &mut by_source, id, m);
-        let difference = self.table.difference();
-        let (left, wanted) = difference.map_or((None, None), |(place, a, b)| {
-            (Some((place, a)), Some((place, b)))
-        });
+        let (left, wanted) = self.table.difference();
         let name = call.name(source);
         tally.compare(
             name,
@@ -72,7 +69,7 @@ impl Listed {
             (port, by_port, left),
             (source, by_source, wanted),
         );
-        if difference.is_some() {
+        if left.is_some() {
             self.table = Table::of(self.table.records.clone());
         }
         self.list = by_source;

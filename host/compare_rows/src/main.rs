@@ -5,45 +5,18 @@
 //! the first differing inputs above it and exit code 1.
 
 mod calls;
-#[path = "../../compare/src/generator.rs"]
-mod generator;
 mod list_runs;
 mod lists;
-mod make;
 mod port;
-mod rows;
-mod table;
-#[path = "../../compare/src/tally.rs"]
-mod tally;
 mod tree_runs;
 mod trees;
-#[path = "../../compare/src/values.rs"]
-#[allow(dead_code)]
-mod values;
 
-use std::env;
 use std::process::ExitCode;
-use std::time::{Duration, Instant};
 
-use generator::Random;
-use tally::Tally;
-use values::Picks;
-
-const USAGE: &str = "usage: compare_rows [--seed N] [--seconds S]";
-
-fn options() -> Option<(u64, u64)> {
-    let (mut seed, mut seconds) = (1, 5);
-    let mut words = env::args().skip(1);
-    while let Some(word) = words.next() {
-        let number = words.next()?.parse().ok()?;
-        match word.as_str() {
-            "--seed" => seed = number,
-            "--seconds" => seconds = number,
-            _ => return None,
-        }
-    }
-    Some((seed, seconds))
-}
+use tables::generator::Random;
+use tables::tally::Tally;
+use tables::values::Picks;
+use tables::{make, rows, run};
 
 /// Encoder and decoder agree, and the rows of a table are read as the records they were made of.
 fn layout(tally: &mut Tally, random: &mut Random) {
@@ -57,8 +30,19 @@ fn layout(tally: &mut Tally, random: &mut Random) {
     }
 }
 
-/// A round of seeded runs: damaged tables, small ones, and a larger one.
-fn round(tally: &mut Tally, random: &mut Random) {
+/// The layout, every order of few keys, and paths at their limit.
+fn first(tally: &mut Tally, random: &mut Random) {
+    layout(tally, random);
+    tree_runs::every_order(tally);
+    tree_runs::long_paths(tally);
+}
+
+/// A round of seeded runs: damaged tables, small ones, and a larger one, at times of 4,096.
+fn round(tally: &mut Tally, random: &mut Random, number: u64) {
+    if number % 16 == 0 {
+        tree_runs::large(tally, random, 4096);
+        list_runs::seeded(tally, random, 4096, 200);
+    }
     for _ in 0..64 {
         tree_runs::damaged(tally, random);
         list_runs::damaged(tally, random);
@@ -72,28 +56,5 @@ fn round(tally: &mut Tally, random: &mut Random) {
 }
 
 fn main() -> ExitCode {
-    let Some((seed, seconds)) = options() else {
-        eprintln!("{USAGE}");
-        return ExitCode::from(2);
-    };
-    let mut tally = Tally::default();
-    let mut random = Random::new(seed);
-    layout(&mut tally, &mut random);
-    tree_runs::every_order(&mut tally);
-    tree_runs::long_paths(&mut tally);
-    let (began, time) = (Instant::now(), Duration::from_secs(seconds));
-    for number in 0.. {
-        if number % 16 == 0 {
-            tree_runs::large(&mut tally, &mut random, 4096);
-            list_runs::seeded(&mut tally, &mut random, 4096, 200);
-        }
-        round(&mut tally, &mut random);
-        if began.elapsed() >= time {
-            break;
-        }
-    }
-    match tally.report() {
-        0 => ExitCode::SUCCESS,
-        _ => ExitCode::FAILURE,
-    }
+    run::compare("compare_rows", first, round)
 }

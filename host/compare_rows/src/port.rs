@@ -3,10 +3,8 @@
 use kernel::oracle::{List, Membership};
 
 use crate::calls::*;
-use crate::rows::{link_words, membership_words};
-
-/// What a call gives, or the number of a refusal.
-pub type Answer<T> = Result<T, u64>;
+use tables::rows::{Path, Row, link_words, membership_words};
+use tables::table::Answer;
 
 fn answer<T>(number: u64, value: T) -> Answer<T> {
     if number == 0 { Ok(value) } else { Err(number) }

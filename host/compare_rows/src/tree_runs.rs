@@ -2,11 +2,11 @@
 
 use kernel::oracle::*;
 
-use crate::generator::Random;
-use crate::make::{self, Kind};
-use crate::tally::Tally;
 use crate::trees::{Call, LargeTree, Tree};
-use crate::values::Picks;
+use tables::generator::Random;
+use tables::make::{self, Kind};
+use tables::tally::Tally;
+use tables::values::Picks;
 
 /// Every order of removing the threads that are left.
 fn removals(tally: &mut Tally, tree: &Tree, left: u64) {
@@ -172,40 +172,13 @@ fn line(right: u64, left: u64, below: u64, height: u8) -> Tree {
     Tree::of(records, Some(0))
 }
 
-/// So many nodes in one line, to one side, or to each in turn; the threads after them stand in no tree.
-fn chain(count: u64, side: u64, height: u8) -> Tree {
-    let goes_right = |place: u64| match side {
-        0 => false,
-        1 => true,
-        _ => place % 2 == 0,
-    };
-    let (mut low, mut high) = (1 << 32, 1 << 33);
-    let mut records = Vec::new();
-    for place in 0..count {
-        let next = (place + 1 < count).then_some(place + 1);
-        let turn = if goes_right(place) { low } else { high };
-        let mut record = make::by_turn(turn);
-        record.tree.height = height;
-        if goes_right(place) {
-            record.tree.right = next;
-            low += 16;
-        } else {
-            record.tree.left = next;
-            high -= 16;
-        }
-        records.push(record);
-    }
-    let outside = [0, 1, low + 1, high - 1, low - 8, high + 8, u64::MAX];
-    records.extend(outside.map(make::by_turn));
-    Tree::of(records, Some(0))
-}
-
 /// Paths at MAX_PATH: a 40th entry is taken, a 41st is not; a removal's successor path counts as well.
 pub fn long_paths(tally: &mut Tally) {
     for height in [1, 40, 200, 254, 255] {
         for count in 37..=43 {
             for side in 0..3 {
-                each_call(tally, &chain(count, side, height));
+                let records = make::chain(count, side, height);
+                each_call(tally, &Tree::of(records, Some(0)));
             }
         }
         for (right, left) in [

@@ -2,11 +2,10 @@
 
 use kernel::oracle::*;
 
-use crate::calls::Row;
-use crate::port::{self, Answer};
-use crate::rows::{TREE_WORDS, record_of, row_of, tree_words};
-use crate::table::{Table, expected};
-use crate::tally::Tally;
+use crate::port;
+use tables::rows::{Row, TREE_WORDS, record_of, row_of, tree_words};
+use tables::table::{Answer, Table, expected};
+use tables::tally::Tally;
 
 #[derive(Clone, Copy, Debug)]
 pub enum Call {
@@ -82,10 +81,7 @@ impl Tree {
         let (mut by_port, mut by_source) = (self.root, self.root);
         let port = call.by_port(&mut self.table.rows, &mut by_port);
         let source = call.by_records(&mut self.table.records, &mut by_source);
-        let difference = self.table.difference();
-        let (left, wanted) = difference.map_or((None, None), |(place, a, b)| {
-            (Some((place, a)), Some((place, b)))
-        });
+        let (left, wanted) = self.table.difference();
         let name = call.name(source);
         tally.compare(
             name,
@@ -93,7 +89,7 @@ impl Tree {
             (port, by_port, left),
             (source, by_source, wanted),
         );
-        if difference.is_some() {
+        if left.is_some() {
             self.table = Table::of(self.table.records.clone());
         }
         self.root = by_source;

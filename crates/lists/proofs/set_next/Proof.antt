@@ -1,21 +1,18 @@
--- The read, and the table that the store left.
-use Rattle.rows.specs.TableCases.{tables}
-use Rattle.lists.specs.ListsLaws.{listings}
-use Rattle.lists.specs.Lists.{setNext}
+-- Inside the table one row is replaced by itself with one link changed, outside nothing is.
+use Rattle.lists.specs.ListsLaws.{row-stores}
 use borrow.Author.Needs.{needs}
 use Rattle.lists.proofs.set_next.Statement.{statement}
 use Rattle.lists.proofs.set_next.Tie as tie
 
 pub set-next-spec : {M : Type 1} → statement M
-unfolding setNext
 set-next-spec =
     tie.close
     (tie.spec
+    (λ c. search needs)
+    (λ c. search needs)
     (λ c κs. search needs)
     (λ c. search needs)
     (λ c. search needs)
     (λ c. search needs)
-    (λ c. search (tables, listings) depth 8)
-    (λ c κs. search needs)
-    (λ c. search needs)
-    (λ c. search (tables, listings) depth 8))
+    (λ c. search row-stores depth 8)
+    (λ c. search row-stores depth 8))

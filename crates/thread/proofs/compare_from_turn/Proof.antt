@@ -10,11 +10,7 @@ unfolding compareFromTurn
 compare-from-turn-spec =
     tie.close
     (tie.spec
+    (λ c. search part-by-part depth 5)
+    (λ c. search part-by-part depth 5)
     (λ c κs. search needs)
-    (λ c. search needs)
-    (λ c. search needs)
-    (λ c κs. search needs)
-    (λ c. search needs)
-    (λ c. search part-by-part depth 4)
-    (λ c. search part-by-part depth 4)
-    (λ c. search part-by-part depth 4))
+    (λ c. search part-by-part depth 5))

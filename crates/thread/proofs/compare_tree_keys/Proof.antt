@@ -8,11 +8,7 @@ pub compare-tree-keys-spec : {M : Type 1} → statement M
 compare-tree-keys-spec =
     tie.close
     (tie.spec
-    (λ c κs. search needs)
-    (λ c. search needs)
-    (λ c. search needs)
-    (λ c κs. search needs)
-    (λ c. search needs)
     (λ c. search part-by-part depth 5)
     (λ c. search part-by-part depth 5)
+    (λ c κs. search needs)
     (λ c. search part-by-part depth 5))

@@ -44,6 +44,11 @@ pub fn window_new(config: Config) -> Window {
     Mirror::from_source(CpuWindow::new(config.to_source()))
 }
 
+/// `CpuWindow::period_ns`.
+pub fn window_period_ns(window: Window) -> u64 {
+    window.to_source().period_ns()
+}
+
 /// `CpuWindow::refresh`.
 pub fn window_refresh(window: Window, now: u64) -> Run<Window> {
     run(|| {

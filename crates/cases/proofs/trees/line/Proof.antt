@@ -21,7 +21,6 @@ line-spec =
     μ-loop
     (λ c. (search needs, refl))
     (λ c κs. search needs)
-    (λ c κs. search needs)
     (λ c. search needs)
     (λ c. search needs)
     (λ c. search needs)

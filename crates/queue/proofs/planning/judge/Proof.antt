@@ -1,7 +1,7 @@
 -- The five tests, in order.
 use Rattle.refusal.specs.Cases.{cases}
-use Rattle.rows.specs.TableCases.{tables}
 use Rattle.thread.specs.FilingLaws.{filings}
+use Rattle.lists.specs.ListsLaws.{row-reads}
 use Rattle.queue.specs.PlanLaws.{plannings}
 use Rattle.queue.specs.Plan.{judgement}
 use borrow.Author.Needs.{needs}
@@ -13,16 +13,16 @@ unfolding judgement
 judge-spec =
     tie.close
     (tie.spec
-    (λ c. search (cases, tables, filings, plannings) depth 8)
-    (λ c. search (cases, tables, filings, plannings) depth 8)
+    (λ c. search (cases, row-reads, filings, plannings) depth 8)
+    (λ c. search (cases, row-reads, filings, plannings) depth 8)
+    (λ c. search needs)
+    (λ c. search needs)
+    (λ c κs. search needs)
+    (λ c. search (cases, row-reads, filings, plannings) depth 8)
     (λ c κs. search needs)
     (λ c. search needs)
     (λ c. search needs)
-    (λ c. search (cases, tables, filings, plannings) depth 8)
     (λ c κs. search needs)
-    (λ c. search (cases, tables, filings, plannings) depth 8)
-    (λ c κs. search needs)
-    (λ c. search needs)
-    (λ c. search needs)
-    (λ c. search (cases, tables, filings, plannings) depth 8)
-    (λ c. search (cases, tables, filings, plannings) depth 8))
+    (λ c. search (cases, row-reads, filings, plannings) depth 8)
+    (λ c. search (cases, row-reads, filings, plannings) depth 8)
+    (λ c. search (cases, row-reads, filings, plannings) depth 8))

@@ -1,6 +1,7 @@
 //! Run queues, their lists and their trees over plain records, run by the source.
 
 use super::super::Error;
+use super::super::algorithms::arbitration::CpuWindow;
 use super::super::algorithms::ready_index::{MutationScratch, Tree};
 use super::super::queue::access;
 use super::super::queue::{CpuRunQueue, LocalReadyQueueAuthority, Selection as SourceSelection};
@@ -267,5 +268,53 @@ impl KeptTree {
         let threads = &mut LocalReadyQueueAuthority::new(cpu);
         access::index_remove_by(threads, &mut self.tree, thread(place), &mut self.scratch)
             .map_err(refusal)
+    }
+}
+
+/// A run queue with its window over records that stay the source's own between calls, through the source's own access: for counts of instructions.
+pub struct KeptQueue {
+    records: Vec<ThreadScheduleState>,
+    queue: CpuRunQueue,
+    window: CpuWindow,
+}
+
+impl KeptQueue {
+    /// An empty queue of processor 0.
+    pub fn of(records: &[Record], window: Window) -> Self {
+        Self {
+            records: records_to_source(records),
+            queue: queue_to_source(&Queue::EMPTY),
+            window: window.to_source(),
+        }
+    }
+
+    pub fn enqueue(&mut self, place: u64) -> Answer<()> {
+        let cpu = CpuThreadTableAuthority::new(CpuIndex::from(0), &mut self.records);
+        let threads = &mut LocalReadyQueueAuthority::new(cpu);
+        self.queue
+            .enqueue(threads, thread(place), CpuIndex::from(0))
+            .map_err(refusal)
+    }
+
+    /// Handed the record's own membership.
+    pub fn remove(&mut self, place: u64) -> Answer<()> {
+        let membership = self.records[length(place)].ready_queue_links.membership;
+        let cpu = CpuThreadTableAuthority::new(CpuIndex::from(0), &mut self.records);
+        let threads = &mut LocalReadyQueueAuthority::new(cpu);
+        self.queue
+            .remove(threads, thread(place), CpuIndex::from(0), membership)
+            .map_err(refusal)
+    }
+
+    /// The number of the thread that is named, with no current thread.
+    pub fn select(&mut self, now: u64) -> Answer<Option<u64>> {
+        let cpu = CpuThreadTableAuthority::new(CpuIndex::from(0), &mut self.records);
+        let threads = &mut LocalReadyQueueAuthority::new(cpu);
+        let window = &mut self.window;
+        let selection = self
+            .queue
+            .peek_next(threads, CpuIndex::from(0), now, window, None)
+            .map_err(refusal)?;
+        Ok(selection.ready.map(|ready| number(ready.id)))
     }
 }

@@ -1,2 +1,0 @@
--- Worked cases of document 01 on words.
-pub mod WorkedCases

@@ -1,0 +1,19 @@
+-- The epoch first; else the parts, their renewal, and what it left stored.
+use Rattle.lent_selection.specs.LentLaws.{renewals}
+use borrow.Author.Needs.{needs}
+use Rattle.lent_selection.proofs.renew_lent.Statement.{statement}
+use Rattle.lent_selection.proofs.renew_lent.Tie as tie
+
+pub renew-lent-spec : {M : Type 1} → statement M
+renew-lent-spec =
+    tie.close
+    (tie.spec
+    (λ c κs. search needs)
+    (λ c κs. search needs)
+    (λ c. search renewals depth 8)
+    (λ c κs. search needs)
+    (λ c κs. search needs)
+    (λ c κs. search needs)
+    (λ c κs. search needs)
+    (λ c. search needs)
+    (λ c. search renewals depth 8))

@@ -1,0 +1,19 @@
+-- The one row that is stored; there are 270.
+use Rattle.lent_selection.specs.LentLaws.{renewals}
+use borrow.Author.Needs.{needs}
+use Rattle.lent_selection.proofs.store_marks.Statement.{statement}
+use Rattle.lent_selection.proofs.store_marks.Tie as tie
+
+pub store-marks-spec : {M : Type 1} → statement M
+store-marks-spec =
+    tie.close
+    (tie.spec
+    (λ c. search needs)
+    (λ c κs. search needs)
+    (λ c κs. search needs)
+    (λ c. search needs)
+    (λ c. search needs)
+    (λ c. search needs)
+    (λ c. search needs)
+    (λ c κs. search needs)
+    (λ c. search renewals depth 8))

@@ -1,0 +1,70 @@
+-- Selection over a queue as the code takes it: the twelve roots one by one, the change of period on the queue, and then the heads. The laws say that this is `peekNext`.
+use Prim.Native.Nat.{ℕ, zero, suc, _-_, _/_}
+use mathlib.Core.Bool.{Bool}
+use mathlib.Core.List.{List}
+use lib.ListN.{length, getD, set}
+use Rattle.refusal.specs.Answer.{value, refused}
+use Rattle.refusal.specs.Cases.{choose, given, ifLess}
+use Rattle.time.specs.declared.Epoch.{Epoch}
+use Rattle.arbitration.specs.declared.CpuWindow.{CpuWindow}
+use Rattle.arbitration.specs.Config.{soundConfig}
+use Rattle.thread.specs.declared.CpuIndex.{CpuIndex}
+use Rattle.thread.specs.declared.ThreadRecord.{ThreadRecord}
+use Rattle.rows.specs.Table.{Out, out}
+use Rattle.lists.specs.Lists.{onOut}
+use Rattle.queue.specs.declared.Root.{Root}
+use Rattle.queue.specs.declared.CpuRunQueue.{CpuRunQueue}
+use Rattle.queue.specs.Queue.{emptyRoot, maxRecords}
+use Rattle.lent_queue.specs.LentQueue.{withRoot}
+use Rattle.selection.specs.declared.CandidateOption.{CandidateOption}
+use Rattle.selection.specs.Leaves.{Leaves, leaves, onLeaves}
+use Rattle.selection.specs.Renewal.{rootAt, renew}
+use Rattle.selection.specs.Peek.{Peeked, peeked, selectionParts, withSelectionParts}
+use Rattle.selection.specs.Steps.{Looked, looked, lookedAt}
+
+-- The last so many of twelve roots copied.
+unfoldable pub copyRest : ℕ → List Root → List Root → List Root
+copyRest zero l roots = l
+copyRest (suc n) l roots = copyRest n (set l (11 - n) (record { root = rootAt roots (11 - n) })) roots
+
+-- The last so many of twelve roots stored.
+unfoldable pub storeRest : ℕ → CpuRunQueue → List Root → CpuRunQueue
+storeRest zero q roots = q
+storeRest (suc n) q roots = storeRest n (withRoot q (11 - n) (rootAt roots (11 - n))) roots
+
+-- The twelve roots stored.
+unfoldable pub withIndices : CpuRunQueue → List Root → CpuRunQueue
+withIndices q roots =
+    record { realtime = q .realtime; «realtime_len» = q .«realtime_len»; fair = q .fair; indices = roots; «budget_epoch» = q .«budget_epoch»; «budget_threads» = q .«budget_threads»; halted = q .halted }
+
+-- The epoch and the mark stored.
+unfoldable pub withMarks : CpuRunQueue → Epoch → Bool → CpuRunQueue
+withMarks q e halted =
+    record { realtime = q .realtime; «realtime_len» = q .«realtime_len»; fair = q .fair; indices = q .indices; «budget_epoch» = e; «budget_threads» = q .«budget_threads»; halted = halted }
+
+-- The change of period, on a queue.
+unfoldable pub renewedQueue : List ThreadRecord → CpuRunQueue → ℕ → ℕ → Out (Leaves (Unit {0}) CpuRunQueue)
+renewedQueue t q now e =
+    onOut (renew t (selectionParts q) now e)
+    (λ s t₁. onLeaves s
+    (λ n p. out (leaves (refused n) (withSelectionParts q p)) t₁)
+    (λ u p. out (leaves (value tt) (withSelectionParts q p)) t₁))
+
+abbrev pub besideQueue : CpuRunQueue → Looked → Peeked CpuRunQueue
+besideQueue q (looked a w) = peeked a w q
+
+-- With a window that is sound and a queue that runs.
+unfoldable pub runningQueue : List ThreadRecord → CpuRunQueue → CpuIndex → ℕ → CpuWindow → CandidateOption → Out (Peeked CpuRunQueue)
+runningQueue t q c now w current =
+    given (now / w .config .«period_ns»)
+    (λ e. onOut (renewedQueue t q now e)
+    (λ s t₁. onLeaves s
+    (λ n q₁. out (peeked (refused n) w q₁) t₁)
+    (λ u q₁. onOut (lookedAt t₁ (q₁ .indices) c now w current) (λ x t₂. out (besideQueue q₁ x) t₂))))
+
+unfoldable pub peekQueue : List ThreadRecord → CpuRunQueue → CpuIndex → ℕ → CpuWindow → CandidateOption → Out (Peeked CpuRunQueue)
+peekQueue t q c now w current =
+    ifLess maxRecords (length t) (out (peeked (refused 10) w q) t)
+    (choose (soundConfig (w .config))
+    (choose (q .halted) (out (peeked (refused 9) w q) t) (runningQueue t q c now w current))
+    (out (peeked (refused 5) w q) t))

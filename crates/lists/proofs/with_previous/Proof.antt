@@ -1,0 +1,16 @@
+-- The stores are at the words of this link alone, and the row has 32 words, so that each is made.
+use Rattle.lists.specs.ListsLaws.{previous-stored}
+use borrow.Author.Needs.{needs}
+use Rattle.lists.proofs.with_previous.Statement.{statement}
+use Rattle.lists.proofs.with_previous.Tie as tie
+
+pub with-previous-spec : {M : Type 1} → statement M
+with-previous-spec =
+    tie.close
+    (tie.spec
+    (λ c κs. search needs)
+    (λ c. search needs)
+    (λ c. search needs)
+    (λ c. search needs)
+    (λ c. search needs)
+    (λ c. search previous-stored depth 8))

@@ -1,0 +1,120 @@
+// What the judgement asks of a record, read from the words of its row by the tags: no record is made only to be taken apart again.
+ghost use mathlib.Core.Path.{_≡_};
+ghost use Rattle.thread.specs.Judgement.{isBadRecord};
+ghost use Rattle.thread.specs.Filing.{budgetAvailable, indexFor};
+ghost use Rattle.codec.specs.Codec.{decoded};
+ghost use Rattle.queue.specs.Plan.{filedOf};
+ghost use Rattle.queue.specs.RowJudgement.{kindFrom, roleNumber};
+use crate::Filed;
+use codec::byte_from;
+use codec::membership_from;
+use codec::parameters_of;
+use policy::BudgetParameters;
+use thread::CpuIndex;
+use thread::IndexFor;
+
+// FIFO, Fair, Budget and Idle as 0 to 3, of a policy's tag or a runtime's.
+pub fn kind_from(tag: u64) -> u64
+    ensures { λ r. ⌜ r ≡ kindFrom tag ⌝ }
+{
+    if tag == 0 {
+        return 0;
+    }
+    if tag == 1 {
+        return 1;
+    }
+    if tag == 2 {
+        return 2;
+    }
+    3
+}
+
+pub fn role_number(tag: u64) -> u64
+    ensures { λ r. ⌜ r ≡ roleNumber tag ⌝ }
+{
+    if tag == 0 {
+        return 0;
+    }
+    if tag == 1 {
+        return 1;
+    }
+    2
+}
+
+pub fn is_bad_row(w: [u64; 32]) -> bool
+    ensures { λ r. ⌜ r ≡ isBadRecord (decoded w) ⌝ }
+{
+    let policy = kind_from(w[0]);
+    let runtime = kind_from(w[11]);
+    if runtime == policy {
+        if policy == 2 {
+            if w[7] == 0 {
+                return true;
+            }
+            let budget = BudgetParameters {
+                budget_ns: w[8],
+                period_ns: w[9],
+                burst_ns: w[10],
+            };
+            if budget.is_sound() {
+                return false;
+            }
+            return true;
+        }
+        if w[7] == 0 {
+            return false;
+        }
+        return true;
+    }
+    true
+}
+
+// Whether the runtime is a budget's with time left.
+pub fn has_time_left(w: [u64; 32]) -> bool
+    ensures { λ r. ⌜ r ≡ budgetAvailable (decoded w .runtime) ⌝ }
+{
+    let runtime = kind_from(w[11]);
+    if runtime == 2 {
+        if w[14] == 0 {
+            return false;
+        }
+        return true;
+    }
+    false
+}
+
+// The tree that the row's record is filed in. After `index_for`.
+pub fn index_of_row(w: [u64; 32]) -> IndexFor
+    ensures { λ r. ⌜ r ≡ indexFor (decoded w .parameters) (decoded w .runtime) ⌝ }
+{
+    let role = role_number(w[3]);
+    let policy = kind_from(w[0]);
+    if policy == 0 {
+        return IndexFor::Index(role);
+    }
+    if policy == 1 {
+        return IndexFor::Index(3 + role);
+    }
+    if policy == 2 {
+        if has_time_left(w) {
+            return IndexFor::Index(6 + role);
+        }
+        return IndexFor::Index(9 + role);
+    }
+    IndexFor::None
+}
+
+pub fn filed_of_row(w: [u64; 32], index: u64) -> Filed
+    ensures { λ r. ⌜ r ≡ filedOf (decoded w) index ⌝ }
+{
+    let parameters = parameters_of(w);
+    let policy = parameters.policy;
+    let membership = membership_from(w[26], w[27], w[28]);
+    let number = byte_from(w[29]);
+    Filed {
+        policy,
+        membership,
+        cpu: CpuIndex(number),
+        index,
+    }
+}

@@ -1,0 +1,15 @@
+-- The words stand for the arguments, the call answers by its own contract, and its answer is stored.
+use borrow.Author.Needs.{needs}
+use Rattle.record_entries.proofs.budget_reconfigure.Statement.{statement}
+use Rattle.record_entries.proofs.budget_reconfigure.Tie as tie
+
+pub budget-reconfigure-spec : {M : Type 1} → statement M
+budget-reconfigure-spec =
+    tie.close
+    (tie.spec
+    (λ c κs. search needs)
+    (λ c κs. search needs)
+    (λ c κs. search needs)
+    (λ c κs. search needs)
+    (λ c κs. search needs)
+    (λ c. cc))

@@ -1,0 +1,14 @@
+-- The words stand for the arguments, the call answers by its own contract, and its answer is stored.
+use borrow.Author.Needs.{needs}
+use Rattle.record_entries.proofs.budget_refresh.Statement.{statement}
+use Rattle.record_entries.proofs.budget_refresh.Tie as tie
+
+pub budget-refresh-spec : {M : Type 1} → statement M
+budget-refresh-spec =
+    tie.close
+    (tie.spec
+    (λ c κs. search needs)
+    (λ c κs. search needs)
+    (λ c κs. search needs)
+    (λ c κs. search needs)
+    (λ c. cc))

@@ -1,0 +1,13 @@
+-- The words stand for the arguments, and what the constructor makes is stored in the row.
+use borrow.Author.Needs.{needs}
+use Rattle.record_entries.proofs.parameters_fifo.Statement.{statement}
+use Rattle.record_entries.proofs.parameters_fifo.Tie as tie
+
+pub parameters-fifo-spec : {M : Type 1} → statement M
+parameters-fifo-spec =
+    tie.close
+    (tie.spec
+    (λ c κs. search needs)
+    (λ c κs. search needs)
+    (λ c κs. search needs)
+    (λ c. cc))

@@ -1,0 +1,12 @@
+-- The words stand for the arguments, and what the constructor makes is stored in the row.
+use borrow.Author.Needs.{needs}
+use Rattle.record_entries.proofs.parameters_idle.Statement.{statement}
+use Rattle.record_entries.proofs.parameters_idle.Tie as tie
+
+pub parameters-idle-spec : {M : Type 1} → statement M
+parameters-idle-spec =
+    tie.close
+    (tie.spec
+    (λ c κs. search needs)
+    (λ c κs. search needs)
+    (λ c. cc))

@@ -1,0 +1,16 @@
+-- An answer's value is stored, a refusal's number is told.
+use Rattle.record_entries.specs.EntryLaws.{entries}
+use borrow.Author.Needs.{needs}
+use Rattle.record_entries.proofs.store_budget_runtime.Statement.{statement}
+use Rattle.record_entries.proofs.store_budget_runtime.Tie as tie
+
+pub store-budget-runtime-spec : {M : Type 1} → statement M
+store-budget-runtime-spec =
+    tie.close
+    (tie.spec
+    (λ c. search needs)
+    (λ c κs. search needs)
+    (λ c. search needs)
+    (λ c κs. search needs)
+    (λ c. search entries depth 8)
+    (λ c. search entries depth 8))

@@ -1,0 +1,46 @@
+-- What the words of a budget, of its runtime and of the answers about a record stand for.
+use Prim.Native.Nat.{ℕ, _%_}
+use mathlib.Core.List.{List}
+use mathlib.Core.Option.{Option, none, some}
+use Rattle.refusal.specs.Cases.{ifEqual}
+use Rattle.policy.specs.declared.BudgetParameters.{BudgetParameters}
+use Rattle.policy.specs.declared.PriorityOption.{PriorityOption}
+use Rattle.policy.specs.declared.PriorityOption.the-variants as priority
+use Rattle.policy.specs.declared.SchedulingClass.{SchedulingClass}
+use Rattle.policy.specs.declared.SchedulingClass.the-variants as class
+use Rattle.policy.specs.declared.WeightOption.{WeightOption}
+use Rattle.policy.specs.declared.WeightOption.the-variants as weight
+use Rattle.budget.specs.declared.BudgetRuntime.{BudgetRuntime}
+use Rattle.algorithms.specs.declared.RuntimeKey.{RuntimeKey}
+use Rattle.codec.specs.Codec.{word, epochFrom}
+
+-- Budget, period and burst.
+unfoldable pub budgetOf : List ℕ → BudgetParameters
+budgetOf w = record { «budget_ns» = word w 0; «period_ns» = word w 1; «burst_ns» = word w 2 }
+
+-- The epoch's two words, what remains, what remains of the burst.
+unfoldable pub budgetRuntimeOf : List ℕ → BudgetRuntime
+budgetRuntimeOf w = record { epoch = epochFrom (word w 0) (word w 1); «remaining_ns» = word w 2; «burst_remaining_ns» = word w 3 }
+
+-- A budget's runtime, or none where word 4 is 0.
+unfoldable pub runtimeOptionOf : List ℕ → Option BudgetRuntime
+runtimeOptionOf w = ifEqual (word w 4) 0 none (some (budgetRuntimeOf w))
+
+-- The pass by its halves, and the turn.
+unfoldable pub runtimeKeyOf : List ℕ → RuntimeKey
+runtimeKeyOf w = record { pass = record { high = word w 0; low = word w 1 }; turn = word w 2 }
+
+-- 0 none, else the priority.
+unfoldable pub priorityOptionOf : List ℕ → PriorityOption
+priorityOptionOf w = ifEqual (word w 0) 0 priority.None (priority.Some (record { 0 = word w 1 % 256 }))
+
+abbrev pub classNumber : SchedulingClass → ℕ
+classNumber class.RealTime = 0
+classNumber class.Fair = 1
+classNumber class.Budget = 2
+classNumber class.Idle = 3
+
+-- 0 where there is none.
+abbrev pub weightNumber : WeightOption → ℕ
+weightNumber (weight.Some w) = w .0
+weightNumber weight.None = 0

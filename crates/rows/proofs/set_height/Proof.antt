@@ -1,0 +1,18 @@
+-- Inside the table one row is replaced by itself with one part changed, outside nothing is.
+use Rattle.rows.specs.RowTableLaws.{set-height-inside, set-height-outside}
+use borrow.Author.Needs.{needs}
+use Rattle.rows.proofs.set_height.Statement.{statement}
+use Rattle.rows.proofs.set_height.Tie as tie
+
+pub set-height-spec : {M : Type 1} → statement M
+set-height-spec =
+    tie.close
+    (tie.spec
+    (λ c. search needs)
+    (λ c. search needs)
+    (λ c κs. search needs)
+    (λ c. search needs)
+    (λ c. search needs)
+    (λ c. search needs)
+    (λ c. search (set-height-inside, set-height-outside) depth 8)
+    (λ c. search (set-height-inside, set-height-outside) depth 8))

@@ -1,0 +1,18 @@
+-- Inside the table one row is replaced by itself with one part changed, outside nothing is.
+use Rattle.rows.specs.RowTableLaws.{set-left-inside, set-left-outside}
+use borrow.Author.Needs.{needs}
+use Rattle.rows.proofs.set_left.Statement.{statement}
+use Rattle.rows.proofs.set_left.Tie as tie
+
+pub set-left-spec : {M : Type 1} → statement M
+set-left-spec =
+    tie.close
+    (tie.spec
+    (λ c. search needs)
+    (λ c. search needs)
+    (λ c κs. search needs)
+    (λ c. search needs)
+    (λ c. search needs)
+    (λ c. search needs)
+    (λ c. search (set-left-inside, set-left-outside) depth 8)
+    (λ c. search (set-left-inside, set-left-outside) depth 8))

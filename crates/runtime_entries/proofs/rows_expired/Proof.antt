@@ -1,0 +1,17 @@
+-- The call answers by its own contract, and its answer is stored.
+use Rattle.runtime_entries.specs.EntryLaws.{entries}
+use borrow.Author.Needs.{needs}
+use Rattle.runtime_entries.proofs.rows_expired.Statement.{statement}
+use Rattle.runtime_entries.proofs.rows_expired.Tie as tie
+
+pub rows-expired-spec : {M : Type 1} → statement M
+rows-expired-spec =
+    tie.close
+    (tie.spec
+    (λ c κs. search needs)
+    (λ c. search needs)
+    (λ c κs. search needs)
+    (λ c. search needs)
+    (λ c κs. search needs)
+    (λ c. search entries depth 8)
+    (λ c. search entries depth 8))

@@ -1,0 +1,20 @@
+-- The turns that calls hand out, one after another.
+pub mod Handed
+-- What one call does to the counters.
+pub mod Outcome
+-- Turns are in order, and never repeat.
+pub mod Order
+-- Which of two FIFO threads comes first.
+pub mod Keys
+-- Budgets and windows under refresh and charge.
+pub mod Budgets
+-- What a judged record is, and what refreshing and accounting give of it.
+pub mod Judged
+-- Preparing and accounting, their refusals in order, and that a refusal changes nothing.
+pub mod Calls
+-- The theorems about turns, budgets and windows.
+pub mod Theorems
+-- A small table that meets the premises.
+pub mod Instance
+-- Document 01's sentences on numbers.
+pub mod WorkedDecisions

@@ -1,0 +1,14 @@
+-- The words stand for the arguments, and the call answers by its own contract.
+use borrow.Author.Needs.{needs}
+use Rattle.window_entries.proofs.config_admits.Statement.{statement}
+use Rattle.window_entries.proofs.config_admits.Tie as tie
+
+pub config-admits-spec : {M : Type 1} → statement M
+config-admits-spec =
+    tie.close
+    (tie.spec
+    (λ c κs. search needs)
+    (λ c κs. search needs)
+    (λ c κs. search needs)
+    (λ c κs. search needs)
+    (λ c. cc))

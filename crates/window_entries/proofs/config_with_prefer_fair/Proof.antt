@@ -1,0 +1,13 @@
+-- The words stand for the arguments, and the call answers by its own contract.
+use borrow.Author.Needs.{needs}
+use Rattle.window_entries.proofs.config_with_prefer_fair.Statement.{statement}
+use Rattle.window_entries.proofs.config_with_prefer_fair.Tie as tie
+
+pub config-with-prefer-fair-spec : {M : Type 1} → statement M
+config-with-prefer-fair-spec =
+    tie.close
+    (tie.spec
+    (λ c κs. search needs)
+    (λ c κs. search needs)
+    (λ c κs. search needs)
+    (λ c. cc))

@@ -1,0 +1,14 @@
+-- The words stand for the arguments, and the call answers by its own contract.
+use borrow.Author.Needs.{needs}
+use Rattle.window_entries.proofs.dispatch_keys_compare.Statement.{statement}
+use Rattle.window_entries.proofs.dispatch_keys_compare.Tie as tie
+
+pub dispatch-keys-compare-spec : {M : Type 1} → statement M
+dispatch-keys-compare-spec =
+    tie.close
+    (tie.spec
+    (λ c κs. search needs)
+    (λ c κs. search needs)
+    (λ c κs. search needs)
+    (λ c κs. search needs)
+    (λ c. cc))

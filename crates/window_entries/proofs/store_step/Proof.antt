@@ -1,0 +1,16 @@
+-- An accepted step's window is stored, a refusal's number is told.
+use Rattle.window_entries.specs.EntryLaws.{entries}
+use borrow.Author.Needs.{needs}
+use Rattle.window_entries.proofs.store_step.Statement.{statement}
+use Rattle.window_entries.proofs.store_step.Tie as tie
+
+pub store-step-spec : {M : Type 1} → statement M
+store-step-spec =
+    tie.close
+    (tie.spec
+    (λ c. search needs)
+    (λ c κs. search needs)
+    (λ c. search needs)
+    (λ c κs. search needs)
+    (λ c. search entries depth 8)
+    (λ c. search entries depth 8))

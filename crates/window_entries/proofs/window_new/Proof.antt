@@ -1,0 +1,18 @@
+-- The window that is made is stored, a refusal's number is told.
+use Rattle.window_entries.specs.EntryLaws.{entries}
+use borrow.Author.Needs.{needs}
+use Rattle.window_entries.proofs.window_new.Statement.{statement}
+use Rattle.window_entries.proofs.window_new.Tie as tie
+
+pub window-new-spec : {M : Type 1} → statement M
+window-new-spec =
+    tie.close
+    (tie.spec
+    (λ c κs. search needs)
+    (λ c κs. search needs)
+    (λ c. search needs)
+    (λ c κs. search needs)
+    (λ c. search needs)
+    (λ c κs. search needs)
+    (λ c. search entries depth 8)
+    (λ c. search entries depth 8))

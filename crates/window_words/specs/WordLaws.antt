@@ -1,0 +1,111 @@
+-- Laws of a window's words and of its calls': what was stored is what they stand for.
+use Prim.Native.Nat.{ℕ, _%_}
+use mathlib.Core.Path.{_≡_, refl, sym, _∙_}
+use mathlib.Core.Bool.{Bool, true, false}
+use mathlib.Core.List.{List, [], _∷_}
+use lib.ListN.{length, set}
+use Rattle.refusal.specs.Cases.{choose, ifEqual}
+use Rattle.time.specs.declared.Epoch.{Epoch}
+use Rattle.time.specs.declared.Deadline.{Deadline}
+use Rattle.time.specs.declared.Deadline.the-variants as deadline
+use Rattle.policy.specs.declared.SchedulingParameters.{SchedulingParameters}
+use Rattle.arbitration.specs.declared.ArbitrationConfig.{ArbitrationConfig}
+use Rattle.arbitration.specs.declared.ArbitrationOrder.{ArbitrationOrder}
+use Rattle.arbitration.specs.declared.CpuWindow.{CpuWindow}
+use Rattle.arbitration.specs.declared.DispatchKey.{DispatchKey}
+use Rattle.arbitration.specs.declared.DispatchMode.{DispatchMode}
+use Rattle.arbitration.specs.declared.DispatchMode.the-variants as mode
+use Rattle.arbitration.specs.declared.KeyOption.{KeyOption}
+use Rattle.arbitration.specs.declared.KeyOption.the-variants as key
+use Rattle.codec.specs.Codec.{word, epochFrom}
+use Rattle.codec.specs.RowLaws.{by-words}
+use Rattle.window_words.specs.WindowWords.{flagFrom, modeFrom, orderOf, configOf, windowOf, configured, progressed, dispatchKeyOf, keyOptionOf, deadlineOf}
+
+pub set-flag : {b : Bool} → b ≡ true → flagFrom 1 ≡ b
+unfolding flagFrom ifEqual choose
+set-flag h = sym h
+
+pub clear-flag : {b : Bool} → b ≡ false → flagFrom 0 ≡ b
+unfolding flagFrom ifEqual choose
+clear-flag h = sym h
+
+module _ {m : DispatchMode} where
+  pub strict-word : m ≡ mode.StrictFifo → modeFrom 0 ≡ m
+  unfolding modeFrom ifEqual choose
+  strict-word h = sym h
+
+  pub priority-word : m ≡ mode.Priority → modeFrom 1 ≡ m
+  unfolding modeFrom ifEqual choose
+  priority-word h = sym h
+
+  pub protected-word : m ≡ mode.Protected → modeFrom 2 ≡ m
+  unfolding modeFrom ifEqual choose
+  protected-word h = sym h
+
+  pub ordinary-word : m ≡ mode.Ordinary → modeFrom 3 ≡ m
+  unfolding modeFrom ifEqual choose
+  ordinary-word h = sym h
+
+  pub borrow-word : m ≡ mode.Borrow → modeFrom 4 ≡ m
+  unfolding modeFrom ifEqual choose
+  borrow-word h = sym h
+
+module _ {d : Deadline} where
+  pub no-deadline-words : d ≡ deadline.None → deadlineOf (0 ∷ 0 ∷ []) ≡ d
+  unfolding deadlineOf ifEqual choose
+  no-deadline-words h = sym h
+
+  pub deadline-words : {n : ℕ} → d ≡ deadline.Some n → deadlineOf (1 ∷ n ∷ []) ≡ d
+  unfolding deadlineOf ifEqual choose
+  deadline-words h = sym h
+
+module _ {k : KeyOption} where
+  pub no-key-words : k ≡ key.None → keyOptionOf (0 ∷ 0 ∷ 0 ∷ 0 ∷ 0 ∷ 0 ∷ 0 ∷ 0 ∷ 0 ∷ []) ≡ k
+  unfolding keyOptionOf ifEqual choose
+  no-key-words h = sym h
+
+  pub key-words : {x : DispatchKey} {m : DispatchMode} (w : List ℕ) → k ≡ key.Some x m → keyOptionOf w ≡ key.Some x m → keyOptionOf w ≡ k
+  key-words w h e = e ∙ sym h
+
+pub ruleset word-laws = (set-flag, clear-flag, strict-word, priority-word, protected-word, ordinary-word, borrow-word, no-deadline-words, deadline-words, no-key-words, key-words)
+
+pub config-stored : (r : List ℕ) (c : ArbitrationConfig) (priority budget fair borrow prefer : ℕ)
+    → length r ≡ 12
+    → priority % 256 ≡ c .order .«priority_rank»
+    → budget % 256 ≡ c .order .«budget_rank»
+    → fair % 256 ≡ c .order .«fair_rank»
+    → borrow % 256 ≡ c .order .«borrow_rank»
+    → flagFrom prefer ≡ c .«prefer_fair»
+    → windowOf (set (set (set (set (set (set (set (set r 0 (c .«period_ns»)) 1 (c .«priority_allowance_ns»)) 2 (c .«protected_floor_ns»)) 3 priority) 4 budget) 5 fair) 6 borrow) 7 prefer) ≡ configured (windowOf r) c
+unfolding windowOf configOf orderOf
+config-stored r c priority budget fair borrow prefer size e₁ e₂ e₃ e₄ e₅ =
+    by-words 12 (λ (r : List ℕ). windowOf (set (set (set (set (set (set (set (set r 0 (c .«period_ns»)) 1 (c .«priority_allowance_ns»)) 2 (c .«protected_floor_ns»)) 3 priority) 4 budget) 5 fair) 6 borrow) 7 prefer) ≡ configured (windowOf r) c)
+    (λ x0 x1 x2 x3 x4 x5 x6 x7 x8 x9 x10 x11. rw (e₁, e₂, e₃, e₄, e₅))
+    r size
+
+pub progress-stored : (r : List ℕ) (e : Epoch) (a : List ℕ) (allowance floor : ℕ)
+    → length r ≡ 12
+    → epochFrom (word a 0) (word a 1) ≡ e
+    → windowOf (set (set (set (set r 8 (word a 0)) 9 (word a 1)) 10 allowance) 11 floor) ≡ progressed (windowOf r) e allowance floor
+unfolding windowOf configOf orderOf
+progress-stored r e a allowance floor size h =
+    by-words 12 (λ (r : List ℕ). windowOf (set (set (set (set r 8 (word a 0)) 9 (word a 1)) 10 allowance) 11 floor) ≡ progressed (windowOf r) e allowance floor)
+    (λ x0 x1 x2 x3 x4 x5 x6 x7 x8 x9 x10 x11. rw h)
+    r size
+
+-- A row whose configuration and progress were stored stands for the window with both.
+pub window-stored : (w : CpuWindow) (w₀ w₁ w₂ : List ℕ)
+    → windowOf w₁ ≡ configured (windowOf w₀) (w .config)
+    → windowOf w₂ ≡ progressed (windowOf w₁) (w .epoch) (w .«priority_remaining_ns») (w .«protected_remaining_ns»)
+    → windowOf w₂ ≡ w
+window-stored w w₀ w₁ w₂ e₁ e₂ = rw (e₂, e₁)
+
+pub key-stored : (k : DispatchKey) (m : DispatchMode) (mode urgency rank algorithm band : ℕ)
+    → modeFrom mode ≡ m
+    → urgency % 256 ≡ k .urgency
+    → rank % 256 ≡ k .rank
+    → algorithm % 256 ≡ k .«algorithm_rank»
+    → band % 256 ≡ k .band
+    → keyOptionOf (1 ∷ mode ∷ urgency ∷ rank ∷ algorithm ∷ k .algorithm .high ∷ k .algorithm .low ∷ band ∷ k .turn ∷ []) ≡ key.Some k m
+unfolding keyOptionOf dispatchKeyOf ifEqual choose
+key-stored k m mode urgency rank algorithm band e₁ e₂ e₃ e₄ e₅ = rw (e₁, e₂, e₃, e₄, e₅)

@@ -1,0 +1,67 @@
+//! One table on both sides: the port's rows and the oracle's records.
+
+use kernel::oracle::*;
+
+use crate::rows::{Row, record_of, row_of};
+
+/// What a call gives, or the number of a refusal.
+pub type Answer<T> = Result<T, u64>;
+
+/// A table of up to so many records is printed whole with a differing call.
+const SHOWN: usize = 64;
+
+/// A record with its place, or none.
+pub type Placed = Option<(usize, Record)>;
+
+#[derive(Clone)]
+pub struct Table {
+    pub rows: Vec<Row>,
+    pub records: Vec<Record>,
+}
+
+impl Table {
+    pub fn of(records: Vec<Record>) -> Self {
+        let rows = records.iter().map(row_of).collect();
+        Self { rows, records }
+    }
+
+    /// What any words stand for.
+    pub fn of_rows(rows: Vec<Row>) -> Self {
+        let records = rows.iter().map(record_of).collect();
+        Self { rows, records }
+    }
+
+    /// Another record in a place, on both sides.
+    pub fn put(&mut self, place: usize, record: Record) {
+        self.rows[place] = row_of(&record);
+        self.records[place] = record;
+    }
+
+    /// The records before a call, to be shown where it differs.
+    pub fn shown(&self) -> Option<Vec<Record>> {
+        (self.records.len() <= SHOWN).then(|| self.records.clone())
+    }
+
+    /// The first record that differs, as the port and as the source left it. Every row is looked at.
+    pub fn difference(&self) -> (Placed, Placed) {
+        let pairs = self.rows.iter().zip(&self.records).enumerate();
+        for (place, (row, record)) in pairs {
+            if *row != row_of(record) && record_of(row) != *record {
+                return (Some((place, record_of(row))), Some((place, *record)));
+            }
+        }
+        (None, None)
+    }
+}
+
+/// The source's answer as the port's: document 01, "Turned down".
+pub fn expected<T>(answer: kernel::oracle::Answer<T>) -> Answer<T> {
+    answer.map_err(|refusal| match refusal {
+        Refusal::ThreadNotFound | Refusal::QueueCorrupted | Refusal::MoveLimit => 1,
+        Refusal::InvalidThreadState => 2,
+        Refusal::ThreadAlreadyQueued => 3,
+        Refusal::Halted(_) => 9,
+        Refusal::RecordDisagrees => 11,
+        other => panic!("a refusal that these calls do not give: {other:?}"),
+    })
+}
