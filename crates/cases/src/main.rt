@@ -1,7 +1,9 @@
 // Runs the worked cases of document 01 on the code, prints each answer beside its case, and ends with how many differ.
 mod budgets;
+mod peeks;
 mod queues;
 mod report;
+mod selections;
 mod steps;
 mod trees;
 mod values;
@@ -38,9 +40,18 @@ fn queue_cases(n: u64) -> u64 {
     values::queues(g)
 }
 
+// `peek_next` of scheduler/queue.rs.
+fn selection_cases(n: u64) -> u64 {
+    let a = selections::heads(n);
+    let b = selections::periods(a);
+    let c = selections::moves(b);
+    selections::answers(c)
+}
+
 fn main() {
     report::proved(worked_cases::count());
     let a = budget_cases(0);
     let b = window_cases(a);
-    report::total(queue_cases(b));
+    let c = queue_cases(b);
+    report::total(selection_cases(c));
 }

@@ -53,7 +53,7 @@ queueLinksSeen l = linkSeen (l .previous) ++ linkSeen (l .next) ++ membershipSee
 abbrev budgetSeen : BudgetRuntime → List ℕ
 budgetSeen b = epochSeen (b .epoch) ++ b .«remaining_ns» ∷ b .«burst_remaining_ns» ∷ []
 
-abbrev pub runtimeSeen : PolicyRuntime → List ℕ
+abbrev runtimeSeen : PolicyRuntime → List ℕ
 runtimeSeen runtime.Fifo = 0 ∷ []
 runtimeSeen (runtime.Fair f) = 1 ∷ f .pass .high ∷ f .pass .low ∷ f .«remaining_ns» ∷ []
 runtimeSeen (runtime.Budget b) = 2 ∷ budgetSeen b

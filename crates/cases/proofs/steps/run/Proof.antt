@@ -1,12 +1,13 @@
 -- The loop ends: what is left of the steps falls.
 use Prim.Native.Nat.{_≤_, _-_}
+use mathlib.Core.Path.{_≡_}
 use lib.ListN.{length}
 use borrow.Author.Needs.{needs}
 use Rattle.cases.proofs.steps.run.Statement.{statement}
 use Rattle.cases.proofs.steps.run.Tie as tie
 
 abbrev Inv-loop : tie.InvT-loop
-Inv-loop n q₀ t₀ steps count₀ i₀ q t count i = i ≤ length steps
+Inv-loop n q₀ t₀ steps count₀ i₀ q t count i = (i ≤ length steps) × (length t ≡ length t₀)
 
 abbrev μ-loop : tie.MeasureT-loop
 μ-loop n q₀ t₀ steps count₀ i₀ q t count i = length steps - i
@@ -21,6 +22,7 @@ run-spec =
     (λ c. search needs)
     (λ c. search needs)
     (λ c κs. search needs)
+    (λ c. search needs)
     (λ c. search needs)
     (λ c. search needs)
     (λ c. search needs)
