@@ -2,9 +2,6 @@
 use Rattle.refusal.specs.Answer.{Answer, value, refused, numberOf}
 use Rattle.time.specs.declared.Deadline.{Deadline}
 use Rattle.budget.specs.Answers.{deadlineAnswer}
-use Rattle.arbitration.specs.declared.ArbitrationConfig.{ArbitrationConfig}
-use Rattle.arbitration.specs.declared.ConfigMade.{ConfigMade}
-use Rattle.arbitration.specs.declared.ConfigMade.the-variants as config
 use Rattle.arbitration.specs.declared.CpuWindow.{CpuWindow}
 use Rattle.arbitration.specs.declared.WindowMade.{WindowMade}
 use Rattle.arbitration.specs.declared.WindowMade.the-variants as window
@@ -17,10 +14,7 @@ use Rattle.arbitration.specs.declared.KeyAnswer.{KeyAnswer}
 use Rattle.arbitration.specs.declared.KeyAnswer.the-variants as key
 use Rattle.arbitration.specs.declared.WindowKey.{WindowKey}
 use Rattle.arbitration.specs.Calls.{With, with}
-
-abbrev pub configMade : ConfigMade → Answer ArbitrationConfig
-configMade (config.Made c) = value c
-configMade (config.Refused n) = refused (numberOf n)
+pub use Rattle.window_config.specs.Made.{configMade}
 
 abbrev pub windowMade : WindowMade → Answer CpuWindow
 windowMade (window.Made w) = value w

@@ -12,7 +12,7 @@ use Rattle.arbitration.specs.declared.Demand.{Demand}
 use Rattle.arbitration.specs.declared.Candidate.{Candidate}
 use Rattle.arbitration.specs.declared.DispatchMode.{DispatchMode}
 use Rattle.arbitration.specs.declared.KeyOption.{KeyOption}
-use Rattle.arbitration.specs.Config.{soundConfig}
+use Rattle.window_config.specs.Config.{soundConfig}
 use Rattle.arbitration.specs.Window.{refreshed, charged, protectionDeadline, nextDeadline}
 use Rattle.arbitration.specs.Key.{keyOf}
 

@@ -1,19 +1,17 @@
--- Dispatch keys: their order, and the key that a refreshed window gives a candidate. After arbitration.rs.
+-- Dispatch keys: the key that a refreshed window gives a candidate. After arbitration.rs.
 use Prim.Native.Nat.{ℕ}
 use mathlib.Core.Bool.{Bool, true, false, not}
-use mathlib.Core.List.{List, [], _∷_}
 use Rattle.refusal.specs.Cases.{choose, given, ifEqual}
-use Rattle.order.specs.declared.Ordering.{Ordering}
-use Rattle.order.specs.Order.{compareParts}
 use Rattle.policy.specs.PolicyCases.{onPolicy, onRole, onBackend}
 use Rattle.policy.specs.declared.SchedulingPolicy.{SchedulingPolicy}
 use Rattle.policy.specs.declared.SchedulingRole.{SchedulingRole}
 use Rattle.policy.specs.declared.SchedulingParameters.{SchedulingParameters}
-use Rattle.arbitration.specs.declared.ArbitrationOrder.{ArbitrationOrder}
+use Rattle.window_config.specs.declared.ArbitrationOrder.{ArbitrationOrder}
 use Rattle.arbitration.specs.declared.CpuWindow.{CpuWindow}
 use Rattle.arbitration.specs.declared.Demand.{Demand}
 use Rattle.arbitration.specs.declared.Candidate.{Candidate}
-use Rattle.arbitration.specs.declared.DispatchKey.{DispatchKey}
+pub use Rattle.dispatch_keys.specs.Keys.{keyParts}
+unfoldable pub use Rattle.dispatch_keys.specs.Keys.{compareKeys}
 use Rattle.arbitration.specs.declared.DispatchMode.the-variants as mode
 use Rattle.arbitration.specs.declared.Tier.{Tier}
 use Rattle.arbitration.specs.declared.AlgorithmOption.{AlgorithmOption}
@@ -21,36 +19,8 @@ use Rattle.arbitration.specs.declared.AlgorithmOption.the-variants as al
 use Rattle.arbitration.specs.declared.Algorithm.{Algorithm}
 use Rattle.arbitration.specs.declared.KeyOption.{KeyOption}
 use Rattle.arbitration.specs.declared.KeyOption.the-variants as key
-use Rattle.arbitration.specs.Config.{acceptsBudget}
+use Rattle.window_config.specs.Config.{acceptsBudget}
 use Rattle.arbitration.specs.Window.{isPriority, isProtected, dueAt}
-
--- The last parts: band, then turn.
-abbrev pub bandParts : DispatchKey → List ℕ
-bandParts k = k .band ∷ k .turn ∷ []
-
--- The parts that come after urgency, rank and algorithm rank: the algorithm, its high half first, then band and turn.
-abbrev pub localParts : DispatchKey → List ℕ
-localParts k = k .algorithm .high ∷ k .algorithm .low ∷ bandParts k
-
-abbrev pub algorithmParts : DispatchKey → List ℕ
-algorithmParts k = k .«algorithm_rank» ∷ localParts k
-
--- A key's parts in the order in which they compare: as declared.
-abbrev pub keyParts : DispatchKey → List ℕ
-keyParts k = k .urgency ∷ k .rank ∷ algorithmParts k
-
-unfoldable pub compareBands : DispatchKey → DispatchKey → Ordering
-compareBands a b = compareParts (bandParts a) (bandParts b)
-
-unfoldable pub compareLocal : DispatchKey → DispatchKey → Ordering
-compareLocal a b = compareParts (localParts a) (localParts b)
-
-unfoldable pub compareWithinRank : DispatchKey → DispatchKey → Ordering
-compareWithinRank a b = compareParts (algorithmParts a) (algorithmParts b)
-
--- Dispatch keys compare as declared.
-unfoldable pub compareKeys : DispatchKey → DispatchKey → Ordering
-compareKeys a b = compareParts (keyParts a) (keyParts b)
 
 -- A Budget thread with no time left.
 unfoldable pub exhaustedOf : Candidate → Bool

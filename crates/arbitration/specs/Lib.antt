@@ -1,5 +1,3 @@
--- Which configurations are sound, and which threads they admit.
-pub mod Config
 -- What a window does with time: refresh, charge, deadlines.
 pub mod Window
 -- Dispatch keys: their order, and the key of a candidate.
@@ -10,5 +8,3 @@ pub mod Calls
 pub mod Answers
 -- Laws for going by a mode and by an algorithm.
 pub mod ArbitrationLaws
--- Dispatch keys are in a strict total order.
-pub mod KeyOrder

@@ -11,12 +11,12 @@ use Rattle.time.specs.Time.{rises, chargeOf, checkedAdd, periodEnd, earliestOf,
 use Rattle.policy.specs.PolicyCases.{onRole}
 use Rattle.policy.specs.declared.SchedulingRole.{SchedulingRole}
 use Rattle.policy.specs.declared.SchedulingParameters.{SchedulingParameters}
-use Rattle.arbitration.specs.declared.ArbitrationConfig.{ArbitrationConfig}
+use Rattle.window_config.specs.declared.ArbitrationConfig.{ArbitrationConfig}
 use Rattle.arbitration.specs.declared.CpuWindow.{CpuWindow}
 use Rattle.arbitration.specs.declared.Demand.{Demand}
 use Rattle.arbitration.specs.declared.DispatchMode.{DispatchMode}
 use Rattle.arbitration.specs.declared.DispatchMode.the-variants as mode
-use Rattle.arbitration.specs.Config.{soundConfig}
+use Rattle.window_config.specs.Config.{soundConfig}
 
 -- A new window: no epoch, allowance and floor whole; or BadConfig.
 unfoldable pub newWindow : ArbitrationConfig → Answer CpuWindow

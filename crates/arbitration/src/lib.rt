@@ -1,34 +1,27 @@
 // CPU windows and dispatch keys. After scheduler/algorithms/arbitration.rs; a window goes in by value and comes back with the answer.
-mod compare;
 mod tests;
 
-pub use compare::compare_keys;
 pub use tests::is_priority;
 pub use tests::is_protected;
 ghost use mathlib.Core.Path.{_≡_};
-ghost use Rattle.arbitration.specs.Config.{soundConfig, newConfig, preferring, acceptsBudget, admitted};
 ghost use Rattle.arbitration.specs.Window.{newWindow, refreshed, charged, protectionDeadline, dueAt, nextDeadline};
-ghost use Rattle.arbitration.specs.Key.{favoured, tierOf, keyOf};
+ghost use Rattle.arbitration.specs.Key.{tierOf, keyOf};
 ghost use Rattle.arbitration.specs.Calls.{refreshCall, accountCall, periodDeadlineCall, protectionCall, keyCall, nextDeadlineCall};
-ghost use Rattle.arbitration.specs.Answers.{configMade, windowMade, windowStep, windowDeadline, windowKey};
+ghost use Rattle.arbitration.specs.Answers.{windowMade, windowStep, windowDeadline, windowKey};
 use algorithms::Wide;
 use budget::DeadlineAnswer;
-use policy::BudgetOption;
-use policy::BudgetParameters;
-use policy::FairBackend;
+use dispatch_keys::DispatchKey;
 use policy::SchedulingParameters;
-use policy::SchedulingPolicy;
 use refusal::Refusal;
 use tests::algorithm_of;
 use tests::at_renewal;
 use tests::charge_if;
 use tests::is_exhausted;
+use tests::is_favoured;
 use tests::is_hurried;
 use tests::is_shut_out;
 use tests::is_strict_fifo;
 use tests::ordinary_rank;
-use tests::ranks_rise;
-use tests::same_backend;
 use tests::uses_allowance;
 use time::Deadline;
 use time::Epoch;
@@ -40,124 +33,7 @@ use time::epoch_rises;
 use time::max_of;
 use time::period_end;
 use time::saturating_sub;
-
-// The ranks of the algorithms within one urgency.
-pub struct ArbitrationOrder {
-    pub priority_rank: u8,
-    pub budget_rank: u8,
-    pub fair_rank: u8,
-    pub borrow_rank: u8,
-}
-
-impl ArbitrationOrder {
-    pub const DEFAULT: Self = Self {
-        priority_rank: 0,
-        budget_rank: 1,
-        fair_rank: 2,
-        borrow_rank: 3,
-    };
-}
-
-pub struct ArbitrationConfig {
-    pub period_ns: u64,
-    pub priority_allowance_ns: u64,
-    pub protected_floor_ns: u64,
-    pub order: ArbitrationOrder,
-    pub prefer_fair: bool,
-}
-
-pub enum ConfigMade {
-    Made(ArbitrationConfig),
-    Refused(Refusal),
-}
-
-impl ArbitrationConfig {
-    pub fn new(
-        period_ns: u64,
-        priority_allowance_ns: u64,
-        protected_floor_ns: u64,
-        order: ArbitrationOrder,
-    ) -> ConfigMade
-        ensures { λ r. ⌜ configMade r ≡ newConfig «period_ns» «priority_allowance_ns» «protected_floor_ns» order ⌝ }
-    {
-        let config = Self {
-            period_ns,
-            priority_allowance_ns,
-            protected_floor_ns,
-            order,
-            prefer_fair: false,
-        };
-        if config.is_sound() {
-            ConfigMade::Made(config)
-        } else {
-            ConfigMade::Refused(Refusal::BadConfig)
-        }
-    }
-
-    // Whether `new` would take its period, allowance, floor and ranks.
-    pub fn is_sound(self) -> bool
-        ensures { λ r. ⌜ r ≡ soundConfig self ⌝ }
-    {
-        if self.period_ns == 0 {
-            return false;
-        }
-        if BudgetParameters::MAX_PERIOD_NS < self.period_ns {
-            return false;
-        }
-        if self.protected_floor_ns == 0 {
-            return false;
-        }
-        if self.period_ns <= self.protected_floor_ns {
-            return false;
-        }
-        if self.period_ns - self.protected_floor_ns <= self.priority_allowance_ns {
-            return false;
-        }
-        let order = self.order;
-        ranks_rise(order)
-    }
-
-    pub fn with_prefer_fair(self, prefer_fair: bool) -> Self
-        ensures { λ r. ⌜ r ≡ preferring self «prefer_fair» ⌝ }
-    {
-        let order = self.order;
-        Self {
-            period_ns: self.period_ns,
-            priority_allowance_ns: self.priority_allowance_ns,
-            protected_floor_ns: self.protected_floor_ns,
-            order,
-            prefer_fair,
-        }
-    }
-
-    // A budget must have the window's period.
-    pub fn accepts(self, parameters: SchedulingParameters) -> bool
-        ensures { λ r. ⌜ r ≡ acceptsBudget self parameters ⌝ }
-    {
-        let budget = parameters.budget;
-        match budget {
-            BudgetOption::None => true,
-            BudgetOption::Some(b) => b.period_ns == self.period_ns,
-        }
-    }
-
-    // One fair backend on an image, no Idle thread, and the window's period.
-    pub fn admits(self, parameters: SchedulingParameters, fair_backend: FairBackend) -> bool
-        ensures { λ r. ⌜ r ≡ admitted self parameters «fair_backend» ⌝ }
-    {
-        let policy = parameters.policy;
-        let backend = parameters.fair_backend;
-        if !self.accepts(parameters) {
-            return false;
-        }
-        match policy {
-            SchedulingPolicy::Fifo { priority: _ } => true,
-            SchedulingPolicy::Fair => same_backend(backend, fair_backend),
-            SchedulingPolicy::Budget => true,
-            SchedulingPolicy::Idle => false,
-        }
-    }
-}
+use window_config::ArbitrationConfig;
 
 // What the runnable threads ask for, the running one included.
 pub struct Demand {
@@ -173,16 +49,6 @@ pub struct Candidate {
     pub fair_pass: Wide,
     pub turn: u64,
     pub budget_available: bool,
-}
-
-// Compared as declared.
-pub struct DispatchKey {
-    pub urgency: u8,
-    pub rank: u8,
-    pub algorithm_rank: u8,
-    pub algorithm: Wide,
-    pub band: u8,
-    pub turn: u64,
 }
 
 // Why an execution interval was admitted.
@@ -299,8 +165,7 @@ impl CpuWindow {
     pub fn refresh(self, now: u64) -> WindowStep
         ensures { λ r. ⌜ windowStep r ≡ refreshCall self now ⌝ }
     {
-        let config = self.config;
-        if !config.is_sound() {
+        if !self.config.is_sound() {
             return WindowStep {
                 answer: Verdict::Refused(Refusal::BadConfig),
                 window: self,
@@ -346,8 +211,7 @@ impl CpuWindow {
     ) -> WindowStep
         ensures { λ r. ⌜ windowStep r ≡ accountCall self start end parameters mode ⌝ }
     {
-        let config = self.config;
-        if !config.is_sound() {
+        if !self.config.is_sound() {
             return WindowStep {
                 answer: Verdict::Refused(Refusal::BadConfig),
                 window: self,
@@ -402,8 +266,7 @@ impl CpuWindow {
     pub fn protection_deadline(self, now: u64, protected_waiting: bool) -> WindowDeadline
         ensures { λ r. ⌜ windowDeadline r ≡ protectionCall self now «protected_waiting» ⌝ }
     {
-        let config = self.config;
-        if !config.is_sound() {
+        if !self.config.is_sound() {
             return WindowDeadline {
                 answer: DeadlineAnswer::Refused(Refusal::BadConfig),
                 window: self,
@@ -425,30 +288,6 @@ impl CpuWindow {
         deadline == now
     }
 
-    // Whether the priority allowance carries it: by its role, or as a fair thread where those are preferred.
-    fn is_favoured(self, parameters: SchedulingParameters) -> bool
-        ensures { λ r. ⌜ r ≡ favoured self parameters ⌝ }
-    {
-        let config = self.config;
-        let policy = parameters.policy;
-        let role = parameters.role;
-        if self.priority_remaining_ns == 0 {
-            return false;
-        }
-        if is_priority(role) {
-            return true;
-        }
-        if !config.prefer_fair {
-            return false;
-        }
-        match policy {
-            SchedulingPolicy::Fifo { priority: _ } => false,
-            SchedulingPolicy::Fair => true,
-            SchedulingPolicy::Budget => false,
-            SchedulingPolicy::Idle => false,
-        }
-    }
-
     // Of a window that is refreshed to now.
     fn tier(
         self,
@@ -463,7 +302,7 @@ impl CpuWindow {
         let order = config.order;
         let policy = parameters.policy;
         let role = parameters.role;
-        if is_strict_fifo(parameters) {
+        if is_strict_fifo(policy, role) {
             return Tier {
                 urgency: 0,
                 rank: 0,
@@ -484,7 +323,7 @@ impl CpuWindow {
                 mode: DispatchMode::Borrow,
             };
         }
-        if self.is_favoured(parameters) {
+        if is_favoured(self.priority_remaining_ns, config.prefer_fair, policy, role) {
             return Tier {
                 urgency: 2,
                 rank: order.priority_rank,
@@ -508,11 +347,15 @@ impl CpuWindow {
         if !config.accepts(parameters) {
             return KeyOption::None;
         }
-        let exhausted = is_exhausted(candidate);
+        let policy = parameters.policy;
+        let exhausted = is_exhausted(policy, candidate.budget_available);
         if is_shut_out(exhausted, demand) {
             return KeyOption::None;
         }
-        let AlgorithmOption::Some(algorithm) = algorithm_of(candidate) else {
+        let backend = parameters.fair_backend;
+        let pass = candidate.fair_pass;
+        let AlgorithmOption::Some(algorithm) = algorithm_of(policy, backend, pass, candidate.turn)
+        else {
             return KeyOption::None;
         };
         let tier = self.tier(now, parameters, exhausted, demand);
@@ -532,8 +375,7 @@ impl CpuWindow {
     pub fn candidate_key(self, now: u64, candidate: Candidate, demand: Demand) -> WindowKey
         ensures { λ r. ⌜ windowKey r ≡ keyCall self now candidate demand ⌝ }
     {
-        let config = self.config;
-        if !config.is_sound() {
+        if !self.config.is_sound() {
             return WindowKey {
                 answer: KeyAnswer::Refused(Refusal::BadConfig),
                 window: self,
@@ -578,8 +420,7 @@ impl CpuWindow {
     ) -> WindowDeadline
         ensures { λ r. ⌜ windowDeadline r ≡ nextDeadlineCall self now mode competition demand ⌝ }
     {
-        let config = self.config;
-        if !config.is_sound() {
+        if !self.config.is_sound() {
             return WindowDeadline {
                 answer: DeadlineAnswer::Refused(Refusal::BadConfig),
                 window: self,

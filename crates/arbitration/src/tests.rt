@@ -1,21 +1,21 @@
-// The tests of a thread's role, policy and demand that keys, charges and deadlines go by.
+// The tests of a thread's role, policy and demand that keys, charges and deadlines go by. They take the parts that they look at, not whole parameters or candidates:
+// a struct with many fields is dear at each step of a function's proof.
 ghost use mathlib.Core.Path.{_≡_};
-ghost use Rattle.refusal.specs.Cases.{choose};
-ghost use Rattle.arbitration.specs.Config.{ranksRise, sameBackend};
+ghost use mathlib.Core.Bool.{true, false, not};
+ghost use Rattle.refusal.specs.Cases.{choose, given, ifEqual};
+ghost use Rattle.policy.specs.PolicyCases.{onPolicy, onRole, onBackend};
 ghost use Rattle.arbitration.specs.Window.{isPriority, isProtected, usesAllowance, atRenewal};
-ghost use Rattle.arbitration.specs.Key.{exhaustedOf, algorithmOf, shutOut, strictFifo, hurried, ordinaryRank};
+ghost use Rattle.arbitration.specs.Key.{shutOut, hurried, ordinaryRank};
 use crate::Algorithm;
 use crate::AlgorithmOption;
-use crate::ArbitrationOrder;
-use crate::Candidate;
 use crate::Demand;
 use crate::DispatchMode;
 use algorithms::Wide;
 use policy::FairBackend;
-use policy::SchedulingParameters;
 use policy::SchedulingPolicy;
 use policy::SchedulingRole;
 use time::Deadline;
+use window_config::ArbitrationOrder;
 
 // An exhausted thread runs only where nobody else can.
 pub fn is_shut_out(exhausted: bool, demand: Demand) -> bool
@@ -30,11 +30,10 @@ pub fn is_shut_out(exhausted: bool, demand: Demand) -> bool
     demand.eligible_budget
 }
 
-pub fn is_strict_fifo(parameters: SchedulingParameters) -> bool
-    ensures { λ r. ⌜ r ≡ strictFifo parameters ⌝ }
+// `strictFifo`, by the parameters' policy and role.
+pub fn is_strict_fifo(policy: SchedulingPolicy, role: SchedulingRole) -> bool
+    ensures { λ r. ⌜ r ≡ onPolicy policy (λ priority. onRole role true false false) false false false ⌝ }
 {
-    let policy = parameters.policy;
-    let role = parameters.role;
     match policy {
         SchedulingPolicy::Fifo { priority: _ } => match role {
             SchedulingRole::Ordinary => true,
@@ -118,74 +117,69 @@ pub fn of_byte(x: u8) -> u64
     x as u64
 }
 
-pub fn same_backend(a: FairBackend, b: FairBackend) -> bool
-    ensures { λ r. ⌜ r ≡ sameBackend a b ⌝ }
+// `exhaustedOf`, by the candidate's policy and whether its budget has time left.
+pub fn is_exhausted(policy: SchedulingPolicy, budget_available: bool) -> bool
+    ensures { λ r. ⌜ r ≡ onPolicy policy (λ priority. false) false (not «budget_available») false ⌝ }
 {
-    match a {
-        FairBackend::Stride => match b {
-            FairBackend::Stride => true,
-            FairBackend::RoundRobin => false,
-        },
-        FairBackend::RoundRobin => match b {
-            FairBackend::Stride => false,
-            FairBackend::RoundRobin => true,
-        },
-    }
-}
-
-pub fn ranks_rise(order: ArbitrationOrder) -> bool
-    ensures { λ r. ⌜ r ≡ ranksRise order ⌝ }
-{
-    if order.budget_rank <= order.priority_rank {
-        return false;
-    }
-    if order.fair_rank <= order.budget_rank {
-        return false;
-    }
-    if order.borrow_rank <= order.fair_rank {
-        return false;
-    }
-    true
-}
-
-pub fn is_exhausted(candidate: Candidate) -> bool
-    ensures { λ r. ⌜ r ≡ exhaustedOf candidate ⌝ }
-{
-    let parameters = candidate.parameters;
-    let policy = parameters.policy;
     match policy {
         SchedulingPolicy::Fifo { priority: _ } => false,
         SchedulingPolicy::Fair => false,
-        SchedulingPolicy::Budget => !candidate.budget_available,
+        SchedulingPolicy::Budget => !budget_available,
         SchedulingPolicy::Idle => false,
     }
 }
 
-// The priority for FIFO, the pass for Stride, otherwise the turn; none for Idle.
-pub fn algorithm_of(candidate: Candidate) -> AlgorithmOption
-    ensures { λ r. ⌜ r ≡ algorithmOf candidate ⌝ }
+// `favoured`, by what the window has left of the allowance, whether it prefers fair threads, and the parameters' policy and role.
+pub fn is_favoured(
+    priority_remaining_ns: u64,
+    prefer_fair: bool,
+    policy: SchedulingPolicy,
+    role: SchedulingRole,
+) -> bool
+    ensures { λ r. ⌜ r ≡ ifEqual «priority_remaining_ns» 0 false (choose (isPriority role) true (choose «prefer_fair» (onPolicy policy (λ priority. false) true false false) false)) ⌝ }
 {
-    let parameters = candidate.parameters;
-    let policy = parameters.policy;
-    let backend = parameters.fair_backend;
-    let pass = candidate.fair_pass;
-    let turn = Wide {
-        high: 0,
-        low: candidate.turn,
-    };
+    if priority_remaining_ns == 0 {
+        return false;
+    }
+    if is_priority(role) {
+        return true;
+    }
+    if !prefer_fair {
+        return false;
+    }
     match policy {
-        SchedulingPolicy::Fifo { priority } => {
-            let low = of_byte(priority.0);
-            AlgorithmOption::Some(Algorithm {
-                rank: 0,
-                key: Wide { high: 0, low },
-            })
-        }
+        SchedulingPolicy::Fifo { priority: _ } => false,
+        SchedulingPolicy::Fair => true,
+        SchedulingPolicy::Budget => false,
+        SchedulingPolicy::Idle => false,
+    }
+}
+
+fn algorithm(rank: u8, high: u64, low: u64) -> AlgorithmOption
+    ensures { λ r. ⌜ r ≡ AlgorithmOption.Some (record { rank = rank; key = record { high = high; low = low } }) ⌝ }
+{
+    AlgorithmOption::Some(Algorithm {
+        rank,
+        key: Wide { high, low },
+    })
+}
+
+// `algorithmOf`, by the candidate's policy, backend, pass and turn: the priority for FIFO, the pass for Stride, otherwise the turn; none for Idle.
+pub fn algorithm_of(
+    policy: SchedulingPolicy,
+    backend: FairBackend,
+    pass: Wide,
+    turn: u64,
+) -> AlgorithmOption
+    ensures { λ r. ⌜ r ≡ onPolicy policy (λ priority. given (priority .0) (λ number. AlgorithmOption.Some (record { rank = 0; key = record { high = 0; low = number } }))) (onBackend backend (AlgorithmOption.Some (record { rank = 1; key = pass })) (AlgorithmOption.Some (record { rank = 1; key = record { high = 0; low = turn } }))) (AlgorithmOption.Some (record { rank = 2; key = record { high = 0; low = turn } })) AlgorithmOption.None ⌝ }
+{
+    match policy {
+        SchedulingPolicy::Fifo { priority } => algorithm(0, 0, of_byte(priority.0)),
         SchedulingPolicy::Fair => match backend {
-            FairBackend::Stride => AlgorithmOption::Some(Algorithm { rank: 1, key: pass }),
-            FairBackend::RoundRobin => AlgorithmOption::Some(Algorithm { rank: 1, key: turn }),
+            FairBackend::Stride => algorithm(1, pass.high, pass.low),
+            FairBackend::RoundRobin => algorithm(1, 0, turn),
         },
-        SchedulingPolicy::Budget => AlgorithmOption::Some(Algorithm { rank: 2, key: turn }),
+        SchedulingPolicy::Budget => algorithm(2, 0, turn),
         SchedulingPolicy::Idle => AlgorithmOption::None,
     }
 }

@@ -1,5 +1,8 @@
-// Printing a case with its answer, and counting the answers that differ from what document 01 says. The count so far goes through every call.
+// Printing answers, and counting those that differ from what is said.
 const STDOUT: i32 = 1;
+
+// What an answer is where there is nothing: above every number of a thread, and below the numbers of refusals beside it.
+pub const NONE: u64 = 1_000_000_000_000;
 
 const MOST: u64 = 18_446_744_073_709_551_615;
 
@@ -12,12 +15,12 @@ pub fn more(n: u64) -> u64 {
 }
 
 fn as_said(n: u64, said: u64) -> u64 {
-    io::write_all(STDOUT, b", but document 01 says ");
+    io::write_all(STDOUT, b", but what is said is ");
     io::print_decimal(STDOUT, said);
     more(n)
 }
 
-// An answer, with what document 01 says where that is another.
+// An answer, with what is said where that is another.
 pub fn answer(n: u64, got: u64, said: u64) -> u64 {
     io::print_decimal(STDOUT, got);
     if got == said {
@@ -26,17 +29,12 @@ pub fn answer(n: u64, got: u64, said: u64) -> u64 {
     as_said(n, said)
 }
 
-// One case.
-pub fn case(n: u64, label: &[u8], got: u64, said: u64) -> u64 {
-    text(label);
-    text(b": ");
-    let count = answer(n, got, said);
-    text(b"\n");
-    count
-}
-
 pub fn text(words: &[u8]) {
     io::write_all(STDOUT, words);
+}
+
+pub fn one(byte: u8) {
+    io::write_all(STDOUT, &[byte]);
 }
 
 // How many cases are proved of the definitions.

@@ -1,5 +1,4 @@
-// A queue by value takes two FIFO threads: the form that document 01 names, run and measured here.
-use crate::report::case;
+// A queue by value takes two FIFO threads: the form that document 01 names, run here.
 use queue::CpuRunQueue;
 use thread::CpuIndex;
 use thread::ThreadId;
@@ -15,19 +14,10 @@ fn enqueued(
 }
 
 // How many it then has. A row of zeros is a FIFO thread.
-fn length() -> u64 {
+pub fn length() -> u64 {
     let mut t = [[0u64; 32]; 2];
     let mut path = [[0u64; 2]; 40];
     let first = enqueued(CpuRunQueue::new(), &mut t, &mut path, 0);
     let both = enqueued(first, &mut t, &mut path, 1);
     both.real_time_len()
-}
-
-pub fn queues(n: u64) -> u64 {
-    case(
-        n,
-        b"queue by value: two enqueued, its FIFO total",
-        length(),
-        2,
-    )
 }

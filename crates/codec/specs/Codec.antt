@@ -1,22 +1,8 @@
 -- What a row of 32 words stands for: one record, whatever the words. A tag takes the first variant whose number it is and else the last
--- variant; a byte is its word's remainder by 256, a weight its word's by 65536. Words 30 and 31 are spare.
+-- variant; a byte is its word's remainder by 256. Parameters and runtime stand in words 0 to 15 (crate policy_words). Words 30 and 31 are spare.
 use Prim.Native.Nat.{ℕ, _%_}
 use mathlib.Core.List.{List}
-use lib.ListN.{getD}
-use Rattle.refusal.specs.Cases.{given, ifEqual}
-use Rattle.time.specs.declared.Epoch.{Epoch}
-use Rattle.time.specs.declared.Epoch.the-variants as epoch
-use Rattle.policy.specs.declared.SchedulingPolicy.{SchedulingPolicy}
-use Rattle.policy.specs.declared.SchedulingPolicy.the-variants as policy
-use Rattle.policy.specs.declared.SchedulingRole.{SchedulingRole}
-use Rattle.policy.specs.declared.SchedulingRole.the-variants as role
-use Rattle.policy.specs.declared.FairBackend.{FairBackend}
-use Rattle.policy.specs.declared.FairBackend.the-variants as backend
-use Rattle.policy.specs.declared.BudgetOption.{BudgetOption}
-use Rattle.policy.specs.declared.BudgetOption.the-variants as budget
-use Rattle.policy.specs.declared.SchedulingParameters.{SchedulingParameters}
-use Rattle.algorithms.specs.declared.PolicyRuntime.{PolicyRuntime}
-use Rattle.algorithms.specs.declared.PolicyRuntime.the-variants as runtime
+use Rattle.refusal.specs.Cases.{ifEqual}
 use Rattle.thread.specs.declared.Link.{Link}
 use Rattle.thread.specs.declared.Link.the-variants as link
 use Rattle.thread.specs.declared.Links.{Links}
@@ -24,42 +10,8 @@ use Rattle.thread.specs.declared.QueueMembership.{QueueMembership}
 use Rattle.thread.specs.declared.QueueMembership.the-variants as membership
 use Rattle.thread.specs.declared.QueueLinks.{QueueLinks}
 use Rattle.thread.specs.declared.ThreadRecord.{ThreadRecord}
-
--- The k-th word.
-abbrev pub word : List ℕ → ℕ → ℕ
-word w k = getD w k 0
-
--- 0 FIFO with its priority, 1 Fair, 2 Budget, else Idle.
-unfoldable pub policyFrom : ℕ → ℕ → SchedulingPolicy
-policyFrom tag priority =
-    ifEqual tag 0 (policy.Fifo (record { 0 = priority % 256 }))
-    (ifEqual tag 1 policy.Fair
-    (ifEqual tag 2 policy.Budget policy.Idle))
-
--- 0 Ordinary, 1 Priority, else Protected.
-unfoldable pub roleFrom : ℕ → SchedulingRole
-roleFrom tag = ifEqual tag 0 role.Ordinary (ifEqual tag 1 role.Priority role.Protected)
-
--- 0 Stride, else round robin.
-unfoldable pub backendFrom : ℕ → FairBackend
-backendFrom tag = ifEqual tag 0 backend.Stride backend.RoundRobin
-
--- 0 none, else the budget, the period and the burst.
-unfoldable pub budgetFrom : ℕ → ℕ → ℕ → ℕ → BudgetOption
-budgetFrom tag ns period burst =
-    ifEqual tag 0 budget.None (budget.Some (record { «budget_ns» = ns; «period_ns» = period; «burst_ns» = burst }))
-
--- 0 none, else the epoch.
-unfoldable pub epochFrom : ℕ → ℕ → Epoch
-epochFrom tag n = ifEqual tag 0 epoch.None (epoch.Some n)
-
--- 0 FIFO; 1 Fair with the pass by its halves and the slice; 2 Budget with the epoch's two words, time and burst left; else Idle.
-unfoldable pub runtimeFrom : ℕ → ℕ → ℕ → ℕ → ℕ → PolicyRuntime
-runtimeFrom tag first second third fourth =
-    ifEqual tag 0 runtime.Fifo
-    (ifEqual tag 1 (runtime.Fair (record { pass = record { high = first; low = second }; «remaining_ns» = third }))
-    (ifEqual tag 2 (given (epochFrom first second) (λ when. runtime.Budget (record { epoch = when; «remaining_ns» = third; «burst_remaining_ns» = fourth })))
-    runtime.Idle))
+pub use Rattle.policy_words.specs.PolicyWords.{word}
+unfoldable pub use Rattle.policy_words.specs.PolicyWords.{policyFrom, roleFrom, backendFrom, budgetFrom, epochFrom, runtimeFrom, parametersOf, runtimeOf}
 
 -- 0 none, else the number.
 unfoldable pub linkFrom : ℕ → ℕ → Link
@@ -72,23 +24,6 @@ membershipFrom tag first second =
     (ifEqual tag 1 (membership.ReadyRealTime (record { 0 = first % 256 }) (second % 256))
     (ifEqual tag 2 (membership.ReadyFair (record { 0 = first % 256 }))
     (ifEqual tag 3 (membership.Waiting first) membership.Terminated)))
-
--- Words 0 to 10.
-unfoldable pub parametersOf : List ℕ → SchedulingParameters
-parametersOf w =
-    record {
-      policy = policyFrom (word w 0) (word w 1);
-      band = record { 0 = word w 2 % 256 };
-      role = roleFrom (word w 3);
-      weight = record { 0 = word w 4 % 65536 };
-      «quantum_ns» = word w 5;
-      «fair_backend» = backendFrom (word w 6);
-      budget = budgetFrom (word w 7) (word w 8) (word w 9) (word w 10);
-    }
-
--- Words 11 to 15.
-unfoldable pub runtimeOf : List ℕ → PolicyRuntime
-runtimeOf w = runtimeFrom (word w 11) (word w 12) (word w 13) (word w 14) (word w 15)
 
 -- Words 17 to 21.
 unfoldable pub linksOf : List ℕ → Links

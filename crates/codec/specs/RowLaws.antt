@@ -1,14 +1,9 @@
 -- Laws of rows: a store of the words of one part changes that part of the record, and no other.
-use Prim.Native.Nat.{ℕ, zero, suc, _%_}
-use native.Mathlib.Omega.{arith}
-use mathlib.Core.Path.{_≡_, refl}
-use mathlib.Core.List.{List, [], _∷_}
+use Prim.Native.Nat.{ℕ, _%_}
+use mathlib.Core.Path.{_≡_, refl, sym}
+use mathlib.Core.List.{List}
 use lib.ListN.{length, set}
 use Rattle.policy.specs.declared.SchedulingParameters.{SchedulingParameters}
-use Rattle.policy.specs.declared.SchedulingPolicy.{SchedulingPolicy}
-use Rattle.policy.specs.declared.SchedulingRole.{SchedulingRole}
-use Rattle.policy.specs.declared.FairBackend.{FairBackend}
-use Rattle.policy.specs.declared.BudgetOption.{BudgetOption}
 use Rattle.algorithms.specs.declared.PolicyRuntime.{PolicyRuntime}
 use Rattle.algorithms.specs.declared.Wide.{Wide}
 use Rattle.thread.specs.declared.CpuIndex.{CpuIndex}
@@ -18,32 +13,17 @@ use Rattle.thread.specs.declared.QueueLinks.{QueueLinks}
 use Rattle.thread.specs.declared.ThreadRecord.{ThreadRecord}
 use Rattle.thread.specs.TreeKey.{algorithmKey, treeKey, readyIndexKey}
 use Rattle.thread.specs.Records.{withParameters, withRuntime, withTurn, withLinks, withLeft, withRight, withHeight, withQueueLinks, withCpu}
-use Rattle.codec.specs.Codec.{word, policyFrom, roleFrom, backendFrom, budgetFrom, runtimeFrom, linkFrom, membershipFrom, parametersOf, runtimeOf, linksOf, queueLinksOf, decoded}
+use Rattle.codec.specs.Codec.{word, runtimeFrom, linkFrom, membershipFrom, parametersOf, runtimeOf, linksOf, queueLinksOf, decoded}
+pub use Rattle.policy_words.specs.ByWords.{by-words}
 
--- P of every list of n words.
-abbrev pub Words : ℕ → (List ℕ → Type 0) → Type 0
-Words zero P = P []
-Words (suc n) P = (x : ℕ) → Words n (λ (r : List ℕ). P (x ∷ r))
-
-pub by-words : (n : ℕ) (P : List ℕ → Type 0) → Words n P → (r : List ℕ) → length r ≡ n → P r
-by-words zero P f [] h = f
-by-words zero P f (x ∷ r) h = absurd (omega arith)
-by-words (suc n) P f [] h = absurd (omega arith)
-by-words (suc n) P f (x ∷ r) h = by-words n (λ (s : List ℕ). P (x ∷ s)) (f x) r (omega arith)
-
-pub parameters-stored : (r : List ℕ) (p : SchedulingParameters) (a b : List ℕ) (band role weight backend : ℕ)
+pub parameters-stored : (r : List ℕ) (p : SchedulingParameters) (a : List ℕ)
     → length r ≡ 32
-    → policyFrom (word a 0) (word a 1) ≡ p .policy
-    → band % 256 ≡ p .band .0
-    → roleFrom role ≡ p .role
-    → weight % 65536 ≡ p .weight .0
-    → backendFrom backend ≡ p .«fair_backend»
-    → budgetFrom (word b 0) (word b 1) (word b 2) (word b 3) ≡ p .budget
-    → decoded (set (set (set (set (set (set (set (set (set (set (set r 0 (word a 0)) 1 (word a 1)) 2 band) 3 role) 4 weight) 5 (p .«quantum_ns»)) 6 backend) 7 (word b 0)) 8 (word b 1)) 9 (word b 2)) 10 (word b 3)) ≡ withParameters p (decoded r)
+    → parametersOf a ≡ p
+    → decoded (set (set (set (set (set (set (set (set (set (set (set r 0 (word a 0)) 1 (word a 1)) 2 (word a 2)) 3 (word a 3)) 4 (word a 4)) 5 (word a 5)) 6 (word a 6)) 7 (word a 7)) 8 (word a 8)) 9 (word a 9)) 10 (word a 10)) ≡ withParameters p (decoded r)
 unfolding decoded parametersOf runtimeOf linksOf queueLinksOf
-parameters-stored r p a b band role weight backend size e₁ e₂ e₃ e₄ e₅ e₆ =
-    by-words 32 (λ (r : List ℕ). decoded (set (set (set (set (set (set (set (set (set (set (set r 0 (word a 0)) 1 (word a 1)) 2 band) 3 role) 4 weight) 5 (p .«quantum_ns»)) 6 backend) 7 (word b 0)) 8 (word b 1)) 9 (word b 2)) 10 (word b 3)) ≡ withParameters p (decoded r))
-    (λ x0 x1 x2 x3 x4 x5 x6 x7 x8 x9 x10 x11 x12 x13 x14 x15 x16 x17 x18 x19 x20 x21 x22 x23 x24 x25 x26 x27 x28 x29 x30 x31. rw (e₁, e₂, e₃, e₄, e₅, e₆))
+parameters-stored r p a size e =
+    by-words 32 (λ (r : List ℕ). decoded (set (set (set (set (set (set (set (set (set (set (set r 0 (word a 0)) 1 (word a 1)) 2 (word a 2)) 3 (word a 3)) 4 (word a 4)) 5 (word a 5)) 6 (word a 6)) 7 (word a 7)) 8 (word a 8)) 9 (word a 9)) 10 (word a 10)) ≡ withParameters p (decoded r))
+    (λ x0 x1 x2 x3 x4 x5 x6 x7 x8 x9 x10 x11 x12 x13 x14 x15 x16 x17 x18 x19 x20 x21 x22 x23 x24 x25 x26 x27 x28 x29 x30 x31. rw (sym e) refl)
     r size
 
 pub runtime-stored : (r : List ℕ) (x : PolicyRuntime) (a : List ℕ)
@@ -130,22 +110,6 @@ cpu-stored r c n size e =
     r size
 
 -- The parts that the words of a row stand for make the row's.
-pub parameters-read : (w : List ℕ) {policy : SchedulingPolicy} {band weight : ℕ} {role : SchedulingRole} {backend : FairBackend} {budget : BudgetOption}
-    → policy ≡ policyFrom (word w 0) (word w 1) → band ≡ word w 2 % 256 → role ≡ roleFrom (word w 3) → weight ≡ word w 4 % 65536
-    → backend ≡ backendFrom (word w 6) → budget ≡ budgetFrom (word w 7) (word w 8) (word w 9) (word w 10)
-    → record {
-      policy = policy;
-      band = record { 0 = band };
-      role = role;
-      weight = record { 0 = weight };
-      «quantum_ns» = word w 5;
-      «fair_backend» = backend;
-      budget = budget;
-    }
-    ≡ parametersOf w
-unfolding parametersOf
-parameters-read w e₁ e₂ e₃ e₄ e₅ e₆ = rw (e₁, e₂, e₃, e₄, e₅, e₆)
-
 pub record-read : (w : List ℕ) {parameters : SchedulingParameters} {runtime : PolicyRuntime} {links : Links} {queueLinks : QueueLinks} {cpu : ℕ}
     → parameters ≡ parametersOf w → runtime ≡ runtimeOf w → links ≡ linksOf w → queueLinks ≡ queueLinksOf w → cpu ≡ word w 29 % 256
     → record {

@@ -1,6 +1,6 @@
 -- Laws for going by a key or a mode that may be none.
 use mathlib.Core.Path.{_≡_}
-use Rattle.arbitration.specs.declared.DispatchKey.{DispatchKey}
+use Rattle.dispatch_keys.specs.declared.DispatchKey.{DispatchKey}
 use Rattle.arbitration.specs.declared.DispatchMode.{DispatchMode}
 use Rattle.arbitration.specs.declared.KeyOption.{KeyOption}
 use Rattle.arbitration.specs.declared.KeyOption.the-variants as key

@@ -9,7 +9,7 @@ use Rattle.policy.specs.declared.SchedulingParameters.{SchedulingParameters}
 use Rattle.policy.specs.PolicyCases.{onPolicy, onBackend}
 use Rattle.algorithms.specs.declared.PolicyRuntime.{PolicyRuntime}
 use Rattle.algorithms.specs.Runtime.{onRuntime}
-use Rattle.arbitration.specs.declared.DispatchKey.{DispatchKey}
+use Rattle.dispatch_keys.specs.declared.DispatchKey.{DispatchKey}
 use Rattle.arbitration.specs.declared.DispatchMode.{DispatchMode}
 use Rattle.arbitration.specs.declared.KeyOption.{KeyOption}
 use Rattle.arbitration.specs.declared.KeyOption.the-variants as key

@@ -11,8 +11,8 @@ pub use taking::turn_for;
 ghost use mathlib.Core.Path.{_≡_};
 ghost use Rattle.decisions.specs.Turns.{newTurns};
 use arbitration::Demand;
-use arbitration::DispatchKey;
 use arbitration::DispatchMode;
+use dispatch_keys::DispatchKey;
 use refusal::Refusal;
 
 // The turn counters: the next turn at the back, and the last that was taken at the front. The source's statics BACK_TURN and FRONT_TURN.

@@ -19,7 +19,7 @@ use Rattle.thread.specs.Membership.{emptyQueue}
 use Rattle.codec.specs.Codec.{word, linkFrom, epochFrom}
 use Rattle.queue.specs.declared.Root.{Root}
 use Rattle.queue.specs.declared.CpuRunQueue.{CpuRunQueue}
-use Rattle.queue.specs.declared.Parts.{Parts}
+use Rattle.queue_work.specs.declared.Parts.{Parts}
 use Rattle.queue.specs.declared.Filed.{Filed}
 use Rattle.queue.specs.declared.Judgement.{Judgement}
 use Rattle.queue.specs.declared.Judgement.the-variants as judged

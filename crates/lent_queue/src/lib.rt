@@ -5,7 +5,7 @@ ghost use mathlib.Core.Path.{_≡_};
 ghost use lib.ListN.{getD, length, set};
 ghost use Rattle.thread.specs.Membership.{emptyQueue};
 ghost use Rattle.rows.specs.Table.{table, out};
-ghost use Rattle.queue.specs.Work.{workOf};
+ghost use Rattle.queue_work.specs.Work.{workOf};
 ghost use Rattle.queue.specs.Queue as calls;
 ghost use Rattle.queue.specs.Plan as plans;
 ghost use Rattle.queue.specs.Answers.{verdictAnswer};
@@ -14,17 +14,17 @@ use codec::link_from;
 use codec::words_of_link;
 use queue::Filed;
 use queue::Judgement;
-use queue::Parts;
 use queue::Plan;
 use queue::Planned;
 use queue::Verdict;
-use queue::Worked;
-use queue::insert_work;
 use queue::insertion_plan;
 use queue::judge;
 use queue::partner;
 use queue::removal_plan;
-use queue::remove_work;
+use queue_work::Parts;
+use queue_work::Worked;
+use queue_work::insert_work;
+use queue_work::remove_work;
 use refusal::Refusal;
 use thread::CpuIndex;
 use thread::Link;
@@ -218,15 +218,14 @@ fn settle(
     ensures { λ r. ⌜ calls.step (verdictAnswer r) (queueOf (now (q .exit))) ≡ plans.settled (queueOf (now (q .entry))) membership index (workOf worked) ⌝ }
 {
     match worked {
-        Worked::Done(parts) => {
-            store_parts(q, membership, index, parts);
-            Verdict::Accepted
-        }
         Worked::Refused(refusal) => Verdict::Refused(refusal),
-        Worked::Halted(parts) => {
+        Worked::Stored { parts, halted } => {
             store_parts(q, membership, index, parts);
-            set_mark(q);
-            Verdict::Refused(Refusal::Halted)
+            if halted {
+                set_mark(q);
+                return Verdict::Refused(Refusal::Halted);
+            }
+            Verdict::Accepted
         }
     }
 }

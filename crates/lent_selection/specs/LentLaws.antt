@@ -3,143 +3,170 @@ use Prim.Native.Nat.{ℕ, zero, suc, _+_, _-_, _/_, _<_, _≤_, min}
 use native.Mathlib.Omega.{arith}
 use mathlib.Core.Path.{_≡_, refl, sym, ap, _∙_}
 use mathlib.Core.Bool.{Bool, true, false}
-use mathlib.Core.List.{List, [], _∷_, map}
+use mathlib.Core.List.{List, [], _∷_, _++_}
 use lib.Dec.{ltb}
-use lib.ListN.{length, getD, set, take, drop, replicate, length-map, length-take, length-drop}
+use lib.ListN.{length, getD, set, take, drop, length-take, length-drop}
+use borrow.Author.Tests.{eq-eqb, ne-eqb}
 use Rattle.refusal.specs.Answer.{Answer, value, refused, numberOf}
 use Rattle.refusal.specs.declared.Refusal.{Refusal}
 use Rattle.refusal.specs.Cases.{choose, given, ifLess, ifEqual}
-use Rattle.thread.specs.declared.Link.{Link}
-use Rattle.ready_index.specs.LoopLaws.{whole, setting-out, onward}
 use Rattle.queue.specs.declared.Root.{Root}
 use Rattle.queue.specs.declared.CpuRunQueue.{CpuRunQueue}
-use Rattle.queue.specs.Queue.{emptyRoot, rootOf}
-use Rattle.lent_queue.specs.LentQueue.{rootFrom, haltedFrom, queueOf, withRoot}
-use Rattle.lent_queue.specs.LentLaws.{root-of-row, counts-row}
-use Rattle.codec.specs.Codec.{word, linkFrom, epochFrom}
+use Rattle.queue.specs.declared.Verdict.{Verdict}
+use Rattle.queue.specs.declared.Verdict.the-variants as verdict
+use Rattle.queue.specs.Answers.{verdictAnswer}
+use Rattle.lent_queue.specs.LentQueue.{haltedFrom, queueOf}
+use Rattle.lent_queue.specs.LentLaws.{counts-row}
+use Rattle.codec.specs.Codec.{word, epochFrom}
 use Rattle.time.specs.declared.Epoch.{Epoch}
 use Rattle.time.specs.declared.Epoch.the-variants as epoch
 use Rattle.arbitration.specs.declared.CpuWindow.{CpuWindow}
-use Rattle.arbitration.specs.Config.{soundConfig}
+use Rattle.window_config.specs.Config.{soundConfig}
 use Rattle.thread.specs.declared.CpuIndex.{CpuIndex}
 use Rattle.thread.specs.declared.ThreadRecord.{ThreadRecord}
 use Rattle.rows.specs.Table.{Out, out}
 use Rattle.lists.specs.Lists.{onAnswer, onOut}
 use Rattle.queue.specs.Queue.{maxRecords}
 use Rattle.queue.specs.PlanLaws.{too-many, not-too-many}
-use Rattle.selection.specs.declared.CandidateOption.{CandidateOption}
+use Rattle.demands.specs.declared.CandidateOption.{CandidateOption}
 use Rattle.selection.specs.declared.Selection.{Selection}
-use Rattle.selection.specs.declared.SelectionParts.{SelectionParts}
-use Rattle.selection.specs.Leaves.{Leaves, leaves, onLeaves}
-use Rattle.selection.specs.Demands.{ofCurrent}
+use Rattle.renewal.specs.declared.SelectionParts.{SelectionParts}
+use Rattle.renewal.specs.Leaves.{Leaves, leaves, onLeaves}
+use Rattle.demands.specs.Demands.{ofCurrent}
 use Rattle.selection.specs.Heads.{noHeads, gatherHeads}
-use Rattle.selection.specs.Renewal.{rootAt, isEpoch, renew}
+use Rattle.renewal.specs.Renewal.{renewRoles, isEpoch, isHalt, renew}
+use Rattle.renewal.specs.RootRows.{rootsOf}
 use Rattle.selection.specs.Peek.{Peeked, peeked, chosen, peekRunning, peekParts, peekNext, selectionParts, withSelectionParts, restored}
 use Rattle.selection.specs.Steps.{Looked, looked, lookedAt}
 use Rattle.selection.specs.PeekLaws.{besideParts, heads-apart}
-use Rattle.lent_selection.specs.LentParts.{copyRest, storeRest, withIndices, withMarks, renewedQueue, besideQueue, runningQueue, peekQueue}
+use Rattle.lent_selection.specs.LentParts.{withIndices, withEpoch, withMark, renewedRoots, renewedQueue, besideQueue, runningQueue, peekQueue}
 
-pub indices-length : (rows : List (List ℕ)) → length rows ≡ 270 → length (queueOf rows .indices) ≡ 12
-unfolding queueOf
-indices-length rows h =
-    length-map (take 12 (drop 257 rows)) rootFrom ∙ length-take 12 (drop 257 rows) ∙ ap (min 12) (length-drop 257 rows ∙ ap (λ n. n - 257) h)
+-- The rows of the roots put back: the other rows are as they were.
+module _ {A : Type 0} (a p z : List A) where
+  take-first : (n : ℕ) → n ≤ length a → take n (a ++ (p ++ z)) ≡ take n a
+  take-first n h = go a n h
+    where
+      go : (a : List A) (n : ℕ) → n ≤ length a → take n (a ++ (p ++ z)) ≡ take n a
+      go a zero h = refl
+      go [] (suc n) h = absurd (omega arith)
+      go (x ∷ a) (suc n) h = ap {B = List A} (λ r. x ∷ r) (go a n (omega arith))
 
--- The first so many values of a function.
-tabled : {A : Type 0} → ℕ → (ℕ → A) → List A
-tabled zero f = []
-tabled (suc n) f = f 0 ∷ tabled n (λ j. f (suc j))
+  read-first : (k : ℕ) (d : A) → k < length a → getD (a ++ (p ++ z)) k d ≡ getD a k d
+  read-first k d h = go a k h
+    where
+      go : (a : List A) (k : ℕ) → k < length a → getD (a ++ (p ++ z)) k d ≡ getD a k d
+      go [] k h = absurd (omega arith)
+      go (x ∷ a) zero h = refl
+      go (x ∷ a) (suc k) h = go a k (omega arith)
 
-tabled-list : (l : List Root) (n : ℕ) → length l ≡ n → tabled n (λ j. record { root = rootAt l j }) ≡ l
-unfolding tabled
-tabled-list [] zero h = refl
-tabled-list [] (suc n) h = absurd (omega arith)
-tabled-list (x ∷ l) zero h = absurd (omega arith)
-tabled-list (x ∷ l) (suc n) h = ap {B = List Root} (λ r. x ∷ r) (tabled-list l n (omega arith))
+  drop-first : drop (length a) (a ++ (p ++ z)) ≡ p ++ z
+  drop-first = go a
+    where
+      go : (a : List A) → drop (length a) (a ++ (p ++ z)) ≡ p ++ z
+      go [] = refl
+      go (x ∷ a) = go a
 
--- Twelve roots copied over twelve others are those roots.
-copied : (l roots : List Root) → length l ≡ 12 → length roots ≡ 12 → copyRest 12 l roots ≡ roots
-unfolding copyRest tabled
-copied l roots h k = ap (λ l. copyRest 12 l roots) (sym (tabled-list l 12 h)) ∙ tabled-list roots 12 k
+  read-last : (k : ℕ) (d : A) → getD (a ++ (p ++ z)) (length a + (length p + k)) d ≡ getD z k d
+  read-last k d = go a
+    where
+      part : (p : List A) → getD (p ++ z) (length p + k) d ≡ getD z k d
+      part [] = let e : 0 + k ≡ k = omega arith in ap (λ n. getD z n d) e
+      part (x ∷ p) = let e : suc (length p) + k ≡ suc (length p + k) = omega arith in ap (λ n. getD (x ∷ (p ++ z)) n d) e ∙ part p
 
-copy-step : (l roots : List Root) (n : ℕ) → 0 < n → copyRest n l roots ≡ copyRest (n - 1) (set l (12 - n) (record { root = rootAt roots (12 - n) })) roots
-unfolding copyRest
-copy-step l roots zero h = absurd (omega arith)
-copy-step l roots (suc n) h =
-    let place : 12 - suc n ≡ 11 - n = omega arith in
-    let one : suc n - 1 ≡ n = omega arith in
-    rw (place, one) refl
+      go : (a : List A) → getD (a ++ (p ++ z)) (length a + (length p + k)) d ≡ getD z k d
+      go [] = let e : 0 + (length p + k) ≡ length p + k = omega arith in ap (λ n. getD (p ++ z) n d) e ∙ part p
+      go (x ∷ a) = let e : suc (length a) + (length p + k) ≡ suc (length a + (length p + k)) = omega arith in ap (λ n. getD (x ∷ (a ++ (p ++ z))) n d) e ∙ go a
 
-module _ (rows : List (List ℕ)) (l : List Root) where
-  abbrev theRoots : List Root
-  theRoots = queueOf rows .indices
+take-all : {A : Type 0} (p z : List A) → take (length p) (p ++ z) ≡ p
+take-all [] z = refl
+take-all {A} (x ∷ p) z = ap {B = List A} (λ r. x ∷ r) (take-all p z)
 
-  pub copy-set-out : length l ≡ 12 → length rows ≡ 270 → copyRest 12 l (queueOf rows .indices) ≡ whole (queueOf rows .indices)
-  copy-set-out h k = copied l theRoots h (indices-length rows k) ∙ setting-out theRoots
+read-dropped : {A : Type 0} (l : List A) (n k : ℕ) (d : A) → getD (drop n l) k d ≡ getD l (n + k) d
+read-dropped l zero k d = let e : k ≡ 0 + k = omega arith in ap (λ n. getD l n d) e
+read-dropped [] (suc n) k d = refl
+read-dropped (x ∷ l) (suc n) k d = let e : suc (n + k) ≡ suc n + k = omega arith in read-dropped l n k d ∙ ap (λ m. getD (x ∷ l) m d) e
 
-  pub root-copied : {y : List Root} {r : Link} (n : ℕ) → 0 < n → n ≤ 12
-      → r ≡ linkFrom (word (getD rows (257 + (12 - n)) []) 0) (word (getD rows (257 + (12 - n)) []) 1)
-      → y ≡ copyRest (n - 1) (set l (12 - n) (record { root = r })) (queueOf rows .indices) → y ≡ copyRest n l (queueOf rows .indices)
-  root-copied n p b e h =
-      let read : _ = root-of-row rows (12 - n) e (omega arith) in
-      rw (copy-step l theRoots n p, sym read) h
+read-taken : {A : Type 0} (l : List A) (n k : ℕ) (d : A) → k < n → getD (take n l) k d ≡ getD l k d
+read-taken l zero k d h = absurd (omega arith)
+read-taken [] (suc n) k d h = refl
+read-taken (x ∷ l) (suc n) zero d h = refl
+read-taken (x ∷ l) (suc n) (suc k) d h = read-taken l n k d (omega arith)
 
-  pub all-copied : {y : List Root} (n : ℕ) → n ≤ 0 → y ≡ l → y ≡ copyRest n l (queueOf rows .indices)
-  unfolding copyRest
-  all-copied zero p h = h
-  all-copied (suc n) p h = absurd (omega arith)
+take-taken : {A : Type 0} (l : List A) (n m : ℕ) → n ≤ m → take n (take m l) ≡ take n l
+take-taken l zero m h = refl
+take-taken [] (suc n) zero h = refl
+take-taken [] (suc n) (suc m) h = refl
+take-taken (x ∷ l) (suc n) zero h = absurd (omega arith)
+take-taken {A} (x ∷ l) (suc n) (suc m) h = ap {B = List A} (λ r. x ∷ r) (take-taken l n m (omega arith))
 
-pub ruleset copying = (onward, root-copied, all-copied)
+-- The queue with other rows for its roots.
+module _ (rows part : List (List ℕ)) (size : length rows ≡ 270) (of-part : length part ≡ 12) where
+  abbrev front : List (List ℕ)
+  front = take 257 rows
 
-store-step : (q : CpuRunQueue) (roots : List Root) (n : ℕ) → 0 < n → storeRest n q roots ≡ storeRest (n - 1) (withRoot q (12 - n) (rootAt roots (12 - n))) roots
-unfolding storeRest
-store-step q roots zero h = absurd (omega arith)
-store-step q roots (suc n) h =
-    let place : 12 - suc n ≡ 11 - n = omega arith in
-    let one : suc n - 1 ≡ n = omega arith in
-    rw (place, one) refl
+  abbrev rear : List (List ℕ)
+  rear = drop 12 (drop 257 rows)
 
-module _ (q : CpuRunQueue) (roots : List Root) where
-  pub root-stored : {y q₁ : CpuRunQueue} (n : ℕ) → 0 < n → q₁ ≡ withRoot q (12 - n) (rootAt roots (12 - n)) → y ≡ storeRest (n - 1) q₁ roots → y ≡ storeRest n q roots
-  root-stored n p e h = rw (store-step q roots n p, sym e) h
+  abbrev put : List (List ℕ)
+  put = front ++ (part ++ rear)
 
-  pub all-stored : {y : CpuRunQueue} (n : ℕ) → n ≤ 0 → y ≡ q → y ≡ storeRest n q roots
-  unfolding storeRest
-  all-stored zero p h = h
-  all-stored (suc n) p h = absurd (omega arith)
+  front-size : length front ≡ 257
+  front-size = length-take 257 rows ∙ (let least : min 257 (length rows) ≡ 257 = omega arith in least)
 
--- Twelve roots stored one by one are the roots of the queue.
-store-copies : (n : ℕ) (q : CpuRunQueue) (roots : List Root) → storeRest n q roots ≡ withIndices q (copyRest n (q .indices) roots)
-unfolding storeRest copyRest withRoot withIndices
-store-copies zero q roots = refl
-store-copies (suc n) q roots = store-copies n (withRoot q (11 - n) (rootAt roots (11 - n))) roots
+  lists-kept : take 256 put ≡ take 256 rows
+  lists-kept = take-first front part rear 256 (let s : length front ≡ 257 = front-size in omega arith) ∙ take-taken rows 256 257 (omega arith)
 
-pub store-set-out : (rows : List (List ℕ)) (roots : List Root) → length rows ≡ 270 → length roots ≡ 12 → storeRest 12 (queueOf rows) roots ≡ whole (withIndices (queueOf rows) roots)
-store-set-out rows roots h k =
-    store-copies 12 (queueOf rows) roots ∙ ap (withIndices (queueOf rows)) (copied (queueOf rows .indices) roots (indices-length rows h) k) ∙ setting-out (withIndices (queueOf rows) roots)
+  fair-kept : getD put 256 [] ≡ getD rows 256 []
+  fair-kept = read-first front part rear 256 [] (let s : length front ≡ 257 = front-size in omega arith) ∙ read-taken rows 257 256 [] (omega arith)
 
-pub ruleset storing = (onward, root-stored, all-stored)
+  roots-put : take 12 (drop 257 put) ≡ part
+  roots-put =
+      ap (λ n. take 12 (drop n put)) (sym front-size)
+      ∙ ap (take 12) (drop-first front part rear)
+      ∙ ap (λ n. take n (part ++ rear)) (sym of-part)
+      ∙ take-all part rear
 
--- The words of the mark.
-module _ {h : Bool} where
-  pub mark-word : h ≡ true → haltedFrom 1 ≡ h
-  unfolding haltedFrom ifEqual choose
-  mark-word e = sym e
+  marks-kept : getD put 269 [] ≡ getD rows 269 []
+  marks-kept =
+      ap (λ n. getD put n []) (let s : length front ≡ 257 = front-size in let p : 269 ≡ length front + (length part + 0) = omega arith in p)
+      ∙ read-last front part rear 0 []
+      ∙ read-dropped (drop 257 rows) 12 0 []
+      ∙ read-dropped rows 257 12 []
 
-  pub no-mark-word : h ≡ false → haltedFrom 0 ≡ h
-  unfolding haltedFrom ifEqual choose
-  no-mark-word e = sym e
+  roots-stored : queueOf put ≡ withIndices (queueOf rows) (rootsOf part)
+  unfolding queueOf withIndices rootsOf
+  roots-stored = rw (lists-kept, fair-kept, roots-put, marks-kept)
 
-pub marks-stored : {x : List (List ℕ)} (rows : List (List ℕ)) (w : List ℕ) {e : Epoch} {halted : Bool} → x ≡ set rows 269 w
-    → word w 0 ≡ word (getD rows 269 []) 0 → word w 1 ≡ word (getD rows 269 []) 1
-    → epochFrom (word w 2) (word w 3) ≡ e → haltedFrom (word w 4) ≡ halted
-    → length rows ≡ 270 → queueOf x ≡ withMarks (queueOf rows) e halted
-unfolding queueOf withMarks
-marks-stored rows w s total budgets when mark h = ap queueOf s ∙ counts-row rows w (omega arith) ∙ rw (total, budgets, when, mark)
+part-size : (rows : List (List ℕ)) → length rows ≡ 270 → length (take 12 (drop 257 rows)) ≡ 12
+part-size rows h = length-take 12 (drop 257 rows) ∙ ap (min 12) (length-drop 257 rows ∙ ap (λ n. n - 257) h)
 
-pub parts-stored : (q : CpuRunQueue) (p : SelectionParts) {q₁ q₂ : CpuRunQueue} → q₁ ≡ withIndices q (p .indices) → q₂ ≡ withMarks q₁ (p .«budget_epoch») (p .halted)
-    → q₂ ≡ withSelectionParts q p
-unfolding withIndices withMarks withSelectionParts
-parts-stored q p roots marks = marks ∙ rw roots
+pub roots-renewed : {a : Answer (Unit {0})} {t₁ : List ThreadRecord} (t : List ThreadRecord) (rows part : List (List ℕ)) (now : ℕ) → length rows ≡ 270 → length part ≡ length (take 12 (drop 257 rows))
+    → out (leaves a (rootsOf part)) t₁ ≡ renewRoles 3 (length t) t (rootsOf (take 12 (drop 257 rows))) now
+    → out (leaves a (queueOf (take 257 rows ++ (part ++ drop 12 (drop 257 rows))))) t₁ ≡ renewedRoots t (queueOf rows) now
+unfolding renewedRoots queueOf rootsOf onOut onLeaves
+roots-renewed {a} {t₁} t rows part now h k s = rw (sym s, roots-stored rows part h (k ∙ part-size rows h)) (go a)
+  where
+    go : (a : Answer (Unit {0}))
+        → out (leaves a (withIndices (queueOf rows) (rootsOf part))) t₁
+        ≡ onLeaves (leaves a (rootsOf part)) (λ n roots. out (leaves (refused n) (withIndices (queueOf rows) roots)) t₁) (λ u roots. out (leaves (value tt) (withIndices (queueOf rows) roots)) t₁)
+    go (value u) = refl
+    go (refused n) = refl
+
+-- The last row, with the epoch or the mark.
+module _ {x : List (List ℕ)} (rows : List (List ℕ)) (w : List ℕ) (s : x ≡ set rows 269 w) where
+  pub epoch-stored : (e : ℕ) → word w 0 ≡ word (getD rows 269 []) 0 → word w 1 ≡ word (getD rows 269 []) 1 → word w 2 ≡ 1 → word w 3 ≡ e → word w 4 ≡ word (getD rows 269 []) 4
+      → length rows ≡ 270 → queueOf x ≡ withEpoch (queueOf rows) e
+  unfolding queueOf withEpoch epochFrom ifEqual choose
+  epoch-stored e total budgets tag when mark h = ap queueOf s ∙ counts-row rows w (omega arith) ∙ rw (total, budgets, tag, when, mark)
+
+  pub mark-left : (n : ℕ) {r : ℕ} → r ≡ n → r ≡ 9 → word w 0 ≡ word (getD rows 269 []) 0 → word w 1 ≡ word (getD rows 269 []) 1 → word w 2 ≡ word (getD rows 269 []) 2 → word w 3 ≡ word (getD rows 269 []) 3 → word w 4 ≡ 1
+      → length rows ≡ 270 → queueOf x ≡ withMark (queueOf rows) n
+  unfolding queueOf withMark isHalt haltedFrom ifEqual choose
+  mark-left n {r} e m total budgets tag when mark h = ap queueOf s ∙ counts-row rows w (omega arith) ∙ rw (total, budgets, tag, when, mark, eq-eqb n 9 (sym e ∙ m))
+
+pub no-mark-left : (rows : List (List ℕ)) (n : ℕ) {r : ℕ} → r ≡ n → (r ≡ 9 → ⊥) → queueOf rows ≡ withMark (queueOf rows) n
+unfolding withMark isHalt choose
+no-mark-left rows n {r} e m = rw (ne-eqb n 9 (λ z. m (e ∙ z)))
 
 -- A queue with its own parts stored is as it was.
 same-parts : (q : CpuRunQueue) → withSelectionParts q (selectionParts q) ≡ q
@@ -154,20 +181,51 @@ module _ (t : List ThreadRecord) (q : CpuRunQueue) (now e : ℕ) where
       let now-same : isEpoch (q .«budget_epoch») e ≡ true = ap (λ x. isEpoch x e) (sym last) ∙ sym test ∙ same in
       rw now-same (ap (λ x. out (leaves (value tt) x) t) (sym (same-parts q)))
 
-  pub renewed-parts : {a : Answer (Unit {0})} {p : SelectionParts} {q₁ : CpuRunQueue} {t₁ : List ThreadRecord} {roots : List Root} {last : Epoch} {halted : Bool}
-      → roots ≡ q .indices → last ≡ q .«budget_epoch» → halted ≡ q .halted
-      → out (leaves a p) t₁ ≡ renew t (record { indices = roots; «budget_epoch» = last; halted = halted }) now e
-      → q₁ ≡ withSelectionParts q p → out (leaves a q₁) t₁ ≡ renewedQueue t q now e
-  unfolding renewedQueue selectionParts onOut onLeaves withSelectionParts
-  renewed-parts {a} {p} {q₁} {t₁} roots last mark step put = rw (sym roots, sym last, sym mark, sym step, put) (go a)
+  apart : renewedQueue t q now e
+      ≡ choose (isEpoch (q .«budget_epoch») e) (out (leaves (value tt) q) t)
+      (onOut (renewedRoots t q now)
+      (λ s t₁. onLeaves s
+      (λ n q₁. out (leaves (refused n) (withMark q₁ n)) t₁)
+      (λ u q₁. out (leaves (value tt) (withEpoch q₁ e)) t₁)))
+  unfolding renewedQueue renewedRoots renew selectionParts withSelectionParts withIndices withMark withEpoch choose onOut onLeaves
+  apart = go (isEpoch (q .«budget_epoch») e) (renewRoles 3 (length t) t (q .indices) now)
     where
-      go : (a : Answer (Unit {0}))
-          → out (leaves a (withSelectionParts q p)) t₁
-          ≡ onLeaves (leaves a p) (λ n p. out (leaves (refused n) (withSelectionParts q p)) t₁) (λ u p. out (leaves (value tt) (withSelectionParts q p)) t₁)
-      go (value u) = refl
-      go (refused n) = refl
+      go : (same : Bool) (x : Out (Leaves (Unit {0}) (List Root)))
+          → onOut (choose same (out (leaves (value (tt {0})) (selectionParts q)) t)
+          (onOut x
+          (λ s t₁. onLeaves s
+          (λ n roots. out (leaves (refused n) (record { indices = roots; «budget_epoch» = q .«budget_epoch»; halted = choose (isHalt n) true (q .halted) })) t₁)
+          (λ u roots. out (leaves (value (tt {0})) (record { indices = roots; «budget_epoch» = epoch.Some e; halted = q .halted })) t₁))))
+          (λ s t₁. onLeaves s
+          (λ n p. out (leaves (refused n) (withSelectionParts q p)) t₁)
+          (λ u p. out (leaves (value (tt {0})) (withSelectionParts q p)) t₁))
+          ≡ choose same (out (leaves (value (tt {0})) q) t)
+          (onOut (onOut {B = Out (Leaves (Unit {0}) CpuRunQueue)} x
+          (λ s t₁. onLeaves s
+          (λ n roots. out (leaves (refused n) (withIndices q roots)) t₁)
+          (λ u roots. out (leaves (value (tt {0})) (withIndices q roots)) t₁)))
+          (λ s t₁. onLeaves s
+          (λ n q₁. out (leaves (refused n) (withMark q₁ n)) t₁)
+          (λ u q₁. out (leaves (value (tt {0})) (withEpoch q₁ e)) t₁)))
+      go true x = refl
+      go false (out (leaves (value u) roots) t₁) = refl
+      go false (out (leaves (refused n) roots) t₁) = refl
 
-pub ruleset renewals = (mark-word, no-mark-word, marks-stored, parts-stored, renewed-already, renewed-parts)
+  changes : {r : Bool} {last : Epoch} → last ≡ q .«budget_epoch» → r ≡ isEpoch last e → r ≡ false → isEpoch (q .«budget_epoch») e ≡ false
+  changes a b c = ap (λ x. isEpoch x e) (sym a) ∙ sym b ∙ c
+
+  module _ {r : Bool} {last : Epoch} {v : Verdict} {q₁ q₂ : CpuRunQueue} {t₁ : List ThreadRecord} where
+    pub renewed-made : last ≡ q .«budget_epoch» → r ≡ isEpoch last e → r ≡ false → out (leaves (verdictAnswer v) q₁) t₁ ≡ renewedRoots t q now → v ≡ verdict.Accepted
+        → q₂ ≡ withEpoch q₁ e → out (leaves (value tt) q₂) t₁ ≡ renewedQueue t q now e
+    unfolding choose onOut onLeaves
+    renewed-made a b c s m f = rw (apart, changes a b c, sym s, m, f)
+
+    pub renewed-refused : {n : Refusal} → last ≡ q .«budget_epoch» → r ≡ isEpoch last e → r ≡ false → out (leaves (verdictAnswer v) q₁) t₁ ≡ renewedRoots t q now → v ≡ verdict.Refused n
+        → q₂ ≡ withMark q₁ (numberOf n) → out (leaves (refused (numberOf n)) q₂) t₁ ≡ renewedQueue t q now e
+    unfolding choose onOut onLeaves
+    renewed-refused a b c s m f = rw (apart, changes a b c, sym s, m, f)
+
+pub ruleset renewals = (roots-renewed, epoch-stored, mark-left, no-mark-left, renewed-already, renewed-made, renewed-refused)
 
 -- The heads beside the queue that the change of period left.
 module _ (t : List ThreadRecord) (q : CpuRunQueue) (c : CpuIndex) (now : ℕ) (w : CpuWindow) (current : CandidateOption) where
@@ -175,9 +233,6 @@ module _ (t : List ThreadRecord) (q : CpuRunQueue) (c : CpuIndex) (now : ℕ) (w
       → out (peeked a w₁ q) t₁ ≡ onOut (lookedAt t (q .indices) c now w current) (λ x t₂. out (besideQueue q x) t₂)
   unfolding onOut
   queue-looked e = rw (sym e)
-
-  pub roots-looked : {y : Out Looked} {roots : List Root} → roots ≡ q .indices → y ≡ lookedAt t roots c now w current → y ≡ lookedAt t (q .indices) c now w current
-  roots-looked r e = e ∙ ap (λ roots. lookedAt t roots c now w current) r
 
   looked-restored : (p : SelectionParts) (y : Out Looked)
       → onOut (onOut y (λ x t₂. out (besideParts p x) t₂)) (λ x t₁. out (restored q x) t₁) ≡ onOut y (λ x t₂. out (besideQueue (withSelectionParts q p) x) t₂)
@@ -230,5 +285,11 @@ module _ (t : List ThreadRecord) (q : CpuRunQueue) (c : CpuIndex) (now : ℕ) (w
 
   pub peeked-so : {y : Out (Peeked CpuRunQueue)} → y ≡ peekQueue t q c now w current → y ≡ peekNext t q c now w current
   peeked-so h = h ∙ sym peek-apart
+
+-- The rows of the roots are those of the queue.
+pub roots-looked : {y : Out Looked} (t : List ThreadRecord) (rows : List (List ℕ)) (c : CpuIndex) (now : ℕ) (w : CpuWindow) (current : CandidateOption)
+    → y ≡ lookedAt t (rootsOf (take 12 (drop 257 rows))) c now w current → y ≡ lookedAt t (queueOf rows .indices) c now w current
+unfolding queueOf rootsOf
+roots-looked t rows c now w current h = h
 
 pub ruleset peeks = (queue-looked, roots-looked, too-many, not-too-many)

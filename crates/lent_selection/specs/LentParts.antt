@@ -1,46 +1,48 @@
--- Selection over a queue as the code takes it: the twelve roots one by one, the change of period on the queue, and then the heads. The laws say that this is `peekNext`.
-use Prim.Native.Nat.{ℕ, zero, suc, _-_, _/_}
-use mathlib.Core.Bool.{Bool}
+-- Selection over a queue as the code takes it: the change of period on the queue, and then the heads. The laws say that this is `peekNext`.
+use Prim.Native.Nat.{ℕ, _/_}
+use mathlib.Core.Bool.{true}
 use mathlib.Core.List.{List}
-use lib.ListN.{length, getD, set}
+use lib.ListN.{length}
 use Rattle.refusal.specs.Answer.{value, refused}
 use Rattle.refusal.specs.Cases.{choose, given, ifLess}
-use Rattle.time.specs.declared.Epoch.{Epoch}
+use Rattle.time.specs.declared.Epoch.the-variants as epoch
 use Rattle.arbitration.specs.declared.CpuWindow.{CpuWindow}
-use Rattle.arbitration.specs.Config.{soundConfig}
+use Rattle.window_config.specs.Config.{soundConfig}
 use Rattle.thread.specs.declared.CpuIndex.{CpuIndex}
 use Rattle.thread.specs.declared.ThreadRecord.{ThreadRecord}
 use Rattle.rows.specs.Table.{Out, out}
 use Rattle.lists.specs.Lists.{onOut}
 use Rattle.queue.specs.declared.Root.{Root}
 use Rattle.queue.specs.declared.CpuRunQueue.{CpuRunQueue}
-use Rattle.queue.specs.Queue.{emptyRoot, maxRecords}
-use Rattle.lent_queue.specs.LentQueue.{withRoot}
-use Rattle.selection.specs.declared.CandidateOption.{CandidateOption}
-use Rattle.selection.specs.Leaves.{Leaves, leaves, onLeaves}
-use Rattle.selection.specs.Renewal.{rootAt, renew}
+use Rattle.queue.specs.Queue.{maxRecords}
+use Rattle.demands.specs.declared.CandidateOption.{CandidateOption}
+use Rattle.renewal.specs.Leaves.{Leaves, leaves, onLeaves}
+use Rattle.renewal.specs.Renewal.{renewRoles, isHalt, renew}
 use Rattle.selection.specs.Peek.{Peeked, peeked, selectionParts, withSelectionParts}
 use Rattle.selection.specs.Steps.{Looked, looked, lookedAt}
-
--- The last so many of twelve roots copied.
-unfoldable pub copyRest : ℕ → List Root → List Root → List Root
-copyRest zero l roots = l
-copyRest (suc n) l roots = copyRest n (set l (11 - n) (record { root = rootAt roots (11 - n) })) roots
-
--- The last so many of twelve roots stored.
-unfoldable pub storeRest : ℕ → CpuRunQueue → List Root → CpuRunQueue
-storeRest zero q roots = q
-storeRest (suc n) q roots = storeRest n (withRoot q (11 - n) (rootAt roots (11 - n))) roots
 
 -- The twelve roots stored.
 unfoldable pub withIndices : CpuRunQueue → List Root → CpuRunQueue
 withIndices q roots =
     record { realtime = q .realtime; «realtime_len» = q .«realtime_len»; fair = q .fair; indices = roots; «budget_epoch» = q .«budget_epoch»; «budget_threads» = q .«budget_threads»; halted = q .halted }
 
--- The epoch and the mark stored.
-unfoldable pub withMarks : CpuRunQueue → Epoch → Bool → CpuRunQueue
-withMarks q e halted =
-    record { realtime = q .realtime; «realtime_len» = q .«realtime_len»; fair = q .fair; indices = q .indices; «budget_epoch» = e; «budget_threads» = q .«budget_threads»; halted = halted }
+-- The epoch stored.
+unfoldable pub withEpoch : CpuRunQueue → ℕ → CpuRunQueue
+withEpoch q e =
+    record { realtime = q .realtime; «realtime_len» = q .«realtime_len»; fair = q .fair; indices = q .indices; «budget_epoch» = epoch.Some e; «budget_threads» = q .«budget_threads»; halted = q .halted }
+
+-- The mark that a refusal leaves.
+unfoldable pub withMark : CpuRunQueue → ℕ → CpuRunQueue
+withMark q n =
+    record { realtime = q .realtime; «realtime_len» = q .«realtime_len»; fair = q .fair; indices = q .indices; «budget_epoch» = q .«budget_epoch»; «budget_threads» = q .«budget_threads»; halted = choose (isHalt n) true (q .halted) }
+
+-- The moves of the three roles, on a queue.
+unfoldable pub renewedRoots : List ThreadRecord → CpuRunQueue → ℕ → Out (Leaves (Unit {0}) CpuRunQueue)
+renewedRoots t q now =
+    onOut (renewRoles 3 (length t) t (q .indices) now)
+    (λ s t₁. onLeaves s
+    (λ n roots. out (leaves (refused n) (withIndices q roots)) t₁)
+    (λ u roots. out (leaves (value tt) (withIndices q roots)) t₁))
 
 -- The change of period, on a queue.
 unfoldable pub renewedQueue : List ThreadRecord → CpuRunQueue → ℕ → ℕ → Out (Leaves (Unit {0}) CpuRunQueue)

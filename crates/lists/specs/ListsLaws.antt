@@ -1,14 +1,16 @@
 -- Laws by which the functions over rows meet the definitions: r is what the call gave, x what its contract says of it.
 use Prim.Native.Nat.{ℕ, _<_, _≤_, _%_}
 use mathlib.Core.Path.{_≡_, refl, sym, ap}
-use mathlib.Core.Bool.{Bool}
+use mathlib.Core.Bool.{Bool, true, false}
 use mathlib.Core.List.{List, []}
 use lib.ListN.{length, getD, set}
-use Rattle.refusal.specs.Answer.{Answer, numberOf}
+use Rattle.refusal.specs.Answer.{Answer, value, refused, numberOf}
+use Rattle.refusal.specs.Cases.{choose}
 use Rattle.refusal.specs.declared.Refusal.{Refusal}
 use Rattle.thread.specs.declared.Link.{Link}
 use Rattle.thread.specs.declared.QueueLinks.{QueueLinks}
 use Rattle.thread.specs.declared.QueueMembership.{QueueMembership}
+use Rattle.thread.specs.declared.ThreadQueue.{ThreadQueue}
 use Rattle.thread.specs.declared.ThreadRecord.{ThreadRecord}
 use Rattle.thread.specs.Membership.{isUnqueued}
 use Rattle.thread.specs.Records.{withQueueLinks}
@@ -20,8 +22,8 @@ use Rattle.rows.specs.TableCases.{onRecord, onQueueLinks}
 use Rattle.rows.specs.RowTableLaws.{record-inside, record-outside, queue-links-inside, queue-links-outside, set-queue-links-inside}
 use Rattle.lists.specs.declared.Preflight.{Preflight}
 use Rattle.lists.specs.declared.Preflight.the-variants as preflight
-use Rattle.lists.specs.Checks.{assignedTo}
-use Rattle.lists.specs.Lists.{onAnswer, onOut, withNext, withPrevious, setNext, setPrevious}
+use Rattle.lists.specs.Checks.{assignedTo, preflightInsert}
+use Rattle.lists.specs.Lists.{onAnswer, onOut, withNext, withPrevious, setNext, setPrevious, append, prepend, push, pushFront}
 use Rattle.lists.specs.Answers.{preflightAnswer}
 
 module _ {B : Type 0} {y : B} {r : Preflight} {x : Answer ℕ} (g f : ℕ → B) where
@@ -36,6 +38,14 @@ module _ {B : Type 0} {y : B} {r : Preflight} {x : Answer ℕ} (g f : ℕ → B)
 pub went-out : {A B : Type 0} {y : B} {r : A} {t : List ThreadRecord} {x : Out A} (f : A → List ThreadRecord → B) → out r t ≡ x → y ≡ f r t → y ≡ onOut x f
 unfolding onOut
 went-out f e h = rw (sym e) h
+
+-- Both ends have the same checks.
+pub either-end : (front : Bool) (t : List ThreadRecord) (q : ThreadQueue) (id : ℕ) (m : QueueMembership) {y : Out (Answer ThreadQueue)}
+    → y ≡ onAnswer (preflightInsert t q id m) (λ n. out (refused n) t) (λ n. onOut (choose front (prepend t q id m n) (append t q id m n)) (λ s t₁. out (value s) t₁))
+    → y ≡ choose front (pushFront t q id m) (push t q id m)
+unfolding choose push pushFront
+either-end true t q id m e = e
+either-end false t q id m e = e
 
 -- The table that a store left is the table after it.
 pub left-by : {A : Type 0} {r : A} {t : List ThreadRecord} {x : Out A} → out r t ≡ x → t ≡ after x

@@ -1,6 +1,7 @@
 // One list of threads over the table: push, push_front and remove. After scheduler/queue.rs, with the source's order of checks and stores.
 // Every number that is stored to was read in the checks before (crate sound_lists, specs/Inside.antt), so the source's `queue_invariant` has no place here.
 ghost use mathlib.Core.Path.{_≡_};
+ghost use Rattle.refusal.specs.Cases.{choose};
 ghost use Rattle.thread.specs.Membership.{isUnqueued};
 ghost use Rattle.thread.specs.Records.{withQueueLinks};
 ghost use Rattle.codec.specs.Codec.{decoded};
@@ -258,17 +259,6 @@ fn append(
     }
 }
 
-// The thread becomes the list's last.
-pub fn push(t: &mut [[u64; 32]], queue: ThreadQueue, id: u64, membership: QueueMembership) -> Listed
-    ensures { λ r. ⌜ out (listed r) (table (now (t .exit))) ≡ push (table (now (t .entry))) queue id membership ⌝ }
-{
-    let preflight = preflight_insert(t, queue, id, membership);
-    match preflight {
-        Preflight::Length(len) => Listed::List(append(t, queue, id, membership, len)),
-        Preflight::Refused(refusal) => Listed::Refused(refusal),
-    }
-}
-
 // The stores of `push_front`, after its checks.
 fn prepend(
     t: &mut [[u64; 32]],
@@ -318,6 +308,47 @@ fn prepend(
     }
 }
 
+// The stores of either end, after the checks.
+fn place(
+    t: &mut [[u64; 32]],
+    front: bool,
+    queue: ThreadQueue,
+    id: u64,
+    membership: QueueMembership,
+    len: u64,
+) -> ThreadQueue
+    ensures { λ r. ⌜ out r (table (now (t .exit))) ≡ choose front (prepend (table (now (t .entry))) queue id membership len) (append (table (now (t .entry))) queue id membership len) ⌝ }
+{
+    if front {
+        return prepend(t, queue, id, membership, len);
+    }
+    append(t, queue, id, membership, len)
+}
+
+// `push`, and with `front` `push_front`. The checks of both are called from this one place, so that the compiler puts them into it.
+pub fn push_at(
+    t: &mut [[u64; 32]],
+    front: bool,
+    queue: ThreadQueue,
+    id: u64,
+    membership: QueueMembership,
+) -> Listed
+    ensures { λ r. ⌜ out (listed r) (table (now (t .exit))) ≡ choose front (pushFront (table (now (t .entry))) queue id membership) (push (table (now (t .entry))) queue id membership) ⌝ }
+{
+    let preflight = preflight_insert(t, queue, id, membership);
+    match preflight {
+        Preflight::Length(len) => Listed::List(place(t, front, queue, id, membership, len)),
+        Preflight::Refused(refusal) => Listed::Refused(refusal),
+    }
+}
+
+// The thread becomes the list's last.
+pub fn push(t: &mut [[u64; 32]], queue: ThreadQueue, id: u64, membership: QueueMembership) -> Listed
+    ensures { λ r. ⌜ out (listed r) (table (now (t .exit))) ≡ push (table (now (t .entry))) queue id membership ⌝ }
+{
+    push_at(t, false, queue, id, membership)
+}
+
 // The thread becomes the list's first.
 pub fn push_front(
     t: &mut [[u64; 32]],
@@ -327,11 +358,7 @@ pub fn push_front(
 ) -> Listed
     ensures { λ r. ⌜ out (listed r) (table (now (t .exit))) ≡ pushFront (table (now (t .entry))) queue id membership ⌝ }
 {
-    let preflight = preflight_insert(t, queue, id, membership);
-    match preflight {
-        Preflight::Length(len) => Listed::List(prepend(t, queue, id, membership, len)),
-        Preflight::Refused(refusal) => Listed::Refused(refusal),
-    }
+    push_at(t, true, queue, id, membership)
 }
 
 // What stands before the thread points to it.

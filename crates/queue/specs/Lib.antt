@@ -1,5 +1,3 @@
--- The work of enqueue and remove, on the parts of a queue that a call touches.
-pub mod Work
 -- The queue's calls, with every refusal and what each leaves behind.
 pub mod Queue
 -- A call in two halves: its plan and its work.
@@ -8,8 +6,6 @@ pub mod Plan
 pub mod RowJudgement
 -- What the answers stand for.
 pub mod Answers
--- Laws by which the functions on parts meet the definitions.
-pub mod WorkLaws
 -- A call in two halves is the call, and laws by which the functions meet the definitions.
 pub mod PlanLaws
 -- A small table and lists of calls on it.

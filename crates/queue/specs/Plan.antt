@@ -20,7 +20,7 @@ use Rattle.ready_index.specs.Index as index
 use Rattle.queue.specs.declared.CpuRunQueue.{CpuRunQueue}
 use Rattle.queue.specs.declared.Filed.{Filed}
 use Rattle.queue.specs.declared.Plan.{Plan}
-use Rattle.queue.specs.Work.{Work, done, turnedDown, halts, insertWork, removeWork}
+use Rattle.queue_work.specs.Work.{Work, done, turnedDown, halts, insertWork, removeWork}
 use Rattle.queue.specs.Queue.{Step, step, maxRecords, rootOf, partsOf, withParts, marked, worked, isFifo, isBudget, membershipFor, partner, onContained}
 
 -- Of a judged record what the plans go by.

@@ -44,10 +44,10 @@ use Rattle.queue.specs.declared.Planned.{Planned}
 use Rattle.queue.specs.declared.Planned.the-variants as planned
 use Rattle.queue.specs.declared.TreeFound.{TreeFound}
 use Rattle.queue.specs.declared.TreeFound.the-variants as tree
-use Rattle.queue.specs.declared.Worked.{Worked}
-use Rattle.queue.specs.declared.Worked.the-variants as work
-use Rattle.queue.specs.declared.Parts.{Parts}
-use Rattle.queue.specs.Work.{Work, done, turnedDown, halts, workOf, insertWork, removeWork}
+use Rattle.queue_work.specs.declared.Worked.{Worked}
+use Rattle.queue_work.specs.declared.Worked.the-variants as work
+use Rattle.queue_work.specs.declared.Parts.{Parts}
+use Rattle.queue_work.specs.Work.{Work, done, turnedDown, halts, workOf, insertWork, removeWork}
 use Rattle.queue.specs.Queue as queue
 use Rattle.queue.specs.Queue.{Step, step, maxRecords, rootOf, partsOf, withParts, marked, isFifo, isBudget, membershipFor, partner, onContained, enqueueCall, removeCall, removeReady, removeFrom, treeWith}
 use Rattle.queue.specs.Answers.{judgementAnswer, treeAnswer, plannedAnswer}
@@ -250,13 +250,13 @@ pub put-back : (q : CpuRunQueue) (m : QueueMembership) (k : ℕ) {s : Step (Unit
 put-back q m k {s} {w} {t} e h = ap (λ s. out s t) h ∙ worked-apart q m k w t ∙ ap (queue.worked q m k) e
 
 module _ (q : CpuRunQueue) (m : QueueMembership) (k : ℕ) {w : Worked} {r : CpuRunQueue} where
-  pub settled-done : {p : Parts} → w ≡ work.Done p → r ≡ withParts q m k p → step (value tt) r ≡ settled q m k (workOf w)
+  pub settled-done : {p : Parts} {h : Bool} → w ≡ work.Stored p h → h ≡ false → r ≡ withParts q m k p → step (value tt) r ≡ settled q m k (workOf w)
   unfolding settled
-  settled-done e h = rw e (rw h)
+  settled-done e n h = rw (e, n) (rw h)
 
-  pub settled-halted : {p : Parts} {u : CpuRunQueue} → w ≡ work.Halted p → u ≡ withParts q m k p → r ≡ marked u → step (refused 9) r ≡ settled q m k (workOf w)
+  pub settled-halted : {p : Parts} {h : Bool} {u : CpuRunQueue} → w ≡ work.Stored p h → h ≡ true → u ≡ withParts q m k p → r ≡ marked u → step (refused 9) r ≡ settled q m k (workOf w)
   unfolding settled
-  settled-halted e h g = rw e (rw (sym h) (ap (λ r. step (refused 9) r) g))
+  settled-halted e n h g = rw (e, n) (rw (sym h) (ap (λ r. step (refused 9) r) g))
 
 pub settled-refused : (q : CpuRunQueue) (m : QueueMembership) (k : ℕ) {w : Worked} {n : Refusal} → w ≡ work.Refused n → step (refused (numberOf n)) q ≡ settled q m k (workOf w)
 unfolding settled

@@ -26,8 +26,8 @@ use Rattle.ready_index.specs.declared.Contained.{Contained}
 use Rattle.ready_index.specs.declared.Contained.the-variants as contained
 use Rattle.queue.specs.declared.Root.{Root}
 use Rattle.queue.specs.declared.CpuRunQueue.{CpuRunQueue}
-use Rattle.queue.specs.declared.Parts.{Parts}
-use Rattle.queue.specs.Work.{Work, done, turnedDown, halts, insertWork, removeWork}
+use Rattle.queue_work.specs.declared.Parts.{Parts}
+use Rattle.queue_work.specs.Work.{Work, done, turnedDown, halts, insertWork, removeWork}
 
 -- A record's place is 0 to 4,095.
 abbrev pub maxRecords : ℕ

@@ -1,24 +1,27 @@
 // The ready queue of one processor: enqueue at either end and remove. After `CpuRunQueue` of scheduler/queue.rs.
 mod judging;
 mod planning;
-mod work;
 
+pub use judging::has_time_left;
+pub use judging::is_bad_row;
 pub use planning::insertion_plan;
 pub use planning::judge;
 pub use planning::partner;
 pub use planning::removal_plan;
-pub use work::insert_work;
-pub use work::remove_work;
 ghost use Prim.Native.Nat.{_<_};
 ghost use mathlib.Core.Bool.{true, false};
 ghost use mathlib.Core.Path.{_≡_};
 ghost use lib.ListN.{set};
 ghost use Rattle.rows.specs.Table.{table, out};
-ghost use Rattle.queue.specs.Work as work;
+ghost use Rattle.queue_work.specs.Work as work;
 ghost use Rattle.queue.specs.Queue as calls;
 ghost use Rattle.queue.specs.Plan as plans;
 ghost use Rattle.queue.specs.Answers.{stepOf};
 use policy::SchedulingPolicy;
+use queue_work::Parts;
+use queue_work::Worked;
+use queue_work::insert_work;
+use queue_work::remove_work;
 use refusal::Refusal;
 use thread::CpuIndex;
 use thread::Link;
@@ -85,27 +88,6 @@ pub struct Plan {
 
 pub enum Planned {
     Plan(Plan),
-    Refused(Refusal),
-}
-
-// What one call touches of a queue: a list, the FIFO total, a tree's root, the number of budget threads.
-pub struct Parts {
-    pub list: ThreadQueue,
-    pub realtime_len: u64,
-    pub root: Link,
-    pub budget_threads: u64,
-}
-
-// The parts afterwards; or a refusal with nothing changed; or the parts as the source had stored them where it halts.
-pub enum Worked {
-    Done(Parts),
-    Refused(Refusal),
-    Halted(Parts),
-}
-
-// The FIFO total afterwards, or its refusal.
-enum Total {
-    Length(u64),
     Refused(Refusal),
 }
 
@@ -242,18 +224,23 @@ fn settled(queue: CpuRunQueue, membership: QueueMembership, index: u64, worked: 
     ensures { λ r. ⌜ stepOf r ≡ plans.settled queue membership index (work.workOf worked) ⌝ }
 {
     match worked {
-        Worked::Done(parts) => QueueStep {
-            answer: Verdict::Accepted,
-            queue: with_parts(queue, membership, index, parts),
-        },
         Worked::Refused(refusal) => QueueStep {
             answer: Verdict::Refused(refusal),
             queue,
         },
-        Worked::Halted(parts) => QueueStep {
-            answer: Verdict::Refused(Refusal::Halted),
-            queue: marked(with_parts(queue, membership, index, parts)),
-        },
+        Worked::Stored { parts, halted } => {
+            let stored = with_parts(queue, membership, index, parts);
+            if halted {
+                return QueueStep {
+                    answer: Verdict::Refused(Refusal::Halted),
+                    queue: marked(stored),
+                };
+            }
+            QueueStep {
+                answer: Verdict::Accepted,
+                queue: stored,
+            }
+        }
     }
 }
 

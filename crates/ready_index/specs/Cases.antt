@@ -1,13 +1,8 @@
 -- Going by what a call answered. The functions stay shut in proofs of code, which go by the laws in CasesLaws.
 use mathlib.Core.List.{List}
-use Prim.Native.Nat.{ℕ}
 use Rattle.thread.specs.declared.Link.{Link}
 use Rattle.thread.specs.declared.Links.{Links}
 use Rattle.thread.specs.declared.ThreadRecord.{ThreadRecord}
-use Rattle.ready_index.specs.declared.HeightRead.{HeightRead}
-use Rattle.ready_index.specs.declared.HeightRead.the-variants as height
-use Rattle.ready_index.specs.declared.Turned.{Turned}
-use Rattle.ready_index.specs.declared.Turned.the-variants as turned
 use Rattle.ready_index.specs.declared.Rooted.{Rooted}
 use Rattle.ready_index.specs.declared.Rooted.the-variants as rooted
 use Rattle.ready_index.specs.declared.Way.{Way}
@@ -16,17 +11,7 @@ use Rattle.ready_index.specs.declared.Sought.{Sought}
 use Rattle.ready_index.specs.declared.Sought.the-variants as sought
 use Rattle.rows.specs.Table.{Out, out}
 
--- In each, what to do where the answer is Damaged stands first.
-unfoldable pub onHeight : {A : Type 0} → HeightRead → A → (ℕ → A) → A
-onHeight (height.Got h) a f = f h
-onHeight height.Damaged a f = a
-
--- Of the table as it is left, as in crate rows: a refusal keeps the stores that were made.
-unfoldable pub onTurned : {A : Type 0} → Out Turned → (List ThreadRecord → A) → (ℕ → List ThreadRecord → A) → A
-onTurned (out (turned.Root i) t) a f = f i t
-onTurned (out turned.Damaged t) a f = a t
-
--- The same by the root.
+-- In each, what to do where the answer is Damaged stands first. Of the table as it is left, as in crate rows: a refusal keeps the stores that were made.
 unfoldable pub onRooted : {A : Type 0} → Out Rooted → (List ThreadRecord → A) → (Link → List ThreadRecord → A) → A
 onRooted (out (rooted.Root l) t) a f = f l t
 onRooted (out rooted.Damaged t) a f = a t

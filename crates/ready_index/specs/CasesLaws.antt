@@ -1,46 +1,21 @@
 -- The laws by which proofs of code go by an answer: r is what the call gave, x what its contract says of it.
 use mathlib.Core.Path.{_≡_, sym, _∙_}
 use mathlib.Core.List.{List}
-use Prim.Native.Nat.{ℕ}
-use Rattle.refusal.specs.Cases.{cases}
 use Rattle.order.specs.OrderLaws.{orderings}
-use Rattle.avl.specs.RotationLaws.{leaning}
 use Rattle.thread.specs.declared.Link.{Link}
 use Rattle.thread.specs.declared.Links.{Links}
 use Rattle.thread.specs.declared.ThreadRecord.{ThreadRecord}
-use Rattle.thread.specs.MembershipLaws.{memberships}
-use Rattle.ready_index.specs.declared.HeightRead.{HeightRead}
-use Rattle.ready_index.specs.declared.HeightRead.the-variants as height
-use Rattle.ready_index.specs.declared.Turned.{Turned}
-use Rattle.ready_index.specs.declared.Turned.the-variants as turned
 use Rattle.ready_index.specs.declared.Rooted.{Rooted}
 use Rattle.ready_index.specs.declared.Rooted.the-variants as rooted
 use Rattle.ready_index.specs.declared.Way.{Way}
 use Rattle.ready_index.specs.declared.Way.the-variants as way
 use Rattle.ready_index.specs.declared.Sought.{Sought}
 use Rattle.ready_index.specs.declared.Sought.the-variants as sought
-use Rattle.rows.specs.TableCases.{tables}
+use Rattle.rotations.specs.CasesLaws.{turnings}
 use Rattle.rows.specs.Table.{Out, out}
-use Rattle.ready_index.specs.Cases.{onHeight, onTurned, onRooted, onWay, onSought}
-
-module _ {A : Type 0} {y : A} (a : A) where
-  pub height-got : {r x : HeightRead} {n : ℕ} (f : ℕ → A) → r ≡ x → r ≡ height.Got n → y ≡ f n → y ≡ onHeight x a f
-  unfolding onHeight
-  height-got f e m h = rw (sym e ∙ m) h
-
-  pub height-damaged : {r x : HeightRead} (f : ℕ → A) → r ≡ x → r ≡ height.Damaged → y ≡ a → y ≡ onHeight x a f
-  unfolding onHeight
-  height-damaged f e m h = rw (sym e ∙ m) h
+use Rattle.ready_index.specs.Cases.{onRooted, onWay, onSought}
 
 module _ {A : Type 0} {y : A} {t : List ThreadRecord} (a : List ThreadRecord → A) where
-  pub turned-root : {r : Turned} {x : Out Turned} {i : ℕ} (f : ℕ → List ThreadRecord → A) → out r t ≡ x → r ≡ turned.Root i → y ≡ f i t → y ≡ onTurned x a f
-  unfolding onTurned
-  turned-root f e m h = rw (sym e) (rw m h)
-
-  pub turned-damaged : {r : Turned} {x : Out Turned} (f : ℕ → List ThreadRecord → A) → out r t ≡ x → r ≡ turned.Damaged → y ≡ a t → y ≡ onTurned x a f
-  unfolding onTurned
-  turned-damaged f e m h = rw (sym e) (rw m h)
-
   pub rooted-root : {r : Rooted} {x : Out Rooted} {l : Link} (f : Link → List ThreadRecord → A) → out r t ≡ x → r ≡ rooted.Root l → y ≡ f l t → y ≡ onRooted x a f
   unfolding onRooted
   rooted-root f e m h = rw (sym e) (rw m h)
@@ -83,4 +58,4 @@ module _ {A : Type 0} {y : A} {r x : Sought} (a : A) (k : Links → A) (f g : Li
   unfolding onSought
   sought-damaged p m h = rw (sym p ∙ m) h
 
-pub ruleset answers = (cases, orderings, leaning, memberships, tables, height-got, height-damaged, turned-root, turned-damaged, rooted-root, rooted-damaged, way-left, way-right, way-equal, way-damaged, sought-left, sought-right, sought-found, sought-damaged)
+pub ruleset answers = (orderings, turnings, rooted-root, rooted-damaged, way-left, way-right, way-equal, way-damaged, sought-left, sought-right, sought-found, sought-damaged)

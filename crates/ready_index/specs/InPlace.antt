@@ -1,30 +1,12 @@
--- What the way up does to a node that stays in its place: one link is stored, then the height. That this is what Index and Balance say, stands in InPlaceLaws.
+-- What a step of the way up stores.
 use mathlib.Core.List.{List}
-use mathlib.Core.Bool.{Bool, true, false}
-use Prim.Native.Nat.{ℕ, _+_}
-use Rattle.refusal.specs.Cases.{choose, ifLess, given}
+use Rattle.refusal.specs.Cases.{choose}
 use Rattle.thread.specs.declared.Link.{Link}
 use Rattle.thread.specs.declared.ThreadRecord.{ThreadRecord}
 use Rattle.rows.specs.declared.Change.{Change}
-use Rattle.rows.specs.Table.{Out, out, setLeft, setRight, setHeight}
-use Rattle.rows.specs.TableCases.{onMade}
+use Rattle.rows.specs.Table.{Out, setLeft, setRight}
 use Rattle.ready_index.specs.declared.Step.{Step}
-use Rattle.ready_index.specs.declared.Turned.{Turned}
-use Rattle.ready_index.specs.declared.Turned.the-variants as turned
-use Rattle.ready_index.specs.Balance.{larger}
 
 -- A new subtree hung under the node of a step, where the step led.
 unfoldable pub hungAt : List ThreadRecord → Step → Link → Out Change
 hungAt t s sub = choose (s .right) (setRight t (s .id) sub) (setLeft t (s .id) sub)
-
--- Neither of two heights is above the other by two or more.
-unfoldable pub isEven : ℕ → ℕ → Bool
-isEven a b = ifLess (b + 1) a false (ifLess (a + 1) b false true)
-
--- The height that sides of these heights give, stored at a node; above 255 it does not fit.
-unfoldable pub heightStored : List ThreadRecord → ℕ → ℕ → ℕ → Out Turned
-heightStored t i a b =
-    given (larger a b)
-    (λ m. ifLess m 255
-    (onMade (setHeight t i (m + 1)) (out turned.Damaged) (λ t₁. out (turned.Root i) t₁))
-    (out turned.Damaged t))

@@ -11,8 +11,8 @@ use Rattle.thread.specs.declared.TreeKey.{TreeKey}
 use Rattle.thread.specs.declared.ThreadRecord.{ThreadRecord}
 use Rattle.thread.specs.Membership.{onLink, emptyLinks}
 use Rattle.thread.specs.TreeKey.{compareTreeKeys}
-use Rattle.ready_index.specs.declared.Turned.{Turned}
-use Rattle.ready_index.specs.declared.Turned.the-variants as turned
+use Rattle.rotations.specs.declared.Turned.{Turned}
+use Rattle.rotations.specs.declared.Turned.the-variants as turned
 use Rattle.ready_index.specs.declared.Rooted.{Rooted}
 use Rattle.ready_index.specs.declared.Rooted.the-variants as rooted
 use Rattle.ready_index.specs.declared.Least.{Least}
@@ -26,8 +26,9 @@ use Rattle.ready_index.specs.declared.Sought.{Sought}
 use Rattle.ready_index.specs.declared.Sought.the-variants as sought
 use Rattle.rows.specs.Table.{Out, out, linksAt, keyAt, setLinks}
 use Rattle.rows.specs.TableCases.{onLinks, onKey, onMade}
-use Rattle.ready_index.specs.Cases.{onTurned, onRooted, onWay, onSought}
-use Rattle.ready_index.specs.Balance.{balance}
+use Rattle.rotations.specs.Cases.{onTurned}
+use Rattle.ready_index.specs.Cases.{onRooted, onWay, onSought}
+use Rattle.rotations.specs.Balance.{balance}
 
 -- The entries that a path may have (`MAX_PATH`).
 abbrev pub maxPath : ℕ

@@ -32,7 +32,8 @@ use Rattle.ready_index.specs.declared.Searched.{Searched}
 use Rattle.ready_index.specs.declared.Searched.the-variants as searched
 use Rattle.ready_index.specs.declared.Succeeded.{Succeeded}
 use Rattle.ready_index.specs.declared.Succeeded.the-variants as succeeded
-use Rattle.ready_index.specs.Cases.{onTurned, onWay, onSought}
+use Rattle.rotations.specs.Cases.{onTurned}
+use Rattle.ready_index.specs.Cases.{onWay, onSought}
 use Rattle.ready_index.specs.CasesLaws.{answers}
 use Rattle.ready_index.specs.Index.{descend, wayAt, lookFor, Walk, bottom, lost, walk, rebuildStep, rebuild, soughtAt, Search, found, missing, search, Successor, next, none, successor}
 use Rattle.ready_index.specs.Path.{stepOf, stack, walkOf, walkSteps, lastSought, searchOf, searchSteps, successorOf, successorSteps}

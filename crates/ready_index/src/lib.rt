@@ -1,6 +1,4 @@
 // The ready index: a balanced tree over the records of the thread table. After scheduler/algorithms/ready_index.rs.
-mod rotations;
-
 ghost use Prim.Native.Nat.{_+_, _-_, _≤_};
 ghost use mathlib.Core.List.{[]};
 ghost use mathlib.Core.Path.{_≡_};
@@ -10,6 +8,7 @@ ghost use Rattle.ready_index.specs.Index as index;
 ghost use Rattle.ready_index.specs.InPlace.{hungAt};
 ghost use Rattle.ready_index.specs.Path.{stepOf, stack, walkOf, walkSteps, lastSought, searchOf, searchSteps, successorOf, successorSteps};
 use order::Ordering;
+use rotations::Turned;
 use rotations::balance;
 use rotations::rebalance;
 use rows::Change;
@@ -27,18 +26,6 @@ use thread::compare_tree_keys;
 
 // A 24-bit registry slot namespace cannot contain the 24,157,816 nodes that height 35 needs; forty entries include the removal's successor path.
 const MAX_PATH: usize = 40;
-
-// The stored height of a subtree.
-pub enum HeightRead {
-    Got(u8),
-    Damaged,
-}
-
-// The thread that a rotation or a balancing left on top.
-pub enum Turned {
-    Root(u64),
-    Damaged,
-}
 
 // The tree's root afterwards.
 pub enum Rooted {

@@ -19,12 +19,13 @@ use Rattle.policy.specs.declared.SchedulingPolicy.{SchedulingPolicy}
 use Rattle.policy.specs.declared.SchedulingRole.{SchedulingRole}
 use Rattle.policy.specs.declared.SchedulingClass.{SchedulingClass}
 use Rattle.policy.specs.declared.FairBackend.{FairBackend}
+use Rattle.policy.specs.declared.BudgetOption.{BudgetOption}
 use Rattle.policy.specs.declared.ThreadPriority.{ThreadPriority}
 use Rattle.policy.specs.declared.ThreadWeight.{ThreadWeight}
 use Rattle.policy.specs.declared.WeightOption.{WeightOption}
 use Rattle.policy.specs.declared.WeightOption.the-variants as weight
 use Rattle.policy.specs.Budget.{budgetMade}
-use Rattle.policy.specs.Parameters.{newWeight, newFair, classOf, priorityOf}
+use Rattle.policy.specs.Parameters.{newWeight, classOf, priorityOf}
 use Rattle.algorithms.specs.declared.RuntimeKey.{RuntimeKey}
 use Rattle.budget.specs.declared.BudgetRuntime.{BudgetRuntime}
 use Rattle.budget.specs.declared.BudgetAnswer.{BudgetAnswer}
@@ -42,11 +43,9 @@ use Rattle.algorithms.specs.declared.RuntimeAnswer.the-variants as runtime
 use Rattle.algorithms.specs.declared.RuntimeDeadline.{RuntimeDeadline}
 use Rattle.algorithms.specs.declared.RuntimeDeadline.the-variants as due
 use Rattle.algorithms.specs.Answers.{runtimeAnswer, runtimeDeadline}
-use Rattle.thread.specs.declared.ThreadRecord.{ThreadRecord}
-use Rattle.thread.specs.Records.{withParameters, withRuntime}
-use Rattle.codec.specs.Codec.{word, epochFrom, roleFrom, backendFrom, decoded, parametersOf}
+use Rattle.policy_words.specs.PolicyWords.{word, epochFrom, policyFrom, roleFrom, backendFrom, budgetFrom, parametersOf}
 use Rattle.record_entries.specs.RecordWords.{budgetOf, budgetRuntimeOf, runtimeOptionOf, runtimeKeyOf, priorityOptionOf, classNumber, weightNumber}
-use Rattle.record_entries.specs.Entries.{Told, told, toldOf, recordTold, recordDeadline, parametersTold}
+use Rattle.record_entries.specs.Entries.{told, toldOf, parametersTold}
 
 module _ (before : BudgetParameters) {x : BudgetMade} {z : Answer BudgetParameters} where
   pub budget-made : {b : BudgetParameters} (ns period burst : ℕ) → budgetMade x ≡ z → x ≡ made.Made b → ns ≡ b .«budget_ns» → period ≡ b .«period_ns» → burst ≡ b .«burst_ns»
@@ -67,10 +66,10 @@ module _ {p : PriorityOption} where
   unfolding priorityOptionOf ifEqual choose
   no-priority-words h = sym h
 
-pub policy-told : (w : List ℕ) (p : SchedulingParameters) (q : SchedulingPolicy) (k : SchedulingClass) {n : ℕ} {o a : PriorityOption}
-    → p ≡ parametersOf w → q ≡ p .policy → o ≡ priorityOf q → a ≡ o → k ≡ classOf q → n ≡ classNumber k
-    → told n a ≡ told (classNumber (classOf (parametersOf w .policy))) (priorityOf (parametersOf w .policy))
-policy-told w p q k e₁ e₂ e₃ e₄ e₅ e₆ = rw (sym e₁, sym e₂, e₄, e₃, e₆, e₅) refl
+pub policy-told : (tag priority : ℕ) (q : SchedulingPolicy) (k : SchedulingClass) {n : ℕ} {o a : PriorityOption}
+    → q ≡ policyFrom tag priority → o ≡ priorityOf q → a ≡ o → k ≡ classOf q → n ≡ classNumber k
+    → told n a ≡ told (classNumber (classOf (policyFrom tag priority))) (priorityOf (policyFrom tag priority))
+policy-told tag priority q k e₁ e₃ e₄ e₅ e₆ = rw (sym e₁, e₄, e₃, e₆, e₅) refl
 
 module _ {x : WeightOption} (n : ℕ) {r : ℕ} where
   pub weight-made : {w : ThreadWeight} → x ≡ newWeight n → x ≡ weight.Some w → r ≡ w .0 → r ≡ weightNumber (newWeight n)
@@ -79,16 +78,27 @@ module _ {x : WeightOption} (n : ℕ) {r : ℕ} where
   pub no-weight : x ≡ newWeight n → x ≡ weight.None → r ≡ 0 → r ≡ weightNumber (newWeight n)
   no-weight e m h = rw (sym e, m) h
 
-module _ (t : ThreadRecord) {x : ParametersOption} (weight : ThreadWeight) (quantum : ℕ) (band : ThreadPriority) (role backend : ℕ) {a : SchedulingRole} {b : FairBackend} where
-  pub fair-made : {q : SchedulingParameters} {after : ThreadRecord} → a ≡ roleFrom role → b ≡ backendFrom backend → x ≡ newFair weight quantum band a b → x ≡ parameters.Some q
-      → after ≡ withParameters q t → told 1 after ≡ parametersTold t (newFair weight quantum band (roleFrom role) (backendFrom backend))
+module _ (before : SchedulingParameters) {x : ParametersOption} where
+  pub parameters-made : {q after : SchedulingParameters} → x ≡ parameters.Some q → after ≡ q → told 1 after ≡ parametersTold before x
   unfolding parametersTold
-  fair-made e f h m s = rw (sym e, sym f, sym h, m, s) refl
+  parameters-made e h = rw (e, h) refl
 
-  pub fair-not-made : a ≡ roleFrom role → b ≡ backendFrom backend → x ≡ newFair weight quantum band a b → x ≡ parameters.None
-      → told 0 t ≡ parametersTold t (newFair weight quantum band (roleFrom role) (backendFrom backend))
+  pub no-parameters : x ≡ parameters.None → told 0 before ≡ parametersTold before x
   unfolding parametersTold
-  fair-not-made e f h m = rw (sym e, sym f, sym h, m) refl
+  no-parameters e = rw e refl
+
+-- The readers give the parts, and each part's words stand for it.
+pub readers-words : (p : SchedulingParameters) (a b : List ℕ) (band role weight quantum backend : ℕ) {q : SchedulingPolicy} {x : ThreadPriority} {r : SchedulingRole} {w : ThreadWeight} {f : FairBackend} {o : BudgetOption}
+    → policyFrom (word a 0) (word a 1) ≡ q → q ≡ p .policy
+    → band % 256 ≡ x .0 → x ≡ p .band
+    → roleFrom role ≡ r → r ≡ p .role
+    → weight % 65536 ≡ w .0 → w ≡ p .weight
+    → quantum ≡ p .«quantum_ns»
+    → backendFrom backend ≡ f → f ≡ p .«fair_backend»
+    → budgetFrom (word b 0) (word b 1) (word b 2) (word b 3) ≡ o → o ≡ p .budget
+    → parametersOf (word a 0 ∷ word a 1 ∷ band ∷ role ∷ weight ∷ quantum ∷ backend ∷ word b 0 ∷ word b 1 ∷ word b 2 ∷ word b 3 ∷ []) ≡ p
+unfolding parametersOf
+readers-words p a b band role weight quantum backend e₁ f₁ e₂ f₂ e₃ f₃ e₄ f₄ e₅ e₆ f₆ e₇ f₇ = rw (e₁, f₁, e₂, f₂, e₃, f₃, e₄, f₄, e₅, e₆, f₆, e₇, f₇)
 
 pub budget-runtime-words : (b : BudgetRuntime) (a : List ℕ) (n m : ℕ) → epochFrom (word a 0) (word a 1) ≡ b .epoch → n ≡ b .«remaining_ns» → m ≡ b .«burst_remaining_ns»
     → budgetRuntimeOf (word a 0 ∷ word a 1 ∷ n ∷ m ∷ []) ≡ b
@@ -140,23 +150,22 @@ module _ (before : Option BudgetRuntime) {x : Reconfigured} where
   unfolding toldOf
   not-reconfigured n e h = rw (e, h) refl
 
-module _ (t : ThreadRecord) {x : RuntimeAnswer} where
-  pub runtime-stored : {a : PolicyRuntime} {after : ThreadRecord} → x ≡ runtime.Runtime a → after ≡ withRuntime a t → told 0 after ≡ recordTold t (runtimeAnswer x)
-  unfolding recordTold
+module _ (before : PolicyRuntime) {x : RuntimeAnswer} where
+  pub runtime-stored : {a after : PolicyRuntime} → x ≡ runtime.Runtime a → after ≡ a → told 0 after ≡ toldOf before (runtimeAnswer x)
+  unfolding toldOf
   runtime-stored e h = rw (e, h) refl
 
-  pub runtime-refused : {r : Refusal} (n : ℕ) → x ≡ runtime.Refused r → n ≡ numberOf r → told n t ≡ recordTold t (runtimeAnswer x)
-  unfolding recordTold
+  pub runtime-refused : {r : Refusal} (n : ℕ) → x ≡ runtime.Refused r → n ≡ numberOf r → told n before ≡ toldOf before (runtimeAnswer x)
+  unfolding toldOf
   runtime-refused n e h = rw (e, h) refl
 
-module _ (t : ThreadRecord) (before : Deadline) {x : RuntimeDeadline} where
-  pub due-stored : {a : PolicyRuntime} {after : ThreadRecord} {d end : Deadline} → x ≡ due.Deadline a d → after ≡ withRuntime a t → end ≡ d
-      → told 0 (after, end) ≡ recordDeadline t before (runtimeDeadline x)
-  unfolding recordDeadline
+module _ (before : PolicyRuntime × Deadline) {x : RuntimeDeadline} where
+  pub due-stored : {a after : PolicyRuntime} {d end : Deadline} → x ≡ due.Deadline a d → after ≡ a → end ≡ d → told 0 (after, end) ≡ toldOf before (runtimeDeadline x)
+  unfolding toldOf
   due-stored e f g = rw (e, f, g) refl
 
-  pub due-refused : {r : Refusal} (n : ℕ) → x ≡ due.Refused r → n ≡ numberOf r → told n (t, before) ≡ recordDeadline t before (runtimeDeadline x)
-  unfolding recordDeadline
+  pub due-refused : {r : Refusal} (n : ℕ) → x ≡ due.Refused r → n ≡ numberOf r → told n before ≡ toldOf before (runtimeDeadline x)
+  unfolding toldOf
   due-refused n e h = rw (e, h) refl
 
 pub ruleset entries = (
@@ -168,8 +177,9 @@ pub ruleset entries = (
   weight-made,
   no-weight,
   runtime-key-words,
-  fair-made,
-  fair-not-made,
+  readers-words,
+  parameters-made,
+  no-parameters,
   budget-runtime-words,
   budget-stored,
   budget-refused,

@@ -1,18 +1,20 @@
--- What the words of a budget, of its runtime and of the answers about a record stand for.
+-- What the words of a budget, of its runtime and of the answers about parameters and runtimes stand for.
 use Prim.Native.Nat.{ℕ, _%_}
-use mathlib.Core.List.{List}
+use mathlib.Core.List.{List, [], _∷_}
 use mathlib.Core.Option.{Option, none, some}
 use Rattle.refusal.specs.Cases.{ifEqual}
 use Rattle.policy.specs.declared.BudgetParameters.{BudgetParameters}
 use Rattle.policy.specs.declared.PriorityOption.{PriorityOption}
 use Rattle.policy.specs.declared.PriorityOption.the-variants as priority
+use Rattle.policy.specs.declared.SchedulingPolicy.{SchedulingPolicy}
 use Rattle.policy.specs.declared.SchedulingClass.{SchedulingClass}
 use Rattle.policy.specs.declared.SchedulingClass.the-variants as class
 use Rattle.policy.specs.declared.WeightOption.{WeightOption}
 use Rattle.policy.specs.declared.WeightOption.the-variants as weight
 use Rattle.budget.specs.declared.BudgetRuntime.{BudgetRuntime}
+use Rattle.algorithms.specs.declared.PolicyRuntime.{PolicyRuntime}
 use Rattle.algorithms.specs.declared.RuntimeKey.{RuntimeKey}
-use Rattle.codec.specs.Codec.{word, epochFrom}
+use Rattle.policy_words.specs.PolicyWords.{word, epochFrom, policyFrom, runtimeFrom}
 
 -- Budget, period and burst.
 unfoldable pub budgetOf : List ℕ → BudgetParameters
@@ -25,6 +27,14 @@ budgetRuntimeOf w = record { epoch = epochFrom (word w 0) (word w 1); «remainin
 -- A budget's runtime, or none where word 4 is 0.
 unfoldable pub runtimeOptionOf : List ℕ → Option BudgetRuntime
 runtimeOptionOf w = ifEqual (word w 4) 0 none (some (budgetRuntimeOf w))
+
+-- A policy's tag and its priority.
+abbrev pub policyOf : List ℕ → SchedulingPolicy
+policyOf w = policyFrom (word w 0) (word w 1)
+
+-- A policy's runtime by itself: the words that stand at 11 to 15 of a row.
+abbrev pub policyRuntimeOf : List ℕ → PolicyRuntime
+policyRuntimeOf w = runtimeFrom (word w 0) (word w 1) (word w 2) (word w 3) (word w 4)
 
 -- The pass by its halves, and the turn.
 unfoldable pub runtimeKeyOf : List ℕ → RuntimeKey
@@ -44,3 +54,7 @@ classNumber class.Idle = 3
 abbrev pub weightNumber : WeightOption → ℕ
 weightNumber (weight.Some w) = w .0
 weightNumber weight.None = 0
+
+-- `ThreadPriority::HIGHEST`, `NORMAL` and `LOWEST`, `ThreadWeight::DEFAULT` and `MAX`, `BudgetParameters::MAX_PERIOD_NS`.
+abbrev pub constants : List ℕ
+constants = 0 ∷ 128 ∷ 255 ∷ 16 ∷ 1024 ∷ 1000000000 ∷ []

@@ -1,46 +1,53 @@
 // C calls on lent words, through which the Rust host compares policies, budgets and runtimes with the kernel's source. Each is the call of its name on what the words
 // stand for. It answers document 01's number, 0 where the call was accepted; a refusal leaves what the lent words stand for as it was.
 ghost use mathlib.Core.Path.{_≡_};
-ghost use Rattle.codec.specs.Codec.{decoded, parametersOf, runtimeOf, roleFrom, backendFrom};
+ghost use Rattle.policy_words.specs.PolicyWords.{word, parametersOf, runtimeOf, policyFrom, roleFrom, backendFrom, deadlineOf};
 ghost use Rattle.policy.specs.Budget.{newBudget, budgetMade};
 ghost use Rattle.policy.specs.Parameters.{newWeight, newFair, ofBudget, ofFifo, ofIdle, classOf, priorityOf};
-ghost use Rattle.thread.specs.Records.{withParameters};
 ghost use Rattle.budget.specs.Answers.{budgetAnswer, deadlineAnswer, budgetDeadline, reconfiguredAnswer};
 ghost use Rattle.budget.specs.Runtime as budgets;
 ghost use Rattle.algorithms.specs.Answers.{runtimeAnswer, runtimeDeadline};
 ghost use Rattle.algorithms.specs.Runtime as runtimes;
-ghost use Rattle.window_words.specs.WindowWords.{deadlineOf};
-ghost use Rattle.record_entries.specs.RecordWords.{budgetOf, budgetRuntimeOf, runtimeOptionOf, runtimeKeyOf, priorityOptionOf, classNumber, weightNumber};
-ghost use Rattle.record_entries.specs.Entries.{told, toldOf, recordTold, recordDeadline, parametersTold};
+ghost use Rattle.record_entries.specs.RecordWords.{budgetOf, budgetRuntimeOf, runtimeOptionOf, policyOf, policyRuntimeOf, runtimeKeyOf, priorityOptionOf, classNumber, weightNumber, constants};
+ghost use Rattle.record_entries.specs.Entries.{told, toldOf, parametersTold};
 use algorithms::FairRuntime;
 use algorithms::PolicyRuntime;
 use algorithms::RuntimeAnswer;
 use algorithms::RuntimeDeadline;
 use algorithms::RuntimeKey;
 use algorithms::Wide;
+use algorithms::same_kind;
 use budget::BudgetAnswer;
 use budget::BudgetDeadline;
 use budget::BudgetRuntime;
 use budget::DeadlineAnswer;
 use budget::Reconfigured;
-use codec::backend_from;
-use codec::epoch_from;
-use codec::parameters_of;
-use codec::role_from;
-use codec::runtime_of;
-use codec::with_parameters;
-use codec::with_runtime;
-use codec::words_of_epoch;
 use policy::BudgetMade;
 use policy::BudgetParameters;
 use policy::ParametersOption;
 use policy::PriorityOption;
 use policy::SchedulingClass;
 use policy::SchedulingParameters;
+use policy::SchedulingPolicy;
 use policy::ThreadPriority;
 use policy::ThreadWeight;
 use policy::WeightOption;
-use window_words::words_of_deadline;
+use policy_words::backend_from;
+use policy_words::epoch_from;
+use policy_words::parameters_of;
+use policy_words::policy_from;
+use policy_words::role_from;
+use policy_words::runtime_of;
+use policy_words::word_of_backend;
+use policy_words::word_of_byte;
+use policy_words::word_of_half;
+use policy_words::word_of_role;
+use policy_words::words_of_budget;
+use policy_words::words_of_deadline;
+use policy_words::words_of_epoch;
+use policy_words::words_of_parameters;
+use policy_words::words_of_policy;
+use policy_words::words_of_runtime;
 
 // BudgetParameters::new
 #[no_mangle]
@@ -74,13 +81,57 @@ pub extern "C" fn thread_weight_new(value: u16) -> u16
     }
 }
 
-// SchedulingPolicy::class and SchedulingPolicy::priority. The classes are 0 to 3.
+// ThreadPriority::new and its reader.
 #[no_mangle]
-pub extern "C" fn policy_class_and_priority(row: &[u64; 32], answer: &mut [u64; 2]) -> u64
-    ensures { λ r. ⌜ told r (priorityOptionOf (now (answer .exit))) ≡ told (classNumber (classOf (parametersOf (now (row .entry)) .policy))) (priorityOf (parametersOf (now (row .entry)) .policy)) ⌝ }
+pub extern "C" fn thread_priority_new(value: u8) -> u8
+    ensures { λ r. ⌜ r ≡ value ⌝ }
 {
-    let parameters = parameters_of(*row);
-    let policy = parameters.policy();
+    let made = ThreadPriority::new(value);
+    made.get()
+}
+
+// The constants: the highest, the normal and the lowest priority, the default and the greatest weight, the longest period.
+#[no_mangle]
+pub extern "C" fn policy_constants(answer: &mut [u64; 6])
+    ensures { λ r. ⌜ now (answer .exit) ≡ constants ⌝ }
+{
+    let highest = ThreadPriority::HIGHEST;
+    let normal = ThreadPriority::NORMAL;
+    let lowest = ThreadPriority::LOWEST;
+    let weight = ThreadWeight::DEFAULT;
+    *answer = [
+        highest.0 as u64,
+        normal.0 as u64,
+        lowest.0 as u64,
+        weight.0 as u64,
+        ThreadWeight::MAX as u64,
+        BudgetParameters::MAX_PERIOD_NS,
+    ];
+}
+
+// SchedulingPolicy::fifo
+#[no_mangle]
+pub extern "C" fn policy_fifo(priority: u8, answer: &mut [u64; 2])
+    ensures { λ r. ⌜ policyOf (now (answer .exit)) ≡ SchedulingPolicy.Fifo (record { 0 = priority }) ⌝ }
+{
+    let made = SchedulingPolicy::fifo(ThreadPriority(priority));
+    *answer = words_of_policy(made);
+}
+
+// SchedulingPolicy::fair
+#[no_mangle]
+pub extern "C" fn policy_fair(answer: &mut [u64; 2])
+    ensures { λ r. ⌜ policyOf (now (answer .exit)) ≡ SchedulingPolicy.Fair ⌝ }
+{
+    *answer = words_of_policy(SchedulingPolicy::fair());
+}
+
+// SchedulingPolicy::class and SchedulingPolicy::priority, on a policy's two words. The classes are 0 to 3.
+#[no_mangle]
+pub extern "C" fn policy_class_and_priority(tag: u64, priority: u64, answer: &mut [u64; 2]) -> u64
+    ensures { λ r. ⌜ told r (priorityOptionOf (now (answer .exit))) ≡ told (classNumber (classOf (policyFrom tag priority))) (priorityOf (policyFrom tag priority)) ⌝ }
+{
+    let policy = policy_from(tag, priority);
     *answer = words_of_priority(policy.priority());
     number_of_class(policy.class())
 }
@@ -89,7 +140,7 @@ fn words_of_priority(priority: PriorityOption) -> [u64; 2]
     ensures { λ w. ⌜ priorityOptionOf w ≡ priority ⌝ }
 {
     match priority {
-        PriorityOption::Some(number) => [1, codec::word_of_byte(number.get())],
+        PriorityOption::Some(number) => [1, word_of_byte(number.get())],
         PriorityOption::None => [0, 0],
     }
 }
@@ -108,14 +159,14 @@ fn number_of_class(class: SchedulingClass) -> u64
 // SchedulingParameters::fair; the weight is taken as it is. 1 where parameters were made.
 #[no_mangle]
 pub extern "C" fn parameters_fair(
-    row: &mut [u64; 32],
+    answer: &mut [u64; 11],
     weight: u16,
     quantum_ns: u64,
     band: u8,
     role: u64,
     backend: u64,
 ) -> u64
-    ensures { λ r. ⌜ told r (decoded (now (row .exit))) ≡ parametersTold (decoded (now (row .entry))) (newFair (record { 0 = weight }) «quantum_ns» (record { 0 = band }) (roleFrom role) (backendFrom backend)) ⌝ }
+    ensures { λ r. ⌜ told r (parametersOf (now (answer .exit))) ≡ parametersTold (parametersOf (now (answer .entry))) (newFair (record { 0 = weight }) «quantum_ns» (record { 0 = band }) (roleFrom role) (backendFrom backend)) ⌝ }
 {
     let made = SchedulingParameters::fair(
         ThreadWeight(weight),
@@ -124,9 +175,15 @@ pub extern "C" fn parameters_fair(
         role_from(role),
         backend_from(backend),
     );
+    store_parameters(answer, made)
+}
+
+fn store_parameters(answer: &mut [u64; 11], made: ParametersOption) -> u64
+    ensures { λ r. ⌜ told r (parametersOf (now (answer .exit))) ≡ parametersTold (parametersOf (now (answer .entry))) made ⌝ }
+{
     match made {
         ParametersOption::Some(parameters) => {
-            *row = with_parameters(*row, parameters);
+            *answer = words_of_parameters(parameters);
             1
         }
         ParametersOption::None => 0,
@@ -135,33 +192,67 @@ pub extern "C" fn parameters_fair(
 
 // SchedulingParameters::budget; the budget is taken as it is.
 #[no_mangle]
-pub extern "C" fn parameters_budget(row: &mut [u64; 32], budget: &[u64; 3], band: u8, role: u64)
-    ensures { λ r. ⌜ decoded (now (row .exit)) ≡ withParameters (ofBudget (budgetOf (now (budget .entry))) (record { 0 = band }) (roleFrom role)) (decoded (now (row .entry))) ⌝ }
+pub extern "C" fn parameters_budget(answer: &mut [u64; 11], budget: &[u64; 3], band: u8, role: u64)
+    ensures { λ r. ⌜ parametersOf (now (answer .exit)) ≡ ofBudget (budgetOf (now (budget .entry))) (record { 0 = band }) (roleFrom role) ⌝ }
 {
-    let parameters = budget_of(*budget);
-    let made = SchedulingParameters::budget(parameters, ThreadPriority(band), role_from(role));
-    *row = with_parameters(*row, made);
+    *answer = words_of_parameters(SchedulingParameters::budget(
+        budget_of(*budget),
+        ThreadPriority(band),
+        role_from(role),
+    ));
 }
 
 // SchedulingParameters::fifo
 #[no_mangle]
-pub extern "C" fn parameters_fifo(row: &mut [u64; 32], priority: u8, band: u8, role: u64)
-    ensures { λ r. ⌜ decoded (now (row .exit)) ≡ withParameters (ofFifo (record { 0 = priority }) (record { 0 = band }) (roleFrom role)) (decoded (now (row .entry))) ⌝ }
+pub extern "C" fn parameters_fifo(answer: &mut [u64; 11], priority: u8, band: u8, role: u64)
+    ensures { λ r. ⌜ parametersOf (now (answer .exit)) ≡ ofFifo (record { 0 = priority }) (record { 0 = band }) (roleFrom role) ⌝ }
 {
-    let made = SchedulingParameters::fifo(
+    *answer = words_of_parameters(SchedulingParameters::fifo(
         ThreadPriority(priority),
         ThreadPriority(band),
         role_from(role),
-    );
-    *row = with_parameters(*row, made);
+    ));
 }
 
 // SchedulingParameters::idle
 #[no_mangle]
-pub extern "C" fn parameters_idle(row: &mut [u64; 32])
-    ensures { λ r. ⌜ decoded (now (row .exit)) ≡ withParameters ofIdle (decoded (now (row .entry))) ⌝ }
+pub extern "C" fn parameters_idle(answer: &mut [u64; 11])
+    ensures { λ r. ⌜ parametersOf (now (answer .exit)) ≡ ofIdle ⌝ }
 {
-    *row = with_parameters(*row, SchedulingParameters::idle());
+    *answer = words_of_parameters(SchedulingParameters::idle());
+}
+
+// The seven readers of SchedulingParameters, each part as its own reader gives it.
+#[no_mangle]
+pub extern "C" fn parameters_read(row: &[u64; 32], answer: &mut [u64; 11])
+    ensures { λ r. ⌜ parametersOf (now (answer .exit)) ≡ parametersOf (now (row .entry)) ⌝ }
+{
+    let parameters = parameters_of(*row);
+    *answer = words_of_readers(parameters);
+}
+
+fn words_of_readers(parameters: SchedulingParameters) -> [u64; 11]
+    ensures { λ w. ⌜ parametersOf w ≡ parameters ⌝ }
+{
+    let policy = words_of_policy(parameters.policy());
+    let band = parameters.band();
+    let role = word_of_role(parameters.role());
+    let weight = parameters.weight();
+    let backend = word_of_backend(parameters.fair_backend());
+    let budget = words_of_budget(parameters.budget_parameters());
+    [
+        policy[0],
+        policy[1],
+        word_of_byte(band.0),
+        role,
+        word_of_half(weight.0),
+        parameters.quantum_ns(),
+        backend,
+        budget[0],
+        budget[1],
+        budget[2],
+        budget[3],
+    ]
 }
 
 fn budget_of(w: [u64; 3]) -> BudgetParameters
@@ -227,8 +318,8 @@ fn store_deadline(answer: &mut [u64; 2], given: DeadlineAnswer) -> u64
 pub extern "C" fn budget_new(runtime: &mut [u64; 4], budget: &[u64; 3]) -> u64
     ensures { λ r. ⌜ told r (budgetRuntimeOf (now (runtime .exit))) ≡ toldOf (budgetRuntimeOf (now (runtime .entry))) (budgets.made (budgetOf (now (budget .entry)))) ⌝ }
 {
-    let parameters = budget_of(*budget);
-    store_budget_runtime(runtime, BudgetRuntime::new(parameters))
+    let given = BudgetRuntime::new(budget_of(*budget));
+    store_budget_runtime(runtime, given)
 }
 
 // BudgetRuntime::refresh
@@ -236,9 +327,8 @@ pub extern "C" fn budget_new(runtime: &mut [u64; 4], budget: &[u64; 3]) -> u64
 pub extern "C" fn budget_refresh(runtime: &mut [u64; 4], now_ns: u64, budget: &[u64; 3]) -> u64
     ensures { λ r. ⌜ told r (budgetRuntimeOf (now (runtime .exit))) ≡ toldOf (budgetRuntimeOf (now (runtime .entry))) (budgets.refreshedJudged (budgetRuntimeOf (now (runtime .entry))) «now_ns» (budgetOf (now (budget .entry)))) ⌝ }
 {
-    let parameters = budget_of(*budget);
-    let before = budget_runtime_of(*runtime);
-    store_budget_runtime(runtime, before.refresh(now_ns, parameters))
+    let given = budget_runtime_of(*runtime).refresh(now_ns, budget_of(*budget));
+    store_budget_runtime(runtime, given)
 }
 
 // BudgetRuntime::account_interval
@@ -251,9 +341,8 @@ pub extern "C" fn budget_account_interval(
 ) -> u64
     ensures { λ r. ⌜ told r (budgetRuntimeOf (now (runtime .exit))) ≡ toldOf (budgetRuntimeOf (now (runtime .entry))) (budgets.accountedInterval (budgetRuntimeOf (now (runtime .entry))) start end (budgetOf (now (budget .entry)))) ⌝ }
 {
-    let parameters = budget_of(*budget);
-    let before = budget_runtime_of(*runtime);
-    store_budget_runtime(runtime, before.account_interval(start, end, parameters))
+    let given = budget_runtime_of(*runtime).account_interval(start, end, budget_of(*budget));
+    store_budget_runtime(runtime, given)
 }
 
 // BudgetRuntime::finish_turn
@@ -261,9 +350,8 @@ pub extern "C" fn budget_account_interval(
 pub extern "C" fn budget_finish_turn(runtime: &mut [u64; 4], budget: &[u64; 3]) -> u64
     ensures { λ r. ⌜ told r (budgetRuntimeOf (now (runtime .exit))) ≡ toldOf (budgetRuntimeOf (now (runtime .entry))) (budgets.turnFinished (budgetRuntimeOf (now (runtime .entry))) (budgetOf (now (budget .entry)))) ⌝ }
 {
-    let parameters = budget_of(*budget);
-    let before = budget_runtime_of(*runtime);
-    store_budget_runtime(runtime, before.finish_turn(parameters))
+    let given = budget_runtime_of(*runtime).finish_turn(budget_of(*budget));
+    store_budget_runtime(runtime, given)
 }
 
 // BudgetRuntime::period_deadline
@@ -275,8 +363,8 @@ pub extern "C" fn budget_period_deadline(
 ) -> u64
     ensures { λ r. ⌜ told r (deadlineOf (now (answer .exit))) ≡ toldOf (deadlineOf (now (answer .entry))) (budgets.periodDeadline «now_ns» (budgetOf (now (budget .entry)))) ⌝ }
 {
-    let parameters = budget_of(*budget);
-    store_deadline(answer, BudgetRuntime::period_deadline(now_ns, parameters))
+    let given = BudgetRuntime::period_deadline(now_ns, budget_of(*budget));
+    store_deadline(answer, given)
 }
 
 fn store_budget_deadline(
@@ -307,9 +395,8 @@ pub extern "C" fn budget_deadline(
 ) -> u64
     ensures { λ r. ⌜ told r (budgetRuntimeOf (now (runtime .exit)), deadlineOf (now (answer .exit))) ≡ toldOf (budgetRuntimeOf (now (runtime .entry)), deadlineOf (now (answer .entry))) (budgets.deadlineJudged (budgetRuntimeOf (now (runtime .entry))) «now_ns» (budgetOf (now (budget .entry))) borrow) ⌝ }
 {
-    let parameters = budget_of(*budget);
-    let before = budget_runtime_of(*runtime);
-    store_budget_deadline(runtime, answer, before.deadline(now_ns, parameters, borrow))
+    let given = budget_runtime_of(*runtime).deadline(now_ns, budget_of(*budget), borrow);
+    store_budget_deadline(runtime, answer, given)
 }
 
 // BudgetRuntime::reconfigure; the answer's last word is 0 where the periods differ.
@@ -322,10 +409,8 @@ pub extern "C" fn budget_reconfigure(
 ) -> u64
     ensures { λ r. ⌜ told r (runtimeOptionOf (now (answer .exit))) ≡ toldOf (runtimeOptionOf (now (answer .entry))) (budgets.reconfiguredJudged (budgetRuntimeOf (now (runtime .entry))) (budgetOf (now (old .entry))) (budgetOf (now (new .entry)))) ⌝ }
 {
-    let before = budget_runtime_of(*runtime);
-    let old_budget = budget_of(*old);
-    let new_budget = budget_of(*new);
-    store_reconfigured(answer, before.reconfigure(old_budget, new_budget))
+    let given = budget_runtime_of(*runtime).reconfigure(budget_of(*old), budget_of(*new));
+    store_reconfigured(answer, given)
 }
 
 fn store_reconfigured(answer: &mut [u64; 5], given: Reconfigured) -> u64
@@ -345,14 +430,12 @@ fn store_reconfigured(answer: &mut [u64; 5], given: Reconfigured) -> u64
     }
 }
 
-// The answer's runtime stored in the record's row.
-fn store_runtime(row: &mut [u64; 32], answer: RuntimeAnswer) -> u64
-    ensures { λ r. ⌜ told r (decoded (now (row .exit))) ≡ recordTold (decoded (now (row .entry))) (runtimeAnswer answer) ⌝ }
+fn store_runtime(answer: &mut [u64; 5], given: RuntimeAnswer) -> u64
+    ensures { λ r. ⌜ told r (policyRuntimeOf (now (answer .exit))) ≡ toldOf (policyRuntimeOf (now (answer .entry))) (runtimeAnswer given) ⌝ }
 {
-    let words = *row;
-    match answer {
+    match given {
         RuntimeAnswer::Runtime(runtime) => {
-            *row = with_runtime(words, runtime);
+            *answer = words_of_runtime(runtime);
             0
         }
         RuntimeAnswer::Refused(refusal) => refusal.number(),
@@ -362,14 +445,14 @@ fn store_runtime(row: &mut [u64; 32], answer: RuntimeAnswer) -> u64
 // PolicyRuntime::new, with what a fair thread starts with.
 #[no_mangle]
 pub extern "C" fn runtime_new(
-    row: &mut [u64; 32],
+    row: &[u64; 32],
     pass_high: u64,
     pass_low: u64,
     remaining_ns: u64,
+    answer: &mut [u64; 5],
 ) -> u64
-    ensures { λ r. ⌜ told r (decoded (now (row .exit))) ≡ recordTold (decoded (now (row .entry))) (runtimes.made (parametersOf (now (row .entry))) (record { pass = record { high = «pass_high»; low = «pass_low» }; «remaining_ns» = «remaining_ns» })) ⌝ }
+    ensures { λ r. ⌜ told r (policyRuntimeOf (now (answer .exit))) ≡ toldOf (policyRuntimeOf (now (answer .entry))) (runtimes.made (parametersOf (now (row .entry))) (record { pass = record { high = «pass_high»; low = «pass_low» }; «remaining_ns» = «remaining_ns» })) ⌝ }
 {
-    let parameters = parameters_of(*row);
     let fair = FairRuntime {
         pass: Wide {
             high: pass_high,
@@ -377,37 +460,40 @@ pub extern "C" fn runtime_new(
         },
         remaining_ns,
     };
-    store_runtime(row, PolicyRuntime::new(parameters, fair))
+    let given = PolicyRuntime::new(parameters_of(*row), fair);
+    store_runtime(answer, given)
 }
 
 // PolicyRuntime::account
 #[no_mangle]
-pub extern "C" fn runtime_account(row: &mut [u64; 32], start: u64, end: u64) -> u64
-    ensures { λ r. ⌜ told r (decoded (now (row .exit))) ≡ recordTold (decoded (now (row .entry))) (runtimes.accounted (runtimeOf (now (row .entry))) (parametersOf (now (row .entry))) start end) ⌝ }
+pub extern "C" fn runtime_account(
+    row: &[u64; 32],
+    start: u64,
+    end: u64,
+    answer: &mut [u64; 5],
+) -> u64
+    ensures { λ r. ⌜ told r (policyRuntimeOf (now (answer .exit))) ≡ toldOf (policyRuntimeOf (now (answer .entry))) (runtimes.accounted (runtimeOf (now (row .entry))) (parametersOf (now (row .entry))) start end) ⌝ }
 {
-    let before = runtime_of(*row);
-    let parameters = parameters_of(*row);
-    store_runtime(row, before.account(parameters, start, end))
+    let given = runtime_of(*row).account(parameters_of(*row), start, end);
+    store_runtime(answer, given)
 }
 
 // PolicyRuntime::epoch_refresh
 #[no_mangle]
-pub extern "C" fn runtime_epoch_refresh(row: &mut [u64; 32], now_ns: u64) -> u64
-    ensures { λ r. ⌜ told r (decoded (now (row .exit))) ≡ recordTold (decoded (now (row .entry))) (runtimes.epochRefreshed (runtimeOf (now (row .entry))) «now_ns» (parametersOf (now (row .entry)))) ⌝ }
+pub extern "C" fn runtime_epoch_refresh(row: &[u64; 32], now_ns: u64, answer: &mut [u64; 5]) -> u64
+    ensures { λ r. ⌜ told r (policyRuntimeOf (now (answer .exit))) ≡ toldOf (policyRuntimeOf (now (answer .entry))) (runtimes.epochRefreshed (runtimeOf (now (row .entry))) «now_ns» (parametersOf (now (row .entry)))) ⌝ }
 {
-    let before = runtime_of(*row);
-    let parameters = parameters_of(*row);
-    store_runtime(row, before.epoch_refresh(now_ns, parameters))
+    let given = runtime_of(*row).epoch_refresh(now_ns, parameters_of(*row));
+    store_runtime(answer, given)
 }
 
 // PolicyRuntime::finish_turn
 #[no_mangle]
-pub extern "C" fn runtime_finish_turn(row: &mut [u64; 32]) -> u64
-    ensures { λ r. ⌜ told r (decoded (now (row .exit))) ≡ recordTold (decoded (now (row .entry))) (runtimes.turnFinished (runtimeOf (now (row .entry))) (parametersOf (now (row .entry)))) ⌝ }
+pub extern "C" fn runtime_finish_turn(row: &[u64; 32], answer: &mut [u64; 5]) -> u64
+    ensures { λ r. ⌜ told r (policyRuntimeOf (now (answer .exit))) ≡ toldOf (policyRuntimeOf (now (answer .entry))) (runtimes.turnFinished (runtimeOf (now (row .entry))) (parametersOf (now (row .entry)))) ⌝ }
 {
-    let before = runtime_of(*row);
-    let parameters = parameters_of(*row);
-    store_runtime(row, before.finish_turn(parameters))
+    let given = runtime_of(*row).finish_turn(parameters_of(*row));
+    store_runtime(answer, given)
 }
 
 fn words_of_runtime_key(key: RuntimeKey) -> [u64; 3]
@@ -422,19 +508,29 @@ fn words_of_runtime_key(key: RuntimeKey) -> [u64; 3]
 pub extern "C" fn runtime_candidate_key(row: &[u64; 32], turn: u64, answer: &mut [u64; 3])
     ensures { λ r. ⌜ runtimeKeyOf (now (answer .exit)) ≡ runtimes.candidateKey (runtimeOf (now (row .entry))) (parametersOf (now (row .entry))) turn ⌝ }
 {
-    let before = runtime_of(*row);
-    let parameters = parameters_of(*row);
-    *answer = words_of_runtime_key(before.candidate_key(parameters, turn));
+    *answer = words_of_runtime_key(runtime_of(*row).candidate_key(parameters_of(*row), turn));
 }
 
-// The answer's runtime stored in the record's row, and its deadline.
-fn store_runtime_deadline(row: &mut [u64; 32], answer: &mut [u64; 2], given: RuntimeDeadline) -> u64
-    ensures { λ r. ⌜ told r (decoded (now (row .exit)), deadlineOf (now (answer .exit))) ≡ recordDeadline (decoded (now (row .entry))) (deadlineOf (now (answer .entry))) (runtimeDeadline given) ⌝ }
+// Whether the row's runtime is of its policy's kind.
+#[no_mangle]
+pub extern "C" fn runtime_same_kind(row: &[u64; 32]) -> bool
+    ensures { λ r. ⌜ r ≡ runtimes.sameKind (runtimeOf (now (row .entry))) (policyOf (now (row .entry))) ⌝ }
 {
     let words = *row;
+    let runtime = runtime_of(words);
+    same_kind(runtime, policy_from(words[0], words[1]))
+}
+
+fn store_runtime_deadline(
+    after: &mut [u64; 5],
+    answer: &mut [u64; 2],
+    given: RuntimeDeadline,
+) -> u64
+    ensures { λ r. ⌜ told r (policyRuntimeOf (now (after .exit)), deadlineOf (now (answer .exit))) ≡ toldOf (policyRuntimeOf (now (after .entry)), deadlineOf (now (answer .entry))) (runtimeDeadline given) ⌝ }
+{
     match given {
         RuntimeDeadline::Deadline(runtime, deadline) => {
-            *row = with_runtime(words, runtime);
+            *after = words_of_runtime(runtime);
             *answer = words_of_deadline(deadline);
             0
         }
@@ -445,16 +541,15 @@ fn store_runtime_deadline(row: &mut [u64; 32], answer: &mut [u64; 2], given: Run
 // PolicyRuntime::next_deadline
 #[no_mangle]
 pub extern "C" fn runtime_next_deadline(
-    row: &mut [u64; 32],
+    row: &[u64; 32],
     now_ns: u64,
     competition: bool,
     borrow: bool,
+    after: &mut [u64; 5],
     answer: &mut [u64; 2],
 ) -> u64
-    ensures { λ r. ⌜ told r (decoded (now (row .exit)), deadlineOf (now (answer .exit))) ≡ recordDeadline (decoded (now (row .entry))) (deadlineOf (now (answer .entry))) (runtimes.nextDeadline (runtimeOf (now (row .entry))) «now_ns» (parametersOf (now (row .entry))) competition borrow) ⌝ }
+    ensures { λ r. ⌜ told r (policyRuntimeOf (now (after .exit)), deadlineOf (now (answer .exit))) ≡ toldOf (policyRuntimeOf (now (after .entry)), deadlineOf (now (answer .entry))) (runtimes.nextDeadline (runtimeOf (now (row .entry))) «now_ns» (parametersOf (now (row .entry))) competition borrow) ⌝ }
 {
-    let before = runtime_of(*row);
-    let parameters = parameters_of(*row);
-    let given = before.next_deadline(now_ns, parameters, competition, borrow);
-    store_runtime_deadline(row, answer, given)
+    let given = runtime_of(*row).next_deadline(now_ns, parameters_of(*row), competition, borrow);
+    store_runtime_deadline(after, answer, given)
 }

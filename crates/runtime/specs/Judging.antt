@@ -8,7 +8,7 @@ use Rattle.algorithms.specs.declared.PolicyRuntime.{PolicyRuntime}
 use Rattle.thread.specs.declared.ThreadRecord.{ThreadRecord}
 use Rattle.thread.specs.Judgement.{isBadRecord}
 use Rattle.arbitration.specs.declared.CpuWindow.{CpuWindow}
-use Rattle.arbitration.specs.Config.{soundConfig}
+use Rattle.window_config.specs.Config.{soundConfig}
 use Rattle.arbitration.specs.Calls.{With, with}
 use Rattle.rows.specs.Table.{Out, out, after, recordAt, setRuntime}
 use Rattle.rows.specs.TableCases.{onRecord}

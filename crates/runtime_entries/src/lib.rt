@@ -4,7 +4,8 @@ ghost use mathlib.Core.Path.{_≡_};
 ghost use Rattle.codec.specs.Codec.{parametersOf};
 ghost use Rattle.rows.specs.Table.{table};
 ghost use Rattle.arbitration.specs.Answers.{verdictOf};
-ghost use Rattle.window_words.specs.WindowWords.{modeFrom, windowOf, demandOf, keyOptionOf, deadlineOf};
+ghost use Rattle.policy_words.specs.PolicyWords.{deadlineOf};
+ghost use Rattle.window_words.specs.WindowWords.{modeFrom, windowOf, demandOf, keyOptionOf};
 ghost use Rattle.decisions.specs.Switch.{chooseReady, modeOf};
 ghost use Rattle.runtime.specs.Prepare.{prepareEnqueue};
 ghost use Rattle.runtime.specs.Account.{accountCurrent, finishTurn, currentCandidate, expired};
@@ -21,6 +22,7 @@ use decisions::ReadyKey;
 use decisions::Turns;
 use decisions::choose_ready;
 use decisions::mode_of;
+use policy_words::words_of_deadline;
 use runtime::CandidateAnswer;
 use runtime::ExpiredAnswer;
 use runtime::account_current;
@@ -35,7 +37,6 @@ use window_words::dispatch_key_of;
 use window_words::mode_from;
 use window_words::window_of;
 use window_words::with_window;
-use window_words::words_of_deadline;
 
 fn turns_of(w: [u64; 2]) -> Turns
     ensures { λ r. ⌜ r ≡ turnsOf w ⌝ }

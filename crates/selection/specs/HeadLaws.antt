@@ -1,46 +1,50 @@
 -- Laws by which the functions on heads meet the definitions: r is what the call gave, x what its contract says of it.
-use Prim.Native.Nat.{ℕ, zero, suc, _+_, _-_, _<_, _≤_}
+use Prim.Native.Nat.{ℕ, zero, suc, _+_, _-_, _<_, _≤_, _%_}
 use native.Mathlib.Omega.{arith}
-use native.Mathlib.Numerals.{unary-clauses}
 use mathlib.Core.Path.{_≡_, refl, sym, ap, _∙_}
-use mathlib.Core.List.{List, [], _∷_, map}
-use lib.ListN.{getD, set, replicate, List·getD-map}
+use mathlib.Core.Bool.{Bool, true, false}
+use mathlib.Core.List.{List, [], _∷_, _++_}
+use lib.Dec.{eqb}
+use lib.ListN.{length, getD, set, take, drop}
 use Rattle.refusal.specs.Answer.{Answer, value, refused, numberOf}
 use Rattle.refusal.specs.declared.Refusal.{Refusal}
-use Rattle.refusal.specs.Cases.{given}
+use Rattle.refusal.specs.Cases.{choose, given, ifEqual}
 use Rattle.arbitration.specs.declared.Candidate.{Candidate}
 use Rattle.arbitration.specs.declared.CpuWindow.{CpuWindow}
 use Rattle.arbitration.specs.declared.Demand.{Demand}
-use Rattle.arbitration.specs.declared.DispatchKey.{DispatchKey}
+use Rattle.dispatch_keys.specs.declared.DispatchKey.{DispatchKey}
 use Rattle.arbitration.specs.declared.DispatchMode.{DispatchMode}
 use Rattle.arbitration.specs.declared.KeyOption.{KeyOption}
 use Rattle.arbitration.specs.declared.KeyOption.the-variants as key
-use Rattle.arbitration.specs.Window.{refreshed}
 use Rattle.thread.specs.declared.CpuIndex.{CpuIndex}
+use Rattle.thread.specs.declared.CpuOption.the-variants as cpu
 use Rattle.thread.specs.declared.Link.{Link}
 use Rattle.thread.specs.declared.Link.the-variants as link
+use Rattle.thread.specs.declared.QueueMembership.the-variants as membership
 use Rattle.thread.specs.declared.ThreadRecord.{ThreadRecord}
-use Rattle.thread.specs.Membership.{onLink}
-use Rattle.rows.specs.Table.{Out, out}
+use Rattle.thread.specs.Membership.{onLink, onMembership, onCpu, readyCpu, isReadyOn}
+use Rattle.codec.specs.Codec.{word, membershipFrom, queueLinksOf, decoded}
+use Rattle.rows.specs.Table.{Out, out, table}
 use Rattle.lists.specs.Lists.{onAnswer, onOut}
+use Rattle.lists.specs.ListsLaws.{row-inside, row-outside}
 use Rattle.ready_index.specs.LoopLaws.{whole, setting-out, onward}
 use Rattle.queue.specs.declared.Root.{Root}
-use Rattle.selection.specs.declared.CandidateRead.{CandidateRead}
-use Rattle.selection.specs.declared.CandidateRead.the-variants as candidate
-use Rattle.selection.specs.declared.Gathered.{Gathered}
-use Rattle.selection.specs.declared.GatheredAnswer.{GatheredAnswer}
-use Rattle.selection.specs.declared.GatheredAnswer.the-variants as gather
-use Rattle.selection.specs.declared.Head.{Head}
-use Rattle.selection.specs.declared.HeadRead.{HeadRead}
-use Rattle.selection.specs.declared.HeadRead.the-variants as head
+use Rattle.queue.specs.declared.Verdict.{Verdict}
+use Rattle.queue.specs.declared.Verdict.the-variants as verdict
+use Rattle.queue.specs.Answers.{verdictAnswer}
+use Rattle.demands.specs.declared.Gathered.{Gathered}
+use Rattle.renewal.specs.declared.HeadRead.{HeadRead}
+use Rattle.renewal.specs.declared.HeadRead.the-variants as head
 use Rattle.selection.specs.declared.ReadyOption.{ReadyOption}
 use Rattle.selection.specs.declared.ReadyOption.the-variants as ready
 use Rattle.selection.specs.declared.ReadyThread.{ReadyThread}
-use Rattle.selection.specs.Demands.{gathered}
-use Rattle.selection.specs.Renewal.{headOf, rootAt}
-use Rattle.selection.specs.Heads.{headAt, Heads, noHeads, gatherHeads, onReady, onKeyOption, readyWith, Chosen, leastOf}
-use Rattle.selection.specs.Steps.{headJoined}
-use Rattle.selection.specs.Answers.{headAnswer, candidateAnswer, gatheredAnswer, headsOf}
+use Rattle.demands.specs.Demands.{candidateOf}
+use Rattle.renewal.specs.Renewal.{headOf, rootAt}
+use Rattle.renewal.specs.RootRows.{rootsOf}
+use Rattle.selection.specs.Heads.{onReady, onKeyOption, comesBefore, lesserReady, readyWith}
+use Rattle.selection.specs.Steps.{headRefreshed, headGathered}
+use Rattle.selection.specs.HeadNumbers.{sameByte, HeadNumbers, gatherNumbers, takesOver, readyBy, leastNumber}
+use Rattle.renewal.specs.Answers.{headAnswer}
 
 -- By the least so far.
 module _ {A : Type 0} {y : A} {x : ReadyOption} (a : A) (f : ReadyThread → A) where
@@ -62,150 +66,161 @@ module _ {A : Type 0} {y : A} {r x : KeyOption} (a : A) (f : DispatchKey → Dis
   unfolding onKeyOption
   some-key e m h = rw (sym e ∙ m) h
 
--- By a head that was read.
-module _ {B : Type 0} {y : B} {r : CandidateRead} (g : ℕ → B) (f : Candidate → B) where
-  pub candidate-read : {d : Candidate} → r ≡ candidate.Candidate d → y ≡ f d → y ≡ onAnswer (candidateAnswer r) g f
-  unfolding onAnswer
-  candidate-read m h = rw m h
+-- The lesser of two, by whether the second takes over.
+module _ (best : ReadyOption) (r : ReadyThread) where
+  lesser-by : lesserReady best r ≡ choose (takesOver best r) (ready.Some r) best
+  unfolding lesserReady takesOver onReady choose
+  lesser-by = go best
+    where
+      go : (best : ReadyOption)
+          → onReady best (ready.Some r) (λ old. choose (comesBefore r old) (ready.Some r) (ready.Some old)) ≡ choose (onReady best true (λ old. comesBefore r old)) (ready.Some r) best
+      go ready.None = refl
+      go (ready.Some old) = refl
 
-  pub candidate-refused : {n : Refusal} → r ≡ candidate.Refused n → y ≡ g (numberOf n) → y ≡ onAnswer (candidateAnswer r) g f
-  unfolding onAnswer
-  candidate-refused m h = rw m h
+  pub taken-over : {x : Bool} → x ≡ takesOver best r → x ≡ true → ready.Some r ≡ lesserReady best r
+  unfolding choose
+  taken-over e m = rw (lesser-by, sym e, m)
 
-pub ruleset heading = (candidate-read, candidate-refused, no-ready, some-ready, no-key, some-key)
+  pub kept-on : {x : Bool} → x ≡ takesOver best r → x ≡ false → best ≡ lesserReady best r
+  unfolding choose
+  kept-on e m = rw (lesser-by, sym e, m)
 
-abbrev pub noHead : Head
-noHead = record { id = link.None }
+-- The least so far with the record of a row.
+module _ {y : ReadyOption} (rows : List (List ℕ)) (i : ℕ) (w : CpuWindow) (now : ℕ) (d : Demand) (best : ReadyOption) where
+  pub ready-inside : {c : Candidate} → i < length rows → c ≡ candidateOf (decoded (getD rows i [])) → y ≡ readyBy c i w now d best → y ≡ readyWith (table rows) i w now d best
+  unfolding readyWith readyBy candidateOf given
+  ready-inside h e s = row-inside rows i best _ h (s ∙ ap (λ c. readyBy c i w now d best) e)
 
-heads-set : (hs : List Head) (k : ℕ) (h : Head) → headsOf (set hs k h) ≡ set (headsOf hs) k (h .id)
-unfolding headsOf
-heads-set [] k h = refl
-heads-set (x ∷ hs) zero h = refl
-heads-set (x ∷ hs) (suc k) h = ap {B = List Link} (λ r. x .id ∷ r) (heads-set hs k h)
+  pub ready-outside : length rows ≤ i → y ≡ best → y ≡ readyWith (table rows) i w now d best
+  unfolding readyWith
+  ready-outside h s = row-outside rows i best _ h s
 
-heads-get : (hs : List Head) (k : ℕ) → getD (headsOf hs) k link.None ≡ getD hs k noHead .id
-unfolding headsOf
-heads-get hs k = List·getD-map (λ (h : Head). h .id) hs k noHead
+pub ruleset heading = (no-ready, some-ready, no-key, some-key, taken-over, kept-on, ready-inside, ready-outside)
 
-pub no-heads : headsOf (replicate 12 noHead) ≡ noHeads
-unfolding headsOf
-no-heads = refl
+-- `isReadyOn` by the words of the membership.
+unfoldable pub readyRow : List ℕ → CpuIndex → Bool
+readyRow w c =
+    ifEqual (word w 26) 0 false
+    (ifEqual (word w 26) 1 (given (word w 27 % 256) (λ n. sameByte n (c .0)))
+    (ifEqual (word w 26) 2 (given (word w 27 % 256) (λ n. sameByte n (c .0)))
+    false))
+
+pub ready-by-words : (w : List ℕ) (c : CpuIndex) {r : Bool} → r ≡ readyRow w c → r ≡ isReadyOn (decoded w .«queue_links» .membership) c
+unfolding isReadyOn readyCpu decoded queueLinksOf membershipFrom readyRow given sameByte ifEqual choose onMembership onCpu
+ready-by-words w c e = e ∙ sym (go (eqb (word w 26) 0) (eqb (word w 26) 1) (eqb (word w 26) 2) (eqb (word w 26) 3))
+  where
+    go : (a b d f : Bool)
+        → onCpu (onMembership (choose a membership.None
+        (choose b (membership.ReadyRealTime (record { 0 = word w 27 % 256 }) (word w 28 % 256))
+        (choose d (membership.ReadyFair (record { 0 = word w 27 % 256 }))
+        (choose f (membership.Waiting (word w 27)) membership.Terminated))))
+        cpu.None (λ c p. cpu.Some c) (λ c. cpu.Some c) (λ q. cpu.None) cpu.None)
+        false (λ d. choose (eqb (d .0) (c .0)) true false)
+        ≡ choose a false (choose b (choose (eqb (word w 27 % 256) (c .0)) true false) (choose d (choose (eqb (word w 27 % 256) (c .0)) true false) false))
+    go true b d f = refl
+    go false true d f = refl
+    go false false true f = refl
+    go false false false true = refl
+    go false false false false = refl
+
+-- The numbers that are held, with one more.
+held-more : (l : List ℕ) (k id : ℕ) → k < length l → take (suc k) (set l k id) ≡ take k l ++ (id ∷ [])
+held-more [] k id h = absurd (omega arith)
+held-more (x ∷ l) zero id h = refl
+held-more (x ∷ l) (suc k) id h = ap (λ r. x ∷ r) (held-more l k id (omega arith))
+
+one-more : (l : List ℕ) (k id : ℕ) → k < length l → take (k + 1) (set l k id) ≡ take k l ++ (id ∷ [])
+one-more l k id h = let one : k + 1 ≡ suc k = omega arith in rw one (held-more l k id h)
 
 -- The trees that are left go by the head of the next one.
-module _ (t : List ThreadRecord) (roots : List Root) (c : CpuIndex) (now : ℕ) (hs : List Head) (g : Gathered) where
-  abbrev heads : List Link
-  heads = headsOf hs
-
-  pub gather-set-out : (x : List Link) → headsOf hs ≡ x → gatherHeads 12 t roots c now (headsOf hs) g ≡ whole (gatherHeads 12 t roots c now x g)
-  gather-set-out x e = rw (sym e) (setting-out (gatherHeads 12 t roots c now (headsOf hs) g))
-
-  -- A head that joins, or its refusal.
-  joined : (n : ℕ) (l : List Link) (id : ℕ)
-      → onOut (headAt t id c now) (λ a t₁. onAnswer a (λ m. out (refused m) t₁) (λ found. gatherHeads n t₁ roots c now l (gathered g found)))
-      ≡ onOut (headJoined t id c now g) (λ a t₁. onAnswer a (λ m. out (refused m) t₁) (λ more. gatherHeads n t₁ roots c now l more))
-  unfolding headJoined onOut onAnswer given
-  joined n l id = go (headAt t id c now)
-    where
-      go : (x : Out (Answer Candidate))
-          → onOut x (λ a t₁. onAnswer a (λ m. out (refused m) t₁) (λ found. gatherHeads n t₁ roots c now l (gathered g found)))
-          ≡ onOut (onOut {B = Out (Answer Gathered)} x (λ a t₁. onAnswer a (λ m. out (refused m) t₁) (λ found. out (value (gathered g found)) t₁)))
-          (λ a t₁. onAnswer a (λ m. out (refused m) t₁) (λ more. gatherHeads n t₁ roots c now l more))
-      go (out (value d) t₁) = refl
-      go (out (refused m) t₁) = refl
-
-  -- Past tree k, with so many left.
-  abbrev further : ℕ → ℕ → Link → Out (Answer Heads)
-  further n k l =
-      onLink l
-      (gatherHeads n t roots c now heads g)
-      (λ id. onOut (headJoined t id c now g)
+module _ (t : List ThreadRecord) (rows : List (List ℕ)) (c : CpuIndex) (now : ℕ) (g : Gathered) where
+  gather-step : (l : List ℕ) (n : ℕ) → 0 < n
+      → gatherNumbers n t (rootsOf rows) c now l g
+      ≡ onAnswer (headOf t (rootAt (rootsOf rows) (12 - n)))
+      (λ k. out (refused k) t)
+      (λ head. onLink head
+      (gatherNumbers (n - 1) t (rootsOf rows) c now l g)
+      (λ id. onOut (headRefreshed t id c now)
       (λ a t₁. onAnswer a
-      (λ m. out (refused m) t₁)
-      (λ more. gatherHeads n t₁ roots c now (set heads k (link.Some id)) more)))
-
-  gather-next : (n : ℕ) → gatherHeads (suc n) t roots c now heads g ≡ onAnswer (headOf t (rootAt roots (11 - n))) (λ k. out (refused k) t) (further n (11 - n))
-  unfolding gatherHeads given onAnswer onLink
-  gather-next n = go (headOf t (rootAt roots (11 - n)))
-    where
-      go : (a : Answer Link)
-          → onAnswer a
-          (λ k. out (refused k) t)
-          (λ l. onLink l
-          (gatherHeads n t roots c now heads g)
-          (λ id. onOut (headAt t id c now)
-          (λ a t₁. onAnswer a
-          (λ k. out (refused k) t₁)
-          (λ found. gatherHeads n t₁ roots c now (set heads (11 - n) (link.Some id)) (gathered g found)))))
-          ≡ onAnswer a (λ k. out (refused k) t) (further n (11 - n))
-      go (refused k) = refl
-      go (value link.None) = refl
-      go (value (link.Some id)) = joined n (set heads (11 - n) (link.Some id)) id
-
-  gather-step : (n : ℕ) → 0 < n
-      → gatherHeads n t roots c now heads g ≡ onAnswer (headOf t (rootAt roots (12 - n))) (λ k. out (refused k) t) (further (n - 1) (12 - n))
-  gather-step zero h = absurd (omega arith)
-  gather-step (suc n) h =
+      (λ k. out (refused k) t₁)
+      (λ u. gatherNumbers (n - 1) t₁ (rootsOf rows) c now (l ++ (id ∷ [])) (headGathered t₁ id g)))))
+  unfolding gatherNumbers given
+  gather-step l zero h = absurd (omega arith)
+  gather-step l (suc n) h =
       let place : 12 - suc n ≡ 11 - n = omega arith in
       let one : suc n - 1 ≡ n = omega arith in
-      rw (place, one) (gather-next n)
+      rw (place, one) refl
 
-  module _ {y : Out (Answer Heads)} {r : HeadRead} (n : ℕ) where
-    pub tree-damaged : 0 < n → headAnswer r ≡ headOf t (rootAt roots (12 - n)) → r ≡ head.Damaged → y ≡ out (refused 1) t → y ≡ gatherHeads n t roots c now heads g
+  module _ {y : Out (Answer HeadNumbers)} {r : HeadRead} {root : Link} (n : ℕ) where
+    pub tree-damaged : (l : List ℕ) → 0 < n → root ≡ rootAt (rootsOf rows) (12 - n) → headAnswer r ≡ headOf t root → r ≡ head.Damaged → y ≡ out (refused 1) t → y ≡ gatherNumbers n t (rootsOf rows) c now l g
     unfolding onAnswer
-    tree-damaged p e m h = rw (gather-step n p, sym e, m) h
+    tree-damaged l p o e m h = rw (gather-step l n p, sym o, sym e, m) h
 
     -- An empty tree is passed over.
-    pub tree-empty : {l : Link} → 0 < n → headAnswer r ≡ headOf t (rootAt roots (12 - n)) → r ≡ head.Head l → l ≡ link.None
-        → y ≡ gatherHeads (n - 1) t roots c now heads g → y ≡ gatherHeads n t roots c now heads g
+    pub tree-empty : {k : Link} (l : List ℕ) → 0 < n → root ≡ rootAt (rootsOf rows) (12 - n) → headAnswer r ≡ headOf t root → r ≡ head.Head k → k ≡ link.None
+        → y ≡ gatherNumbers (n - 1) t (rootsOf rows) c now l g → y ≡ gatherNumbers n t (rootsOf rows) c now l g
     unfolding onAnswer onLink
-    tree-empty p e m k h = rw (gather-step n p, sym e, m, k) h
+    tree-empty l p o e m k h = rw (gather-step l n p, sym o, sym e, m, k) h
 
-    module _ {l : Link} {id : ℕ} {s : GatheredAnswer} {t₁ : List ThreadRecord} where
-      pub tree-refused : {k : Refusal} → 0 < n → headAnswer r ≡ headOf t (rootAt roots (12 - n)) → r ≡ head.Head l → l ≡ link.Some id
-          → out (gatheredAnswer s) t₁ ≡ headJoined t id c now g → s ≡ gather.Refused k → y ≡ out (refused (numberOf k)) t₁ → y ≡ gatherHeads n t roots c now heads g
+    module _ {k : Link} {id : ℕ} {v : Verdict} {t₁ : List ThreadRecord} where
+      pub tree-refused : {why : Refusal} (l : List ℕ) → 0 < n → root ≡ rootAt (rootsOf rows) (12 - n) → headAnswer r ≡ headOf t root → r ≡ head.Head k → k ≡ link.Some id
+          → out (verdictAnswer v) t₁ ≡ headRefreshed t id c now → v ≡ verdict.Refused why → y ≡ out (refused (numberOf why)) t₁ → y ≡ gatherNumbers n t (rootsOf rows) c now l g
       unfolding onAnswer onLink onOut
-      tree-refused p e m k f u h = rw (gather-step n p, sym e, m, k, sym f, u) h
+      tree-refused l p o e m k f u h = rw (gather-step l n p, sym o, sym e, m, k, sym f, u) h
 
-      pub tree-found : {more : Gathered} → 0 < n → headAnswer r ≡ headOf t (rootAt roots (12 - n)) → r ≡ head.Head l → l ≡ link.Some id
-          → out (gatheredAnswer s) t₁ ≡ headJoined t id c now g → s ≡ gather.Found more
-          → y ≡ gatherHeads (n - 1) t₁ roots c now (headsOf (set hs (12 - n) (record { id = link.Some id }))) more → y ≡ gatherHeads n t roots c now heads g
+      pub tree-found : {more : Gathered} {heads₁ : List ℕ} (heads : List ℕ) (count : ℕ) → 0 < n → root ≡ rootAt (rootsOf rows) (12 - n) → headAnswer r ≡ headOf t root → r ≡ head.Head k → k ≡ link.Some id
+          → out (verdictAnswer v) t₁ ≡ headRefreshed t id c now → v ≡ verdict.Accepted → heads₁ ≡ set heads count id → count + n ≤ 12 → length heads ≡ 12 → more ≡ headGathered t₁ id g
+          → y ≡ gatherNumbers (n - 1) t₁ (rootsOf rows) c now (take (count + 1) heads₁) more → y ≡ gatherNumbers n t (rootsOf rows) c now (take count heads) g
       unfolding onAnswer onLink onOut
-      tree-found p e m k f u h = rw (gather-step n p, sym e, m, k, sym f, u) (h ∙ rw (heads-set hs (12 - n) (record { id = link.Some id })))
+      tree-found {more} {heads₁} heads count p o e m k f u s b z w h =
+          let held : take (count + 1) heads₁ ≡ take count heads ++ (id ∷ []) = ap (take (count + 1)) s ∙ one-more heads count id (omega arith) in
+          rw (gather-step (take count heads) n p, sym o, sym e, m, k, sym f, u, sym held, sym w) h
 
-  pub trees-over : {y : Out (Answer Heads)} (n : ℕ) → n ≤ 0 → y ≡ out (value (record { heads = heads; found = g })) t → y ≡ gatherHeads n t roots c now heads g
-  unfolding gatherHeads
-  trees-over zero p h = h
-  trees-over (suc n) p h = absurd (omega arith)
+  pub trees-over : {y : Out (Answer HeadNumbers)} (n : ℕ) (l : List ℕ) → n ≤ 0 → y ≡ out (value (record { numbers = l; found = g })) t → y ≡ gatherNumbers n t (rootsOf rows) c now l g
+  unfolding gatherNumbers
+  trees-over zero l p h = h
+  trees-over (suc n) l p h = absurd (omega arith)
+
+pub gather-set-out : (t : List ThreadRecord) (rows : List (List ℕ)) (c : CpuIndex) (now : ℕ) (g : Gathered) (heads : List ℕ)
+    → gatherNumbers 12 t (rootsOf rows) c now (take 0 heads) g ≡ whole (gatherNumbers 12 t (rootsOf rows) c now [] g)
+gather-set-out t rows c now g heads = setting-out (gatherNumbers 12 t (rootsOf rows) c now [] g)
 
 pub ruleset gatherings = (onward, tree-damaged, tree-empty, tree-refused, tree-found, trees-over)
 
 -- The heads that are left go by the next one.
-module _ (t : List ThreadRecord) (hs : List Head) (now : ℕ) (d : Demand) (w : CpuWindow) (best : ReadyOption) where
-  abbrev theHeads : List Link
-  theHeads = headsOf hs
+held-next : (l : List ℕ) (k count : ℕ) → k < count → count ≤ length l → drop k (take count l) ≡ getD l k 0 ∷ drop (suc k) (take count l)
+held-next [] k zero h b = absurd (omega arith)
+held-next [] k (suc count) h b = absurd (omega arith)
+held-next (x ∷ l) k zero h b = absurd (omega arith)
+held-next (x ∷ l) zero (suc count) h b = refl
+held-next (x ∷ l) (suc k) (suc count) h b = held-next l k count (omega arith) (omega arith)
 
-  least-step : (n : ℕ) → 0 < n
-      → leastOf n t theHeads now d w best
-      ≡ onLink (getD theHeads (12 - n) link.None)
-      (leastOf (n - 1) t theHeads now d w best)
-      (λ id. leastOf (n - 1) t theHeads now d (refreshed w now) (readyWith t id (refreshed w now) now d best))
-  unfolding leastOf given
-  least-step zero h = absurd (omega arith)
-  least-step (suc n) h = let place : 12 - suc n ≡ 11 - n = omega arith in rw place (simp unary-clauses)
+next-held : (l : List ℕ) (k count : ℕ) → k < count → count ≤ length l → drop k (take count l) ≡ getD l k 0 ∷ drop (k + 1) (take count l)
+next-held l k count h b = let one : k + 1 ≡ suc k = omega arith in rw one (held-next l k count h b)
 
-  module _ {y : Chosen} (n : ℕ) where
-    pub no-head : 0 < n → getD hs (12 - n) noHead .id ≡ link.None → y ≡ leastOf (n - 1) t theHeads now d w best → y ≡ leastOf n t theHeads now d w best
-    unfolding onLink
-    no-head p k h = rw (least-step n p, heads-get hs (12 - n), k) h
+none-held : (l : List ℕ) (k count : ℕ) → count ≤ k → drop k (take count l) ≡ []
+none-held [] zero zero h = refl
+none-held [] zero (suc count) h = absurd (omega arith)
+none-held [] (suc k) zero h = refl
+none-held [] (suc k) (suc count) h = refl
+none-held (x ∷ l) zero zero h = refl
+none-held (x ∷ l) zero (suc count) h = absurd (omega arith)
+none-held (x ∷ l) (suc k) zero h = refl
+none-held (x ∷ l) (suc k) (suc count) h = none-held l k count (omega arith)
 
-    pub some-head : {id : ℕ} {fresh : CpuWindow} {next : ReadyOption} → 0 < n → getD hs (12 - n) noHead .id ≡ link.Some id → fresh ≡ refreshed w now
-        → next ≡ readyWith t id fresh now d best → y ≡ leastOf (n - 1) t theHeads now d fresh next → y ≡ leastOf n t theHeads now d w best
-    unfolding onLink
-    some-head p k f r h = rw (least-step n p, heads-get hs (12 - n), k, sym f, sym r) h
+module _ (t : List ThreadRecord) (heads : List ℕ) (count now : ℕ) (d : Demand) (w : CpuWindow) (best : ReadyOption) where
+  module _ {y : ReadyOption} (k : ℕ) where
+    pub next-head : {next : ReadyOption} → k < count → count ≤ length heads → next ≡ readyWith t (getD heads k 0) w now d best
+        → y ≡ leastNumber t (drop (k + 1) (take count heads)) now d w next → y ≡ leastNumber t (drop k (take count heads)) now d w best
+    unfolding leastNumber
+    next-head p b e h =
+        h ∙ ap (λ (x : ReadyOption). leastNumber t (drop (k + 1) (take count heads)) now d w x) e ∙ sym (ap (λ (l : List ℕ). leastNumber t l now d w best) (next-held heads k count p b))
 
-  pub heads-over : {y : Chosen} (n : ℕ) → n ≤ 0 → y ≡ record { window = w; ready = best } → y ≡ leastOf n t theHeads now d w best
-  unfolding leastOf
-  heads-over zero p h = h
-  heads-over (suc n) p h = absurd (omega arith)
+    pub heads-over : count ≤ k → y ≡ best → y ≡ leastNumber t (drop k (take count heads)) now d w best
+    unfolding leastNumber
+    heads-over p h = h ∙ sym (ap (λ (l : List ℕ). leastNumber t l now d w best) (none-held heads k count p))
 
-pub ruleset leasts = (onward, no-head, some-head, heads-over)
+  pub least-set-out : leastNumber t (drop 0 (take count heads)) now d w best ≡ whole (leastNumber t (take count heads) now d w best)
+  least-set-out = setting-out (leastNumber t (take count heads) now d w best)
+
+pub ruleset leasts = (onward, next-head, heads-over)

@@ -9,7 +9,7 @@ use Rattle.order.specs.Order.{onOrdering}
 use Rattle.arbitration.specs.declared.Candidate.{Candidate}
 use Rattle.arbitration.specs.declared.CpuWindow.{CpuWindow}
 use Rattle.arbitration.specs.declared.Demand.{Demand}
-use Rattle.arbitration.specs.declared.DispatchKey.{DispatchKey}
+use Rattle.dispatch_keys.specs.declared.DispatchKey.{DispatchKey}
 use Rattle.arbitration.specs.declared.DispatchMode.{DispatchMode}
 use Rattle.arbitration.specs.declared.KeyOption.{KeyOption}
 use Rattle.arbitration.specs.declared.KeyOption.the-variants as key
@@ -24,12 +24,12 @@ use Rattle.rows.specs.Table.{Out, out, recordAt}
 use Rattle.rows.specs.TableCases.{onRecord}
 use Rattle.lists.specs.Lists.{onAnswer, onOut}
 use Rattle.queue.specs.declared.Root.{Root}
-use Rattle.selection.specs.declared.Gathered.{Gathered}
+use Rattle.demands.specs.declared.Gathered.{Gathered}
 use Rattle.selection.specs.declared.ReadyOption.{ReadyOption}
 use Rattle.selection.specs.declared.ReadyOption.the-variants as ready
 use Rattle.selection.specs.declared.ReadyThread.{ReadyThread}
-use Rattle.selection.specs.Demands.{candidateOf, gathered}
-use Rattle.selection.specs.Renewal.{headOf, refreshRecord, rootAt}
+use Rattle.demands.specs.Demands.{candidateOf, gathered}
+use Rattle.renewal.specs.Renewal.{headOf, refreshRecord, rootAt}
 
 -- A head: ready on this processor, else Damaged; then judged and refreshed.
 unfoldable pub headAt : List ThreadRecord → ℕ → CpuIndex → ℕ → Out (Answer Candidate)

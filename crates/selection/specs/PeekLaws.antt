@@ -7,28 +7,29 @@ use Rattle.refusal.specs.declared.Refusal.{Refusal}
 use Rattle.refusal.specs.Cases.{given}
 use Rattle.arbitration.specs.declared.CpuWindow.{CpuWindow}
 use Rattle.thread.specs.declared.CpuIndex.{CpuIndex}
-use Rattle.thread.specs.declared.Link.{Link}
 use Rattle.thread.specs.declared.ThreadRecord.{ThreadRecord}
 use Rattle.rows.specs.Table.{Out, out}
 use Rattle.lists.specs.Lists.{onAnswer, onOut}
 use Rattle.queue.specs.declared.CpuRunQueue.{CpuRunQueue}
+use Rattle.queue.specs.declared.Root.{Root}
 use Rattle.queue.specs.PlanLaws.{too-many, not-too-many}
-use Rattle.selection.specs.declared.CandidateOption.{CandidateOption}
-use Rattle.selection.specs.declared.Gathered.{Gathered}
+use Rattle.demands.specs.declared.CandidateOption.{CandidateOption}
+use Rattle.demands.specs.declared.Gathered.{Gathered}
 use Rattle.selection.specs.declared.GatheredAnswer.{GatheredAnswer}
 use Rattle.selection.specs.declared.GatheredAnswer.the-variants as gather
 use Rattle.selection.specs.declared.Selection.{Selection}
-use Rattle.selection.specs.declared.SelectionParts.{SelectionParts}
-use Rattle.selection.specs.Demands.{ofCurrent}
+use Rattle.renewal.specs.declared.SelectionParts.{SelectionParts}
+use Rattle.demands.specs.Demands.{ofCurrent}
 use Rattle.selection.specs.declared.ReadyOption.the-variants as ready
 use Rattle.selection.specs.Heads.{Heads, noHeads, gatherHeads, leastOf}
 use Rattle.selection.specs.Peek.{Peeked, peeked, chosen, peekParts, peekNext, selectionParts, withSelectionParts, restored}
 use Rattle.selection.specs.Steps.{Looked, looked, lookedAt}
+use Rattle.selection.specs.HeadNumbers.{HeadNumbers}
 use Rattle.selection.specs.Answers.{foundAnswer}
 
 -- By what was gathered.
-module _ {B : Type 0} {y : B} {r : GatheredAnswer} (l : List Link) (g : ℕ → B) (f : Heads → B) where
-  pub heads-found : {v : Gathered} → r ≡ gather.Found v → y ≡ f (record { heads = l; found = v }) → y ≡ onAnswer (foundAnswer r l) g f
+module _ {B : Type 0} {y : B} {r : GatheredAnswer} (l : List ℕ) (g : ℕ → B) (f : HeadNumbers → B) where
+  pub heads-found : {v : Gathered} → r ≡ gather.Found v → y ≡ f (record { numbers = l; found = v }) → y ≡ onAnswer (foundAnswer r l) g f
   unfolding onAnswer
   heads-found m h = rw m h
 
@@ -65,6 +66,11 @@ pub heads-looked : {a : Answer Selection} {w₁ : CpuWindow} {t₂ : List Thread
 unfolding onOut
 heads-looked t p c now w current e = rw (heads-apart t p c now w current, sym e)
 
+-- On rows that roots by value were stored to.
+pub looked-by-rows : {y : Out Looked} {l roots : List Root} (t : List ThreadRecord) (c : CpuIndex) (now : ℕ) (w : CpuWindow) (current : CandidateOption)
+    → l ≡ roots → y ≡ lookedAt t l c now w current → y ≡ lookedAt t roots c now w current
+looked-by-rows t c now w current e h = h ∙ ap (λ l. lookedAt t l c now w current) e
+
 -- Selection on the parts of a queue, put back.
 pub parts-restored : {a : Answer Selection} {w₁ : CpuWindow} {p p₁ : SelectionParts} {q₁ : CpuRunQueue} {t₁ : List ThreadRecord}
     (t : List ThreadRecord) (q : CpuRunQueue) (c : CpuIndex) (now : ℕ) (w : CpuWindow) (current : CandidateOption)
@@ -73,4 +79,4 @@ pub parts-restored : {a : Answer Selection} {w₁ : CpuWindow} {p p₁ : Selecti
 unfolding peekNext onOut restored
 parts-restored t q c now w current e s r = rw (sym e, sym s, r)
 
-pub ruleset peeking = (heads-found, heads-refused, heads-looked, parts-restored, too-many, not-too-many)
+pub ruleset peeking = (heads-found, heads-refused, heads-looked, looked-by-rows, parts-restored, too-many, not-too-many)

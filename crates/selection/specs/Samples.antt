@@ -22,9 +22,9 @@ use Rattle.thread.specs.Membership.{emptyLinks, emptyQueueLinks}
 use Rattle.rows.specs.Table.{Out, out}
 use Rattle.queue.specs.declared.CpuRunQueue.{CpuRunQueue}
 use Rattle.queue.specs.Samples.{cpu, Left}
-use Rattle.selection.specs.declared.CandidateOption.{CandidateOption}
-use Rattle.selection.specs.declared.PassOption.{PassOption}
-use Rattle.selection.specs.declared.PassOption.the-variants as pass
+use Rattle.demands.specs.declared.CandidateOption.{CandidateOption}
+use Rattle.demands.specs.declared.PassOption.{PassOption}
+use Rattle.demands.specs.declared.PassOption.the-variants as pass
 use Rattle.selection.specs.declared.ReadyOption.{ReadyOption}
 use Rattle.selection.specs.declared.ReadyOption.the-variants as ready
 use Rattle.selection.specs.declared.Selection.{Selection}

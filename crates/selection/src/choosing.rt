@@ -1,129 +1,156 @@
 // The heads of the twelve trees, refreshed, with what they ask for; and the least key among them. After the second and third loop of `CpuRunQueue::peek_next`.
-ghost use Prim.Native.Nat.{_<_};
+ghost use Prim.Native.Nat.{_<_, _≤_, _+_};
 ghost use mathlib.Core.Path.{_≡_};
-ghost use Rattle.refusal.specs.Answer.{refused, numberOf};
+ghost use mathlib.Core.List.{[]};
+ghost use lib.ListN.{length, take, set};
+ghost use Rattle.thread.specs.Membership.{isReadyOn};
+ghost use Rattle.codec.specs.Codec.{decoded};
 ghost use Rattle.rows.specs.Table.{table, out};
+ghost use Rattle.queue.specs.Answers.{verdictAnswer};
 ghost use Rattle.selection.specs.Heads as choice;
 ghost use Rattle.selection.specs.Steps as steps;
+ghost use Rattle.selection.specs.HeadNumbers as numbers;
+ghost use Rattle.renewal.specs.RootRows.{rootsOf};
 ghost use Rattle.selection.specs.declared.ReadyOption.the-variants as ready;
-ghost use Rattle.selection.specs.Answers.{candidateAnswer, gatheredAnswer, headsOf, gatheringAnswer, chosenOf};
-use crate::CandidateRead;
-use crate::Chosen;
-use crate::Gathered;
+ghost use Rattle.selection.specs.Answers.{foundAnswer};
 use crate::GatheredAnswer;
 use crate::Gathering;
-use crate::Head;
-use crate::HeadRead;
 use crate::ReadyOption;
 use crate::ReadyThread;
-use crate::Refreshed;
-use crate::demands::candidate_of;
-use crate::demands::gathered;
-use crate::renewal::head_of;
-use crate::renewal::refresh_record;
+use arbitration::Candidate;
 use arbitration::CpuWindow;
 use arbitration::Demand;
 use arbitration::KeyOption;
-use arbitration::compare_keys;
+use codec::byte_from;
+use demands::Gathered;
+use demands::candidate_of_row;
+use demands::gathered_row;
+use dispatch_keys::compare_keys;
 use order::Ordering;
-use queue::Root;
+use queue::Verdict;
 use refusal::Refusal;
-use rows::RecordRead;
-use rows::record_at;
+use renewal::HeadRead;
+use renewal::head_of;
+use renewal::refresh_row;
+use renewal::root_at;
 use thread::CpuIndex;
 use thread::Link;
 use thread::ThreadId;
-use thread::ThreadRecord;
-use thread::is_ready_on;
 
-// A head that is ready on this processor: judged and refreshed.
-fn refresh_head(t: &mut [[u64; 32]], id: u64, thread: ThreadRecord, reading: u64) -> CandidateRead
-    ensures { λ r. ⌜ out (candidateAnswer r) (table (now (t .exit))) ≡ steps.refreshedHead (table (now (t .entry))) id thread reading ⌝ }
+fn same_byte(a: u8, b: u8) -> bool
+    ensures { λ r. ⌜ r ≡ numbers.sameByte a b ⌝ }
 {
-    match refresh_record(t, id, thread, reading) {
-        Refreshed::Refused(refusal) => CandidateRead::Refused(refusal),
-        Refreshed::Thread(fresh) => CandidateRead::Candidate(candidate_of(fresh)),
+    if a == b {
+        return true;
     }
+    false
+}
+
+// Whether the row's record is ready on this processor, by the words of its membership.
+fn is_ready_row(w: [u64; 32], cpu: CpuIndex) -> bool
+    ensures { λ r. ⌜ r ≡ isReadyOn (decoded w .«queue_links» .membership) cpu ⌝ }
+{
+    if w[26] == 0 {
+        return false;
+    }
+    if w[26] == 1 {
+        return same_byte(byte_from(w[27]), cpu.0);
+    }
+    if w[26] == 2 {
+        return same_byte(byte_from(w[27]), cpu.0);
+    }
+    false
 }
 
 // A head: ready on this processor, then judged and refreshed.
-fn head_at(t: &mut [[u64; 32]], id: u64, cpu: CpuIndex, reading: u64) -> CandidateRead
-    ensures { λ r. ⌜ out (candidateAnswer r) (table (now (t .exit))) ≡ choice.headAt (table (now (t .entry))) id cpu reading ⌝ }
+fn head_at(t: &mut [[u64; 32]], id: u64, cpu: CpuIndex, reading: u64) -> Verdict
+    ensures { λ r. ⌜ out (verdictAnswer r) (table (now (t .exit))) ≡ steps.headRefreshed (table (now (t .entry))) id cpu reading ⌝ }
 {
-    let RecordRead::Got(thread) = record_at(t, id) else {
-        return CandidateRead::Refused(Refusal::Damaged);
-    };
-    let links = thread.queue_links;
-    let membership = links.membership;
-    if !is_ready_on(membership, cpu) {
-        return CandidateRead::Refused(Refusal::Damaged);
+    let k = id as usize;
+    if k < t.len() {
+        let row = t[k];
+        if !is_ready_row(row, cpu) {
+            return Verdict::Refused(Refusal::Damaged);
+        }
+        return refresh_row(t, id, row, reading);
     }
-    refresh_head(t, id, thread, reading)
+    Verdict::Refused(Refusal::Damaged)
 }
 
 // What was found before, with one more head.
-fn join_head(
-    t: &mut [[u64; 32]],
-    id: u64,
-    cpu: CpuIndex,
-    reading: u64,
-    found: Gathered,
-) -> GatheredAnswer
-    ensures { λ r. ⌜ out (gatheredAnswer r) (table (now (t .exit))) ≡ steps.headJoined (table (now (t .entry))) id cpu reading found ⌝ }
+fn gather_row(t: &[[u64; 32]], id: u64, found: Gathered) -> Gathered
+    ensures { λ r. ⌜ r ≡ steps.headGathered (table (now (t .entry))) id found ⌝ }
 {
-    match head_at(t, id, cpu, reading) {
-        CandidateRead::Candidate(candidate) => GatheredAnswer::Found(gathered(found, candidate)),
-        CandidateRead::Refused(refusal) => GatheredAnswer::Refused(refusal),
+    let k = id as usize;
+    if k < t.len() {
+        let row = t[k];
+        return gathered_row(found, row);
     }
+    found
 }
 
-fn refused_heads(refusal: Refusal, heads: [Head; 12]) -> Gathering
-    ensures { λ r. ⌜ gatheringAnswer r ≡ refused (numberOf refusal) ⌝ }
+fn put_head(heads: &mut [u64], count: usize, id: u64)
+    requires { ⌜ count < length (now heads) ⌝ }
+    ensures { λ r. ⌜ now (heads .exit) ≡ set (now (heads .entry)) count id ⌝ }
 {
-    Gathering {
-        answer: GatheredAnswer::Refused(refusal),
-        heads,
-    }
+    heads[count] = id;
 }
 
-// The heads of the twelve trees, with what they and the running thread ask for.
+// One more head: its number is held, and what it asks for is gathered.
+fn join_head(t: &[[u64; 32]], heads: &mut [u64], count: usize, id: u64, found: Gathered) -> Gathered
+    requires { ⌜ count < length (now heads) ⌝ }
+    ensures { λ r. ⌜ r ≡ steps.headGathered (table (now (t .entry))) id found ⌝ }
+    ensures { λ r. ⌜ now (heads .exit) ≡ set (now (heads .entry)) count id ⌝ }
+{
+    put_head(heads, count, id);
+    gather_row(t, id, found)
+}
+
+// The heads of the twelve trees, one after the other, with what they and the running thread ask for.
 pub fn gather_heads(
     t: &mut [[u64; 32]],
-    indices: [Root; 12],
+    roots: &[[u64; 5]],
+    heads: &mut [u64],
     cpu: CpuIndex,
     reading: u64,
     current: Gathered,
 ) -> Gathering
-    ensures { λ r. ⌜ out (gatheringAnswer r) (table (now (t .exit))) ≡ choice.gatherHeads 12 (table (now (t .entry))) indices cpu reading choice.noHeads current ⌝ }
+    requires { ⌜ length (now heads) ≡ 12 ⌝ }
+    ensures { λ r. ⌜ out (foundAnswer (r .answer) (take (r .count) (now (heads .exit)))) (table (now (t .exit))) ≡ numbers.gatherNumbers 12 (table (now (t .entry))) (rootsOf (now (roots .entry))) cpu reading [] current ⌝ }
+    ensures { λ r. ⌜ r .count ≤ 12 ⌝ }
 {
-    let none = Head { id: Link::None };
-    let mut heads = [none; 12];
     let mut found = current;
+    let mut count: usize = 0;
     let mut left: usize = 12;
     while 0 < left {
         let k = 12 - left;
         left -= 1;
-        let entry = indices[k];
-        let root = entry.root;
+        let root = root_at(roots, k);
         let HeadRead::Head(head) = head_of(t, root) else {
-            return refused_heads(Refusal::Damaged, heads);
+            return Gathering {
+                answer: GatheredAnswer::Refused(Refusal::Damaged),
+                count: 0,
+            };
         };
         let Link::Some(id) = head else {
             continue;
         };
-        heads[k] = Head { id: head };
-        match join_head(t, id, cpu, reading, found) {
-            GatheredAnswer::Found(more) => {
-                found = more;
+        match head_at(t, id, cpu, reading) {
+            Verdict::Accepted => {
+                found = join_head(t, heads, count, id, found);
+                count += 1;
             }
-            GatheredAnswer::Refused(refusal) => {
-                return refused_heads(refusal, heads);
+            Verdict::Refused(refusal) => {
+                return Gathering {
+                    answer: GatheredAnswer::Refused(refusal),
+                    count: 0,
+                };
             }
         }
     }
     Gathering {
         answer: GatheredAnswer::Found(found),
-        heads,
+        count,
     }
 }
 
@@ -147,38 +174,39 @@ fn comes_before(thread: ReadyThread, old: ReadyThread) -> bool
     }
 }
 
+// Whether a thread is chosen over the least so far.
+fn takes_over(best: ReadyOption, thread: ReadyThread) -> bool
+    ensures { λ r. ⌜ r ≡ numbers.takesOver best thread ⌝ }
+{
+    match best {
+        ReadyOption::None => true,
+        ReadyOption::Some(old) => comes_before(thread, old),
+    }
+}
+
 // The lesser of the two.
 fn lesser_ready(best: ReadyOption, thread: ReadyThread) -> ReadyOption
     ensures { λ r. ⌜ r ≡ choice.lesserReady best thread ⌝ }
 {
-    match best {
-        ReadyOption::None => ReadyOption::Some(thread),
-        ReadyOption::Some(old) => {
-            if comes_before(thread, old) {
-                return ReadyOption::Some(thread);
-            }
-            ReadyOption::Some(old)
-        }
+    if takes_over(best, thread) {
+        return ReadyOption::Some(thread);
     }
+    best
 }
 
-// The least so far with one more head, under a window that is refreshed to the reading.
-fn ready_with(
-    t: &[[u64; 32]],
+// The least so far with one more candidate, under a window that is refreshed to the reading.
+fn ready_by(
+    candidate: Candidate,
     id: u64,
     window: CpuWindow,
     reading: u64,
     demand: Demand,
     best: ReadyOption,
 ) -> ReadyOption
-    ensures { λ r. ⌜ r ≡ choice.readyWith (table (now (t .entry))) id window reading demand best ⌝ }
+    ensures { λ r. ⌜ r ≡ numbers.readyBy candidate id window reading demand best ⌝ }
 {
-    let RecordRead::Got(thread) = record_at(t, id) else {
-        return best;
-    };
-    let parameters = thread.parameters;
+    let parameters = candidate.parameters;
     let policy = parameters.policy;
-    let candidate = candidate_of(thread);
     match window.key(reading, candidate, demand) {
         KeyOption::None => best,
         KeyOption::Some(key, _) => {
@@ -192,32 +220,44 @@ fn ready_with(
     }
 }
 
-// The least key of the heads, and the window, which is refreshed at each head.
+// The least so far with one more head.
+fn ready_with(
+    t: &[[u64; 32]],
+    id: u64,
+    window: CpuWindow,
+    reading: u64,
+    demand: Demand,
+    best: ReadyOption,
+) -> ReadyOption
+    ensures { λ r. ⌜ r ≡ choice.readyWith (table (now (t .entry))) id window reading demand best ⌝ }
+{
+    let k = id as usize;
+    if k < t.len() {
+        let row = t[k];
+        let candidate = candidate_of_row(row);
+        return ready_by(candidate, id, window, reading, demand, best);
+    }
+    best
+}
+
+// The least key of the first so many heads, under a window that is refreshed to the reading.
 pub fn least_of(
     t: &[[u64; 32]],
-    heads: [Head; 12],
+    heads: &[u64],
+    count: usize,
     reading: u64,
     demand: Demand,
     window: CpuWindow,
-) -> Chosen
-    ensures { λ r. ⌜ chosenOf r ≡ choice.leastOf 12 (table (now (t .entry))) (headsOf heads) reading demand window ready.None ⌝ }
+) -> ReadyOption
+    requires { ⌜ count ≤ length (now heads) ⌝ }
+    ensures { λ r. ⌜ r ≡ numbers.leastNumber (table (now (t .entry))) (take count (now (heads .entry))) reading demand window ready.None ⌝ }
 {
-    let mut fresh = window;
     let mut best = ReadyOption::None;
-    let mut left: usize = 12;
-    while 0 < left {
-        let k = 12 - left;
-        left -= 1;
-        let entry = heads[k];
-        let head = entry.id;
-        let Link::Some(id) = head else {
-            continue;
-        };
-        fresh = fresh.refreshed(reading);
-        best = ready_with(t, id, fresh, reading, demand, best);
+    let mut k: usize = 0;
+    while k < count {
+        let id = heads[k];
+        k += 1;
+        best = ready_with(t, id, window, reading, demand, best);
     }
-    Chosen {
-        window: fresh,
-        ready: best,
-    }
+    best
 }

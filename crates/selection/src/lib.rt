@@ -1,13 +1,13 @@
 // Selection: the queued thread with the least dispatch key. After `CpuRunQueue::peek_next` of scheduler/queue.rs; the definitions are in specs/.
 mod choosing;
-mod demands;
 mod peeking;
-mod renewal;
 
 pub use peeking::peek_heads;
 pub use peeking::peek_parts;
 pub use renewal::is_epoch;
+pub use renewal::mark_after;
 pub use renewal::renew;
+pub use renewal::renew_roles;
 ghost use mathlib.Core.Path.{_≡_};
 ghost use Rattle.rows.specs.Table.{table, out};
 ghost use Rattle.selection.specs.Peek as peek;
@@ -16,29 +16,20 @@ use algorithms::Wide;
 use arbitration::Candidate;
 use arbitration::CpuWindow;
 use arbitration::Demand;
-use arbitration::DispatchKey;
+use demands::CandidateOption;
+use demands::Gathered;
+use demands::PassOption;
+use dispatch_keys::DispatchKey;
 use policy::SchedulingPolicy;
 use queue::CpuRunQueue;
 use queue::Root;
 use queue::Verdict;
 use refusal::Refusal;
+use renewal::SelectionParts;
 use thread::CpuIndex;
 use thread::Link;
 use thread::ThreadId;
-use thread::ThreadRecord;
 use time::Epoch;
-
-// A fair pass, or none.
-pub enum PassOption {
-    None,
-    Some(Wide),
-}
-
-// The running thread, if there is one, taken as given.
-pub enum CandidateOption {
-    None,
-    Some(Candidate),
-}
 
 pub struct ReadyThread {
     pub id: ThreadId,
@@ -57,89 +48,15 @@ pub struct Selection {
     pub fair_min_pass: PassOption,
 }
 
-// What the heads and the running thread ask for, and the lowest fair pass among them.
-pub struct Gathered {
-    pub demand: Demand,
-    pub fair_min_pass: PassOption,
-}
-
-// What selection touches of a queue: the twelve roots, the epoch of the last selection and the mark of a queue that halted.
-pub struct SelectionParts {
-    pub indices: [Root; 12],
-    pub budget_epoch: Epoch,
-    pub halted: bool,
-}
-
-// The two budget trees of a role, and how many moves a change of period has left.
-pub struct BudgetTrees {
-    pub exhausted: Link,
-    pub ready: Link,
-    pub moves: u64,
-}
-
-// The head of a tree, none where it is empty.
-enum HeadRead {
-    Head(Link),
-    Damaged,
-}
-
-// A record as it stands after its refresh.
-enum Refreshed {
-    Thread(ThreadRecord),
-    Refused(Refusal),
-}
-
-// The trees after a move, or as they are left where it is refused.
-enum Moved {
-    Done(BudgetTrees),
-    Refused(Refusal, BudgetTrees),
-}
-
-// What the next move of a role found.
-enum NextMove {
-    Emptied,
-    Moved(BudgetTrees),
-    Refused(Refusal, BudgetTrees),
-}
-
-// The roots as the roles of a change of period leave them.
-struct RolesStep {
-    answer: Verdict,
-    indices: [Root; 12],
-}
-
-// The parts as a change of period leaves them.
-pub struct PartsStep {
-    pub answer: Verdict,
-    pub parts: SelectionParts,
-}
-
-// A head as arbitration sees it after its refresh.
-enum CandidateRead {
-    Candidate(Candidate),
-    Refused(Refusal),
-}
-
 enum GatheredAnswer {
     Found(Gathered),
     Refused(Refusal),
 }
 
-// The head of one tree, none where it is empty.
-struct Head {
-    id: Link,
-}
-
-// The heads that were found, with what they ask for.
+// What the heads ask for, and how many were found.
 struct Gathering {
     answer: GatheredAnswer,
-    heads: [Head; 12],
-}
-
-// The least key, with the window as its heads leave it.
-struct Chosen {
-    window: CpuWindow,
-    ready: ReadyOption,
+    count: usize,
 }
 
 pub enum PeekAnswer {

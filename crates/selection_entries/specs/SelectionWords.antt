@@ -10,10 +10,10 @@ use Rattle.thread.specs.declared.CpuIndex.{CpuIndex}
 use Rattle.rows.specs.Table.{Out, out}
 use Rattle.codec.specs.Codec.{word, policyFrom}
 use Rattle.queue.specs.declared.CpuRunQueue.{CpuRunQueue}
-use Rattle.selection.specs.declared.CandidateOption.{CandidateOption}
-use Rattle.selection.specs.declared.CandidateOption.the-variants as candidate
-use Rattle.selection.specs.declared.PassOption.{PassOption}
-use Rattle.selection.specs.declared.PassOption.the-variants as pass
+use Rattle.demands.specs.declared.CandidateOption.{CandidateOption}
+use Rattle.demands.specs.declared.CandidateOption.the-variants as candidate
+use Rattle.demands.specs.declared.PassOption.{PassOption}
+use Rattle.demands.specs.declared.PassOption.the-variants as pass
 use Rattle.selection.specs.declared.ReadyOption.{ReadyOption}
 use Rattle.selection.specs.declared.ReadyOption.the-variants as ready
 use Rattle.selection.specs.declared.Selection.{Selection}

@@ -1,19 +1,20 @@
 // The C call on a queue of lent words, a table of rows and the words of window, running thread and answer, through which the Rust host compares selection with the kernel's
 // source. It answers document 01's number, 0 where the call was made; a refusal leaves what the answer's words stand for as it was.
 ghost use mathlib.Core.Path.{_≡_};
+ghost use Rattle.codec.specs.Codec.{word};
 ghost use Rattle.rows.specs.Table.{table, out};
-ghost use Rattle.codec.specs.Codec.{word, policyFrom};
 ghost use Rattle.lent_queue.specs.LentQueue.{queueOf};
 ghost use Rattle.selection.specs.declared.ReadyOption.the-variants as ready;
 ghost use Rattle.selection.specs.Peek as peek;
 ghost use Rattle.selection.specs.Answers.{peekAnswer};
-ghost use Rattle.window_words.specs.WindowWords.{windowOf};
+ghost use Rattle.window_words.specs.WindowWords.{windowOf, progressed};
 ghost use Rattle.selection_entries.specs.SelectionWords.{processor, readyOf, passFrom, selectionFrom, currentOf, stored, storedOver, left, leftOf};
+use arbitration::CpuWindow;
 use codec::word_of_byte;
+use demands::CandidateOption;
+use demands::PassOption;
 use lent_selection::peek_lent;
-use policy::SchedulingPolicy;
-use selection::CandidateOption;
-use selection::PassOption;
+use policy_words::words_of_policy;
 use selection::PeekAnswer;
 use selection::ReadyOption;
 use selection::ReadyThread;
@@ -21,19 +22,8 @@ use selection::Selection;
 use thread::CpuIndex;
 use window_words::candidate_of;
 use window_words::window_of;
-use window_words::with_window;
+use window_words::with_progress;
 use window_words::word_of_flag;
-
-fn words_of_policy(policy: SchedulingPolicy) -> [u64; 2]
-    ensures { λ w. ⌜ policyFrom (word w 0) (word w 1) ≡ policy ⌝ }
-{
-    match policy {
-        SchedulingPolicy::Fifo { priority } => [0, word_of_byte(priority.0)],
-        SchedulingPolicy::Fair => [1, 0],
-        SchedulingPolicy::Budget => [2, 0],
-        SchedulingPolicy::Idle => [3, 0],
-    }
-}
 
 fn words_of_thread(thread: ReadyThread) -> [u64; 11]
     ensures { λ w. ⌜ readyOf w ≡ ready.Some thread ⌝ }
@@ -137,6 +127,20 @@ fn current_of(running: bool, row: [u64; 32]) -> CandidateOption
     CandidateOption::None
 }
 
+// What time changes in a window.
+fn store_progress(window: &mut [u64; 12], fresh: CpuWindow)
+    ensures { λ r. ⌜ windowOf (now (window .exit)) ≡ progressed (windowOf (now (window .entry))) (fresh .epoch) (fresh .«priority_remaining_ns») (fresh .«protected_remaining_ns») ⌝ }
+{
+    let epoch = fresh.epoch;
+    let words = *window;
+    *window = with_progress(
+        words,
+        epoch,
+        fresh.priority_remaining_ns,
+        fresh.protected_remaining_ns,
+    );
+}
+
 // CpuRunQueue::peek_next, with a path that the caller lends; the row of the running thread counts where `running` says that there is one.
 #[no_mangle]
 pub extern "C" fn queue_peek_next(
@@ -158,6 +162,6 @@ pub extern "C" fn queue_peek_next(
     let peeked = peek_lent(q, t, path, CpuIndex(cpu), reading, its_window, its_current);
     let its_answer = peeked.answer;
     let fresh = peeked.window;
-    *window = with_window(words, fresh);
+    store_progress(window, fresh);
     store_answer(answer, its_answer)
 }

@@ -16,12 +16,12 @@ use Rattle.thread.specs.declared.Link.the-variants as link
 use Rattle.thread.specs.declared.Links.{Links}
 use Rattle.thread.specs.declared.ThreadRecord.{ThreadRecord}
 use Rattle.rows.specs.declared.LinksRead.the-variants as links
-use Rattle.ready_index.specs.declared.Turned.the-variants as turned
+use Rattle.rotations.specs.declared.Turned.the-variants as turned
 use Rattle.ready_index.specs.declared.Rooted.the-variants as rooted
 use Rattle.rows.specs.Table.{out, linksAt, setLinks}
 use Rattle.rows.specs.TableCases.{onLinks, onMade}
-use Rattle.ready_index.specs.Cases.{onTurned}
-use Rattle.ready_index.specs.Balance.{balance}
+use Rattle.rotations.specs.Cases.{onTurned}
+use Rattle.rotations.specs.Balance.{balance}
 use Rattle.ready_index.specs.Index.{hung, rebuildStep, rebuild}
 use Rattle.sound_index.specs.Holds.{stored, root}
 use Rattle.sound_index.specs.TableLaws.{set-made}

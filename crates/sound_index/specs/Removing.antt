@@ -23,8 +23,9 @@ use Rattle.ready_index.specs.declared.Rooted.{Rooted}
 use Rattle.ready_index.specs.declared.Rooted.the-variants as rooted
 use Rattle.rows.specs.Table.{Out, out, linksAt, setLinks}
 use Rattle.rows.specs.TableCases.{onKey, onMade}
-use Rattle.ready_index.specs.Cases.{onTurned, onRooted}
-use Rattle.ready_index.specs.Balance.{balance}
+use Rattle.rotations.specs.Cases.{onTurned}
+use Rattle.ready_index.specs.Cases.{onRooted}
+use Rattle.rotations.specs.Balance.{balance}
 use Rattle.ready_index.specs.Index.{onSearch, search, onSuccessor, successor, replace, rebuild, remove}
 use Rattle.sound_index.specs.Holds.{stored, root}
 use Rattle.rows.specs.TableLaws.{links-got-within}

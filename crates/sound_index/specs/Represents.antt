@@ -15,8 +15,8 @@ use Rattle.thread.specs.declared.ThreadRecord.{ThreadRecord}
 use Rattle.thread.specs.TreeKey.{compareTreeKeys}
 use Rattle.rows.specs.declared.KeyRead.the-variants as read
 use Rattle.rows.specs.declared.LinksRead.the-variants as links
-use Rattle.ready_index.specs.declared.Turned.{Turned}
-use Rattle.ready_index.specs.declared.Turned.the-variants as turned
+use Rattle.rotations.specs.declared.Turned.{Turned}
+use Rattle.rotations.specs.declared.Turned.the-variants as turned
 use Rattle.ready_index.specs.declared.Rooted.{Rooted}
 use Rattle.ready_index.specs.declared.Rooted.the-variants as rooted
 use Rattle.ready_index.specs.declared.Step.{Step}

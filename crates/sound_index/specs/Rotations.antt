@@ -21,13 +21,13 @@ use Rattle.thread.specs.declared.Links.{Links}
 use Rattle.thread.specs.declared.ThreadRecord.{ThreadRecord}
 use Rattle.thread.specs.Membership.{onLink}
 use Rattle.rows.specs.declared.LinksRead.the-variants as links
-use Rattle.ready_index.specs.declared.HeightRead.the-variants as read
+use Rattle.rotations.specs.declared.HeightRead.the-variants as read
 use Rattle.rows.specs.declared.Change.the-variants as change
-use Rattle.ready_index.specs.declared.Turned.the-variants as turned
+use Rattle.rotations.specs.declared.Turned.the-variants as turned
 use Rattle.rows.specs.Table.{out, linksAt, setLinks}
 use Rattle.rows.specs.TableCases.{onLinks, onMade}
-use Rattle.ready_index.specs.Cases.{onHeight, onTurned}
-use Rattle.ready_index.specs.Balance.{height, larger, update, rotateLeft, rotateRight, balanceLeft, balanceRight, balance}
+use Rattle.rotations.specs.Cases.{onHeight, onTurned}
+use Rattle.rotations.specs.Balance.{height, larger, update, rotateLeft, rotateRight, balanceLeft, balanceRight, balance}
 use Rattle.sound_index.specs.Holds.{stored, root, linksOver}
 use Rattle.sound_index.specs.TableLaws.{set-made, stored-other}
 use Rattle.sound_index.specs.Represents.{linksBy, Represents, Opened, Turns}

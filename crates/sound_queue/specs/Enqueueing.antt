@@ -31,8 +31,8 @@ use Rattle.sound_lists.specs.Sound.{HoldsList, MayJoin}
 use Rattle.sound_lists.specs.Sound as list
 use Rattle.sound_lists.specs.Insertion.{push-holds, push-front-holds}
 use Rattle.queue.specs.declared.CpuRunQueue.{CpuRunQueue}
-use Rattle.queue.specs.declared.Parts.{Parts}
-use Rattle.queue.specs.Work.{pushAt, insertWork}
+use Rattle.queue_work.specs.declared.Parts.{Parts}
+use Rattle.queue_work.specs.Work.{pushAt, insertWork}
 use Rattle.queue.specs.Queue.{Step, step, emptyRoot, partsOf, withParts, worked, isFifo, isBudget, judged, enqueueCall}
 use Rattle.sound_queue.specs.Forest.{Forest, placed, Replanted}
 use Rattle.sound_queue.specs.PlaceLaws.{placed-same, placed-other, same-or-not}

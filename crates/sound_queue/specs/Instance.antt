@@ -21,11 +21,12 @@ use Rattle.rows.specs.TableCases.{onLinks, onKey, onQueueLinks, onRecord, onMad
 use Rattle.lists.specs.Checks.{assignedTo, headAgrees, tailAgrees, endsAgree, preflightInsert, previousValid, nextValid, validateNeighbors}
 use Rattle.lists.specs.Lists.{onAnswer, onOut, setNext, setPrevious, commitInsert, commitRemove, append, prepend, push, pushFront, updatePreviousLink, updateNextLink, unlink}
 use Rattle.lists.specs.Lists as list
-use Rattle.ready_index.specs.Cases.{onHeight, onTurned, onRooted, onWay, onSought}
-use Rattle.ready_index.specs.Balance.{height, larger, update, rotateLeft, rotateRight, balanceLeft, balanceRight, balance}
+use Rattle.rotations.specs.Cases.{onHeight, onTurned}
+use Rattle.ready_index.specs.Cases.{onRooted, onWay, onSought}
+use Rattle.rotations.specs.Balance.{height, larger, update, rotateLeft, rotateRight, balanceLeft, balanceRight, balance}
 use Rattle.ready_index.specs.Index.{wayAt, lookFor, contains, onWalk, walk, hung, rebuildStep, rebuild, insert, soughtAt, onSearch, search, onSuccessor, successor, replace}
 use Rattle.ready_index.specs.Index as index
-use Rattle.queue.specs.Work.{countedIn, countedOut, totalIn, totalOut, pushAt, insertWork, removeWork}
+use Rattle.queue_work.specs.Work.{countedIn, countedOut, totalIn, totalOut, pushAt, insertWork, removeWork}
 use Rattle.queue.specs.Queue.{newQueue, listOf, partsOf, withParts, worked, isFifo, isBudget, membershipFor, judged, enqueueCall, partner, onContained, treeWith, removeReady, removeFrom, removeCall}
 use Rattle.queue.specs.Samples.{nine, enqueueAt, Left, made, andAfter, then, leftBy, budgetThread, cpu}
 use native.Mathlib.Omega.{arith}

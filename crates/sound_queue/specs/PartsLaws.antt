@@ -33,8 +33,8 @@ use Rattle.ready_index.specs.declared.Rooted.the-variants as rooted
 use Rattle.ready_index.specs.Cases.{onRooted}
 use Rattle.ready_index.specs.Index as index·
 use Rattle.queue.specs.declared.CpuRunQueue.{CpuRunQueue}
-use Rattle.queue.specs.declared.Parts.{Parts}
-use Rattle.queue.specs.Work.{done, withBudgetThreads, treeStored, countedIn, countedOut, totalIn, totalOut, pushAt, insertWork, removeWork}
+use Rattle.queue_work.specs.declared.Parts.{Parts}
+use Rattle.queue_work.specs.Work.{done, withBudgetThreads, treeStored, countedIn, countedOut, totalIn, totalOut, pushAt, insertWork, removeWork}
 use Rattle.queue.specs.Queue.{listOf, withParts, isFifo, isBudget, membershipFor, partner}
 use Rattle.sound_queue.specs.Lists.{listAt, membershipAt, listFor}
 use Rattle.sound_queue.specs.Sound.{PriorityFits}

@@ -25,8 +25,8 @@ use Rattle.sound_lists.specs.Members.{without}
 use Rattle.sound_lists.specs.Sound as list
 use Rattle.sound_lists.specs.Removal.{remove-holds}
 use Rattle.queue.specs.declared.CpuRunQueue.{CpuRunQueue}
-use Rattle.queue.specs.declared.Parts.{Parts}
-use Rattle.queue.specs.Work.{removeWork}
+use Rattle.queue_work.specs.declared.Parts.{Parts}
+use Rattle.queue_work.specs.Work.{removeWork}
 use Rattle.queue.specs.Queue.{step, emptyRoot, rootOf, partsOf, withParts, worked, isFifo, isBudget, partner, onContained, treeWith, removeReady, removeFrom, removeCall}
 use Rattle.sound_queue.specs.Forest.{Forest, placed, Replanted}
 use Rattle.sound_queue.specs.PlaceLaws.{placed-same, placed-other, same-or-not}

@@ -17,7 +17,7 @@ use Rattle.thread.specs.Membership.{isUnqueued}
 use Rattle.thread.specs.Judgement.{isBadRecord}
 use Rattle.arbitration.specs.declared.CpuWindow.{CpuWindow}
 use Rattle.arbitration.specs.declared.DispatchMode.{DispatchMode}
-use Rattle.arbitration.specs.Config.{soundConfig}
+use Rattle.window_config.specs.Config.{soundConfig}
 use Rattle.arbitration.specs.Window.{charged}
 use Rattle.arbitration.specs.Calls.{With, with, judged, accountCall}
 use Rattle.rows.specs.Table.{Out, out, recordOf, recordAt}

@@ -19,7 +19,7 @@ use Rattle.arbitration.specs.declared.Candidate.{Candidate}
 use Rattle.arbitration.specs.declared.CpuWindow.{CpuWindow}
 use Rattle.arbitration.specs.declared.Demand.{Demand}
 use Rattle.arbitration.specs.declared.DispatchMode.the-variants as mode
-use Rattle.arbitration.specs.Config.{ranksRise, soundConfig}
+use Rattle.window_config.specs.Config.{ranksRise, soundConfig}
 use Rattle.arbitration.specs.Window.{onMode, isPriority, isProtected, usesAllowance}
 use Rattle.arbitration.specs.Window as window
 use Rattle.arbitration.specs.Calls.{With, with, accountCall}

@@ -17,14 +17,14 @@ use Rattle.policy.specs.declared.BudgetOption.the-variants as budget
 use Rattle.policy.specs.PolicyCases.{onPolicy, onBudget}
 use Rattle.thread.specs.declared.ThreadRecord.{ThreadRecord}
 use Rattle.thread.specs.TreeKey.{algorithmKey, treeKey, readyIndexKey, parts, compareTreeKeys}
-use Rattle.arbitration.specs.declared.ArbitrationConfig.{ArbitrationConfig}
+use Rattle.window_config.specs.declared.ArbitrationConfig.{ArbitrationConfig}
 use Rattle.arbitration.specs.declared.CpuWindow.{CpuWindow}
 use Rattle.arbitration.specs.declared.Demand.{Demand}
 use Rattle.arbitration.specs.declared.Candidate.{Candidate}
-use Rattle.arbitration.specs.declared.DispatchKey.{DispatchKey}
+use Rattle.dispatch_keys.specs.declared.DispatchKey.{DispatchKey}
 use Rattle.arbitration.specs.declared.DispatchMode.{DispatchMode}
 use Rattle.arbitration.specs.declared.KeyOption.the-variants as option
-use Rattle.arbitration.specs.Config.{acceptsBudget}
+use Rattle.window_config.specs.Config.{acceptsBudget}
 use Rattle.arbitration.specs.Key.{exhaustedOf, shutOut, strictFifo, favoured, algorithmOf, onAlgorithm, ordinaryRank, tierOf, keyOf, compareKeys}
 
 -- Two threads of one FIFO priority and band; r has the lesser turn.

@@ -16,5 +16,3 @@ pub mod Calls
 pub mod Theorems
 -- A small table that meets the premises.
 pub mod Instance
--- Document 01's sentences on numbers.
-pub mod WorkedDecisions

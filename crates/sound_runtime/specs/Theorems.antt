@@ -27,7 +27,7 @@ use Rattle.arbitration.specs.declared.Candidate.{Candidate}
 use Rattle.arbitration.specs.declared.CpuWindow.{CpuWindow}
 use Rattle.arbitration.specs.declared.Demand.{Demand}
 use Rattle.arbitration.specs.declared.DispatchMode.{DispatchMode}
-use Rattle.arbitration.specs.Config.{soundConfig}
+use Rattle.window_config.specs.Config.{soundConfig}
 use Rattle.arbitration.specs.Window.{charged}
 use Rattle.arbitration.specs.Calls.{With, with}
 use Rattle.rows.specs.Table.{Out, out, after, recordOf, setRuntime}

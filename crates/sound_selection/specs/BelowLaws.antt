@@ -6,9 +6,9 @@ use mathlib.Core.List.{List}
 use native.Mathlib.Omega.{arith}
 use Rattle.refusal.specs.Cases.{choose}
 use Rattle.thread.specs.declared.ThreadRecord.{ThreadRecord}
-use Rattle.selection.specs.declared.CandidateOption.{CandidateOption}
-use Rattle.selection.specs.declared.Gathered.{Gathered}
-use Rattle.selection.specs.Demands.{gathered, ofCurrent}
+use Rattle.demands.specs.declared.CandidateOption.{CandidateOption}
+use Rattle.demands.specs.declared.Gathered.{Gathered}
+use Rattle.demands.specs.Demands.{gathered, ofCurrent}
 use Rattle.sound_queue.specs.PlaceLaws.{same-or-not}
 use Rattle.sound_selection.specs.Claim.{candidateNow, gatheredBelow}
 use Rattle.sound_selection.specs.Within.{Within, alone}

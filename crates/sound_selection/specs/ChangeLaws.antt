@@ -29,7 +29,7 @@ use Rattle.sound_index.specs.Outcomes.{leastOf}
 use Rattle.sound_index.specs.Demand2.{first-names-least}
 use Rattle.queue.specs.declared.Root.{Root}
 use Rattle.queue.specs.Queue.{isBudget}
-use Rattle.selection.specs.Renewal.{leastLink, headOf, rootAt}
+use Rattle.renewal.specs.Renewal.{leastLink, headOf, rootAt}
 use Rattle.sound_queue.specs.Forest.{Forest}
 use Rattle.sound_queue.specs.LinksLaws.{alike-record}
 use Rattle.sound_queue.specs.Sound.{Filed, by-filing, in-partner}

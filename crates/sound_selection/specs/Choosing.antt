@@ -10,7 +10,7 @@ use Rattle.refusal.specs.Cases.{choose, given}
 use Rattle.time.specs.Time.{rises}
 use Rattle.arbitration.specs.declared.CpuWindow.{CpuWindow}
 use Rattle.arbitration.specs.declared.Demand.{Demand}
-use Rattle.arbitration.specs.declared.DispatchKey.{DispatchKey}
+use Rattle.dispatch_keys.specs.declared.DispatchKey.{DispatchKey}
 use Rattle.arbitration.specs.declared.DispatchMode.{DispatchMode}
 use Rattle.arbitration.specs.declared.KeyOption.{KeyOption}
 use Rattle.arbitration.specs.declared.KeyOption.the-variants as key
@@ -25,20 +25,12 @@ use Rattle.rows.specs.TableCases.{onRecord}
 use Rattle.rows.specs.TableLaws.{record-within}
 use Rattle.selection.specs.declared.ReadyOption.{ReadyOption}
 use Rattle.selection.specs.declared.ReadyThread.{ReadyThread}
-use Rattle.selection.specs.Demands.{candidateOf}
+use Rattle.demands.specs.Demands.{candidateOf}
 use Rattle.selection.specs.Heads.{onKeyOption, lesserReady, readyWith, Chosen, leastOf}
+use Rattle.selection.specs.LookLaws.{refreshed-again}
 use Rattle.sound_queue.specs.PlaceLaws.{same-or-not}
 use Rattle.sound_selection.specs.Within.{pairParts, Under, Every}
 use Rattle.sound_selection.specs.PairLaws.{lesser-old, lesser-new, lesser-every}
-
--- A window refreshed to now is refreshed once and for all.
-refreshed-again : (w : CpuWindow) (now : ℕ) → refreshed (refreshed w now) now ≡ refreshed w now
-unfolding refreshed given choose rises
-refreshed-again w now = go (rises (w .epoch) (now / w .config .«period_ns»)) refl
-  where
-    go : (x : Bool) → rises (w .epoch) (now / w .config .«period_ns») ≡ x → refreshed (refreshed w now) now ≡ refreshed w now
-    go true e = rw (e, le-ltb (now / w .config .«period_ns») (now / w .config .«period_ns») (omega arith))
-    go false e = rw (e, e)
 
 -- The thread of a number, as an answer with this key.
 abbrev pub readyThread : List ThreadRecord → ℕ → DispatchKey → ReadyThread

@@ -13,11 +13,11 @@ use Rattle.algorithms.specs.Runtime.{epochRefreshed}
 use Rattle.arbitration.specs.declared.Candidate.{Candidate}
 use Rattle.arbitration.specs.declared.CpuWindow.{CpuWindow}
 use Rattle.arbitration.specs.declared.Demand.{Demand}
-use Rattle.arbitration.specs.declared.DispatchKey.{DispatchKey}
+use Rattle.dispatch_keys.specs.declared.DispatchKey.{DispatchKey}
 use Rattle.arbitration.specs.declared.DispatchMode.{DispatchMode}
 use Rattle.arbitration.specs.declared.KeyOption.{KeyOption}
 use Rattle.arbitration.specs.declared.KeyOption.the-variants as key
-use Rattle.arbitration.specs.Config.{soundConfig, admitted}
+use Rattle.window_config.specs.Config.{soundConfig, admitted}
 use Rattle.arbitration.specs.Window.{refreshed}
 use Rattle.arbitration.specs.Key.{compareKeys, keyOf}
 use Rattle.thread.specs.declared.CpuIndex.{CpuIndex}
@@ -29,13 +29,13 @@ use Rattle.lists.specs.Lists.{onAnswer}
 use Rattle.ready_index.specs.Index.{contains}
 use Rattle.queue.specs.declared.CpuRunQueue.{CpuRunQueue}
 use Rattle.queue.specs.Queue.{Step, step, newQueue, rootOf, isBudget, onContained, enqueueCall, removeCall}
-use Rattle.selection.specs.declared.CandidateOption.{CandidateOption}
-use Rattle.selection.specs.declared.Gathered.{Gathered}
+use Rattle.demands.specs.declared.CandidateOption.{CandidateOption}
+use Rattle.demands.specs.declared.Gathered.{Gathered}
 use Rattle.selection.specs.declared.ReadyOption.{ReadyOption}
 use Rattle.selection.specs.declared.ReadyOption.the-variants as ready
 use Rattle.selection.specs.declared.Selection.{Selection}
-use Rattle.selection.specs.Demands.{candidateOf, gathered, ofCurrent}
-use Rattle.selection.specs.Renewal.{isEpoch}
+use Rattle.demands.specs.Demands.{candidateOf, gathered, ofCurrent}
+use Rattle.renewal.specs.Renewal.{isEpoch}
 use Rattle.selection.specs.Peek.{Peeked, peeked, peekNext}
 use Rattle.sound_queue.specs.Sound.{including, excluding, PriorityFits}
 use Rattle.sound_queue.specs.Reached.{nobody}

@@ -19,19 +19,19 @@ use Rattle.algorithms.specs.declared.PolicyRuntime.the-variants as runtime
 use Rattle.algorithms.specs.Runtime.{onRuntime, candidateKey, zeroPass}
 use Rattle.arbitration.specs.declared.CpuWindow.{CpuWindow}
 use Rattle.arbitration.specs.declared.Demand.{Demand}
-use Rattle.arbitration.specs.declared.DispatchKey.{DispatchKey}
+use Rattle.dispatch_keys.specs.declared.DispatchKey.{DispatchKey}
 use Rattle.arbitration.specs.declared.DispatchMode.{DispatchMode}
 use Rattle.arbitration.specs.declared.KeyOption.{KeyOption}
 use Rattle.arbitration.specs.declared.KeyOption.the-variants as key
-use Rattle.arbitration.specs.Config.{acceptsBudget}
+use Rattle.window_config.specs.Config.{acceptsBudget}
 use Rattle.arbitration.specs.Key.{exhaustedOf, shutOut, strictFifo, favoured, algorithmOf, onAlgorithm, ordinaryRank, tierOf, keyOf}
 use Rattle.thread.specs.declared.ThreadRecord.{ThreadRecord}
 use Rattle.thread.specs.Filing.{budgetAvailable, roleIndex}
 use Rattle.thread.specs.FilingLaws.{role-index-le}
 use Rattle.thread.specs.TreeKey.{algorithmKey, treeKey, readyIndexKey, parts, compareTreeKeys}
-use Rattle.selection.specs.Demands.{candidateOf, demandOf, either, joined, addDemand, onPass, lowestPass, gathered}
-use Rattle.selection.specs.declared.PassOption.{PassOption}
-use Rattle.selection.specs.declared.PassOption.the-variants as pass
+use Rattle.demands.specs.Demands.{candidateOf, demandOf, either, joined, addDemand, onPass, lowestPass, gathered}
+use Rattle.demands.specs.declared.PassOption.{PassOption}
+use Rattle.demands.specs.declared.PassOption.the-variants as pass
 use Rattle.sound_selection.specs.Within.{AtMost, less, same, passParts, PassWithin, Within, alone, pairParts}
 use Rattle.sound_selection.specs.PairLaws.{first-parts, same-first}
 use Rattle.sound_selection.specs.Classes.{Class, fifo-class, fair-class, ready-class, exhausted-class, Alike, both-fifo, both-fair, both-budget}

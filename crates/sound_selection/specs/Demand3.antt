@@ -15,7 +15,7 @@ use Rattle.codec.specs.Codec.{decoded}
 use Rattle.rows.specs.Table.{Out, table, recordOf}
 use Rattle.queue.specs.declared.CpuRunQueue.{CpuRunQueue}
 use Rattle.queue.specs.Queue.{Step, enqueueCall, removeCall}
-use Rattle.selection.specs.declared.CandidateOption.{CandidateOption}
+use Rattle.demands.specs.declared.CandidateOption.{CandidateOption}
 use Rattle.selection.specs.Peek.{Peeked, peekNext}
 use Rattle.sound_queue.specs.Sound.{Sound, including, excluding, Fine, PriorityFits}
 use Rattle.sound_queue.specs.LinksLaws.{same-length, same-parameters}

@@ -12,9 +12,9 @@ use Rattle.policy.specs.declared.FairBackend.the-variants as backend
 use Rattle.policy.specs.declared.SchedulingParameters.{SchedulingParameters}
 use Rattle.policy.specs.declared.SchedulingPolicy.the-variants as policy
 use Rattle.policy.specs.PolicyCases.{onPolicy, onBackend}
-use Rattle.arbitration.specs.declared.ArbitrationConfig.{ArbitrationConfig}
+use Rattle.window_config.specs.declared.ArbitrationConfig.{ArbitrationConfig}
 use Rattle.arbitration.specs.declared.CpuWindow.{CpuWindow}
-use Rattle.arbitration.specs.Config.{acceptsBudget, sameBackend, admitted}
+use Rattle.window_config.specs.Config.{acceptsBudget, sameBackend, admitted}
 use Rattle.thread.specs.declared.CpuIndex.{CpuIndex}
 use Rattle.thread.specs.declared.ThreadRecord.{ThreadRecord}
 use Rattle.thread.specs.Filing.{budgetAvailable, roleIndex}
@@ -24,8 +24,8 @@ use Rattle.ready_index.specs.declared.Contained.the-variants as contained
 use Rattle.ready_index.specs.Index.{contains}
 use Rattle.queue.specs.declared.CpuRunQueue.{CpuRunQueue}
 use Rattle.queue.specs.Queue.{rootOf, isBudget, onContained}
-use Rattle.selection.specs.declared.CandidateOption.{CandidateOption}
-use Rattle.selection.specs.Renewal.{isEpoch}
+use Rattle.demands.specs.declared.CandidateOption.{CandidateOption}
+use Rattle.renewal.specs.Renewal.{isEpoch}
 use Rattle.sound_queue.specs.ForestLaws.{contains-placed}
 use Rattle.sound_queue.specs.Sound.{Sound}
 use Rattle.sound_queue.specs.SoundLaws.{queued-inside}

@@ -13,15 +13,15 @@ use Rattle.policy.specs.declared.SchedulingParameters.{SchedulingParameters}
 use Rattle.policy.specs.declared.SchedulingPolicy.the-variants as policy
 use Rattle.time.specs.declared.Epoch.the-variants as epoch
 use Rattle.time.specs.Time.{rises}
-use Rattle.arbitration.specs.declared.ArbitrationConfig.{ArbitrationConfig}
+use Rattle.window_config.specs.declared.ArbitrationConfig.{ArbitrationConfig}
 use Rattle.arbitration.specs.declared.Candidate.{Candidate}
 use Rattle.arbitration.specs.declared.CpuWindow.{CpuWindow}
 use Rattle.arbitration.specs.declared.Demand.{Demand}
-use Rattle.arbitration.specs.declared.DispatchKey.{DispatchKey}
+use Rattle.dispatch_keys.specs.declared.DispatchKey.{DispatchKey}
 use Rattle.arbitration.specs.declared.DispatchMode.{DispatchMode}
 use Rattle.arbitration.specs.declared.KeyOption.{KeyOption}
 use Rattle.arbitration.specs.declared.KeyOption.the-variants as key
-use Rattle.arbitration.specs.Config.{acceptsBudget}
+use Rattle.window_config.specs.Config.{acceptsBudget}
 use Rattle.arbitration.specs.Window.{refreshed}
 use Rattle.arbitration.specs.Key.{keyOf}
 use Rattle.thread.specs.declared.CpuIndex.{CpuIndex}
@@ -35,12 +35,12 @@ use Rattle.rows.specs.Table.{recordOf, keyAt}
 use Rattle.rows.specs.TableLaws.{key-within}
 use Rattle.sound_index.specs.Holds.{Precedes}
 use Rattle.queue.specs.declared.CpuRunQueue.{CpuRunQueue}
-use Rattle.selection.specs.declared.CandidateOption.{CandidateOption}
-use Rattle.selection.specs.declared.Gathered.{Gathered}
+use Rattle.demands.specs.declared.CandidateOption.{CandidateOption}
+use Rattle.demands.specs.declared.Gathered.{Gathered}
 use Rattle.selection.specs.declared.ReadyOption.{ReadyOption}
 use Rattle.selection.specs.declared.ReadyOption.the-variants as ready
 use Rattle.selection.specs.declared.ReadyThread.{ReadyThread}
-use Rattle.selection.specs.Demands.{candidateOf}
+use Rattle.demands.specs.Demands.{candidateOf}
 use Rattle.selection.specs.Peek.{peekNext}
 use Rattle.sound_queue.specs.PlaceLaws.{same-or-not}
 use Rattle.sound_queue.specs.Sound.{Sound}

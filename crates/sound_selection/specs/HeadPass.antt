@@ -19,8 +19,8 @@ use Rattle.rows.specs.Table.{Out, out, recordOf, keyAt}
 use Rattle.lists.specs.Lists.{onAnswer, onOut}
 use Rattle.sound_index.specs.Holds.{Precedes}
 use Rattle.queue.specs.declared.CpuRunQueue.{CpuRunQueue}
-use Rattle.selection.specs.declared.Gathered.{Gathered}
-use Rattle.selection.specs.Demands.{candidateOf, gathered}
+use Rattle.demands.specs.declared.Gathered.{Gathered}
+use Rattle.demands.specs.Demands.{candidateOf, gathered}
 use Rattle.selection.specs.Heads.{headAt, Heads, gatherHeads}
 use Rattle.sound_queue.specs.PlaceLaws.{same-or-not}
 use Rattle.sound_queue.specs.Sound.{Sound}

@@ -14,7 +14,7 @@ use Rattle.policy.specs.Budget.{soundBudget}
 use Rattle.budget.specs.Runtime as budget
 use Rattle.algorithms.specs.Runtime.{onRuntime, sameKind, candidateKey, epochRefreshed, ofBudget}
 use Rattle.avl.specs.Rotation.{leanOf, onLean}
-use Rattle.arbitration.specs.Config.{soundConfig, ranksRise, acceptsBudget, sameBackend, admitted}
+use Rattle.window_config.specs.Config.{soundConfig, ranksRise, acceptsBudget, sameBackend, admitted}
 use Rattle.arbitration.specs.Window.{isPriority, isProtected, protectionDeadline, dueAt}
 use Rattle.arbitration.specs.Window as windows
 use Rattle.arbitration.specs.Key.{exhaustedOf, shutOut, strictFifo, hurried, favoured, algorithmOf, onAlgorithm, ordinaryRank, tierOf, keyOf, compareKeys}
@@ -28,17 +28,18 @@ use Rattle.rows.specs.TableCases.{onLinks, onKey, onQueueLinks, onRecord, onMad
 use Rattle.lists.specs.Checks.{assignedTo, headAgrees, tailAgrees, endsAgree, preflightInsert, previousValid, nextValid, validateNeighbors}
 use Rattle.lists.specs.Lists.{onAnswer, onOut, setNext, setPrevious, commitInsert, commitRemove, append, prepend, push, pushFront, updatePreviousLink, updateNextLink, unlink}
 use Rattle.lists.specs.Lists as list
-use Rattle.ready_index.specs.Cases.{onHeight, onTurned, onRooted, onWay, onSought}
-use Rattle.ready_index.specs.Balance.{height, larger, update, rotateLeft, rotateRight, balanceLeft, balanceRight, balance}
+use Rattle.rotations.specs.Cases.{onHeight, onTurned}
+use Rattle.ready_index.specs.Cases.{onRooted, onWay, onSought}
+use Rattle.rotations.specs.Balance.{height, larger, update, rotateLeft, rotateRight, balanceLeft, balanceRight, balance}
 use Rattle.ready_index.specs.Index.{descend, first, wayAt, lookFor, contains, onWalk, walk, hung, rebuildStep, rebuild, insert, soughtAt, onSearch, search, onSuccessor, successor, replace}
 use Rattle.ready_index.specs.Index as index
-use Rattle.queue.specs.Work.{countedIn, countedOut, totalIn, totalOut, pushAt, insertWork, removeWork}
+use Rattle.queue_work.specs.Work.{countedIn, countedOut, totalIn, totalOut, pushAt, insertWork, removeWork}
 use Rattle.queue.specs.Queue.{listOf, rootOf, partsOf, withParts, worked, isFifo, isBudget, membershipFor, judged, enqueueCall, partner, onContained, treeWith, removeReady, removeFrom, removeCall}
 use Rattle.queue.specs.Samples.{cpu}
-use Rattle.selection.specs.declared.CandidateOption.the-variants as candidate
-use Rattle.selection.specs.Leaves.{onLeaves}
-use Rattle.selection.specs.Demands.{candidateOf, demandOf, either, joined, addDemand, comparePasses, lesserPass, onPass, lowestPass, gathered, onCandidate, ofCurrent}
-use Rattle.selection.specs.Renewal.{leastLink, headOf, refreshRecord, refreshRuntime, moveOne, moveAll, withTrees, renewRoles, isEpoch, isHalt, renew}
+use Rattle.demands.specs.declared.CandidateOption.the-variants as candidate
+use Rattle.renewal.specs.Leaves.{onLeaves}
+use Rattle.demands.specs.Demands.{candidateOf, demandOf, either, joined, addDemand, comparePasses, lesserPass, onPass, lowestPass, gathered, onCandidate, ofCurrent}
+use Rattle.renewal.specs.Renewal.{leastLink, headOf, refreshRecord, refreshRuntime, moveOne, moveAll, withTrees, renewRoles, isEpoch, isHalt, renew}
 use Rattle.selection.specs.Heads.{headAt, gatherHeads, onReady, onKeyOption, comesBefore, lesserReady, readyWith, leastOf}
 use Rattle.selection.specs.Peek.{chosen, peekRunning, peekParts, selectionParts, withSelectionParts, restored, peekNext}
 use Rattle.selection.specs.Samples.{window, thread, budgeted, answerOf, named}

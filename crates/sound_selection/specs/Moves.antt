@@ -21,9 +21,9 @@ use Rattle.lists.specs.Lists.{onAnswer, onOut}
 use Rattle.queue.specs.declared.Root.{Root}
 use Rattle.queue.specs.declared.CpuRunQueue.{CpuRunQueue}
 use Rattle.queue.specs.Queue.{emptyRoot, rootOf}
-use Rattle.selection.specs.declared.BudgetTrees.{BudgetTrees}
-use Rattle.selection.specs.Leaves.{Leaves, leaves, onLeaves}
-use Rattle.selection.specs.Renewal.{budgetTrees, moveOne, moveAll, withTrees}
+use Rattle.renewal.specs.declared.BudgetTrees.{BudgetTrees}
+use Rattle.renewal.specs.Leaves.{Leaves, leaves, onLeaves}
+use Rattle.renewal.specs.Renewal.{budgetTrees, moveOne, moveAll, withTrees}
 use Rattle.sound_queue.specs.Count.{count}
 use Rattle.sound_queue.specs.CountLaws.{count-one}
 use Rattle.sound_queue.specs.Forest.{placed}

@@ -26,8 +26,8 @@ use Rattle.rows.specs.TableCases.{onRecord}
 use Rattle.rows.specs.TableLaws.{length-changed, record-same, record-other, record-within, reading-other, after-set-runtime, key-set-runtime, budget-key-kept}
 use Rattle.lists.specs.Lists.{onAnswer, onOut}
 use Rattle.queue.specs.declared.CpuRunQueue.{CpuRunQueue}
-use Rattle.selection.specs.Demands.{candidateOf}
-use Rattle.selection.specs.Renewal.{refreshRecord}
+use Rattle.demands.specs.Demands.{candidateOf}
+use Rattle.renewal.specs.Renewal.{refreshRecord}
 use Rattle.selection.specs.Heads.{headAt}
 use Rattle.sound_queue.specs.Lists.{membershipAt, listFor}
 use Rattle.sound_queue.specs.PlaceLaws.{same-or-not}

@@ -34,9 +34,9 @@ use Rattle.sound_index.specs.TableLaws.{besides-length}
 use Rattle.queue.specs.declared.Root.{Root}
 use Rattle.queue.specs.declared.CpuRunQueue.{CpuRunQueue}
 use Rattle.queue.specs.Queue.{emptyRoot, rootOf, isBudget}
-use Rattle.selection.specs.declared.BudgetTrees.{BudgetTrees}
-use Rattle.selection.specs.Leaves.{leaves}
-use Rattle.selection.specs.Renewal.{refreshRuntime, budgetTrees, moveOne, withTrees}
+use Rattle.renewal.specs.declared.BudgetTrees.{BudgetTrees}
+use Rattle.renewal.specs.Leaves.{leaves}
+use Rattle.renewal.specs.Renewal.{refreshRuntime, budgetTrees, moveOne, withTrees}
 use Rattle.sound_queue.specs.Forest.{placed}
 use Rattle.sound_queue.specs.PlaceLaws.{placed-same, placed-other, same-or-not}
 use Rattle.sound_queue.specs.Sound.{Sound, Filed}

@@ -31,7 +31,7 @@ use Rattle.lists.specs.Lists.{onAnswer}
 use Rattle.rows.specs.Table.{out, changed}
 use Rattle.rows.specs.TableLaws.{budget-key-kept, after-set-runtime}
 use Rattle.queue.specs.Queue.{isBudget}
-use Rattle.selection.specs.Renewal.{refreshRecord}
+use Rattle.renewal.specs.Renewal.{refreshRecord}
 use Rattle.sound_selection.specs.Claim.{refreshedTo}
 
 never : {A : Type 0} → _≡_ {A = ℕ} 0 1 → A

@@ -16,10 +16,10 @@ use Rattle.lists.specs.Lists.{onOut}
 use Rattle.queue.specs.declared.Root.{Root}
 use Rattle.queue.specs.declared.CpuRunQueue.{CpuRunQueue}
 use Rattle.queue.specs.Queue.{rootOf}
-use Rattle.selection.specs.declared.BudgetTrees.{BudgetTrees}
-use Rattle.selection.specs.declared.SelectionParts.{SelectionParts}
-use Rattle.selection.specs.Leaves.{Leaves, leaves, onLeaves}
-use Rattle.selection.specs.Renewal.{moveAll, rootAt, withTrees, renewRoles, isEpoch, renew}
+use Rattle.renewal.specs.declared.BudgetTrees.{BudgetTrees}
+use Rattle.renewal.specs.declared.SelectionParts.{SelectionParts}
+use Rattle.renewal.specs.Leaves.{Leaves, leaves, onLeaves}
+use Rattle.renewal.specs.Renewal.{moveAll, rootAt, withTrees, renewRoles, isEpoch, renew}
 use Rattle.selection.specs.Peek.{selectionParts, withSelectionParts}
 use Rattle.sound_queue.specs.CountLaws.{count-most}
 use Rattle.sound_queue.specs.Forest.{Forest}

@@ -9,20 +9,20 @@ use borrow.Author.Tests.{le-ltb}
 use Rattle.refusal.specs.Answer.{value, refused}
 use Rattle.refusal.specs.Cases.{choose, given, ifLess}
 use Rattle.arbitration.specs.declared.CpuWindow.{CpuWindow}
-use Rattle.arbitration.specs.Config.{soundConfig}
+use Rattle.window_config.specs.Config.{soundConfig}
 use Rattle.thread.specs.declared.CpuIndex.{CpuIndex}
 use Rattle.thread.specs.declared.Link.the-variants as link
 use Rattle.thread.specs.declared.ThreadRecord.{ThreadRecord}
 use Rattle.rows.specs.Table.{Out, out}
 use Rattle.lists.specs.Lists.{onAnswer, onOut}
 use Rattle.queue.specs.declared.CpuRunQueue.{CpuRunQueue}
-use Rattle.selection.specs.declared.CandidateOption.{CandidateOption}
+use Rattle.demands.specs.declared.CandidateOption.{CandidateOption}
 use Rattle.selection.specs.declared.ReadyOption.the-variants as ready
 use Rattle.selection.specs.declared.Selection.{Selection}
-use Rattle.selection.specs.declared.SelectionParts.{SelectionParts}
-use Rattle.selection.specs.Leaves.{onLeaves}
-use Rattle.selection.specs.Demands.{ofCurrent}
-use Rattle.selection.specs.Renewal.{renew}
+use Rattle.renewal.specs.declared.SelectionParts.{SelectionParts}
+use Rattle.renewal.specs.Leaves.{onLeaves}
+use Rattle.demands.specs.Demands.{ofCurrent}
+use Rattle.renewal.specs.Renewal.{renew}
 use Rattle.selection.specs.Heads.{Chosen, noHeads, gatherHeads, leastOf}
 use Rattle.selection.specs.Peek.{Peeked, peeked, chosen, peekRunning, peekParts, selectionParts, withSelectionParts, restored, peekNext}
 use Rattle.sound_queue.specs.Sound.{Sound}

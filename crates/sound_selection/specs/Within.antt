@@ -7,15 +7,15 @@ use Rattle.order.specs.declared.Ordering.the-variants.{Less}
 use Rattle.order.specs.Order.{compareParts}
 use Rattle.algorithms.specs.declared.Wide.{Wide}
 use Rattle.arbitration.specs.declared.Candidate.{Candidate}
-use Rattle.arbitration.specs.declared.DispatchKey.{DispatchKey}
+use Rattle.dispatch_keys.specs.declared.DispatchKey.{DispatchKey}
 use Rattle.arbitration.specs.Key.{keyParts}
 use Rattle.selection.specs.declared.ReadyOption.{ReadyOption}
 use Rattle.selection.specs.declared.ReadyOption.the-variants as ready
 use Rattle.selection.specs.declared.ReadyThread.{ReadyThread}
-use Rattle.selection.specs.declared.PassOption.{PassOption}
-use Rattle.selection.specs.declared.PassOption.the-variants as pass
-use Rattle.selection.specs.declared.Gathered.{Gathered}
-use Rattle.selection.specs.Demands.{gathered, nothingGathered}
+use Rattle.demands.specs.declared.PassOption.{PassOption}
+use Rattle.demands.specs.declared.PassOption.the-variants as pass
+use Rattle.demands.specs.declared.Gathered.{Gathered}
+use Rattle.demands.specs.Demands.{gathered, nothingGathered}
 
 -- Less, or the same.
 pub data AtMost (a b : List ℕ) : Type 0 where

@@ -14,10 +14,10 @@ use Rattle.policy.specs.declared.SchedulingPolicy.the-variants as policy
 use Rattle.policy.specs.PolicyCases.{onPolicy}
 use Rattle.algorithms.specs.declared.Wide.{Wide}
 use Rattle.arbitration.specs.declared.Candidate.{Candidate}
-use Rattle.selection.specs.declared.PassOption.{PassOption}
-use Rattle.selection.specs.declared.PassOption.the-variants as pass
-use Rattle.selection.specs.declared.Gathered.{Gathered}
-use Rattle.selection.specs.Demands.{demandOf, either, joined, addDemand, comparePasses, lesserPass, onPass, lowestPass, gathered}
+use Rattle.demands.specs.declared.PassOption.{PassOption}
+use Rattle.demands.specs.declared.PassOption.the-variants as pass
+use Rattle.demands.specs.declared.Gathered.{Gathered}
+use Rattle.demands.specs.Demands.{demandOf, either, joined, addDemand, comparePasses, lesserPass, onPass, lowestPass, gathered}
 use Rattle.sound_selection.specs.Within.{AtMost, less, same, Implies, passParts, PassWithin, Within, alone}
 
 pub at-most-trans : {a b c : List ℕ} → AtMost a b → AtMost b c → AtMost a c

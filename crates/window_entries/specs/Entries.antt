@@ -4,9 +4,9 @@ use Prim.Native.Nat.{ℕ}
 use Rattle.refusal.specs.Answer.{Answer, value, refused}
 use Rattle.order.specs.declared.Ordering.{Ordering}
 use Rattle.order.specs.declared.Ordering.the-variants as ordering
-use Rattle.arbitration.specs.declared.ArbitrationConfig.{ArbitrationConfig}
+use Rattle.window_config.specs.declared.ArbitrationConfig.{ArbitrationConfig}
 use Rattle.arbitration.specs.declared.CpuWindow.{CpuWindow}
-use Rattle.arbitration.specs.Config.{newConfig}
+use Rattle.window_config.specs.Config.{newConfig}
 use Rattle.arbitration.specs.Calls.{With, with}
 use Rattle.window_words.specs.WindowWords.{configured, progressed}
 

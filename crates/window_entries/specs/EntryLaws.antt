@@ -4,38 +4,33 @@ use Prim.Native.Nat.{ℕ, _/_}
 use mathlib.Core.Path.{_≡_, refl, sym, _∙_, subst}
 use mathlib.Core.Bool.{Bool, true, false}
 use mathlib.Core.List.{List}
-use lib.Dec.{ltb}
 use Rattle.refusal.specs.declared.Refusal.{Refusal}
 use Rattle.refusal.specs.Answer.{Answer, value, refused, numberOf}
-use Rattle.refusal.specs.Cases.{choose, given, ifLess}
+use Rattle.refusal.specs.Cases.{choose, given}
 use Rattle.time.specs.declared.Deadline.{Deadline}
 use Rattle.time.specs.declared.Deadline.the-variants as deadlines
 use Rattle.time.specs.Time.{rises, periodEnd}
-use Rattle.policy.specs.declared.SchedulingParameters.{SchedulingParameters}
 use Rattle.budget.specs.declared.DeadlineAnswer.{DeadlineAnswer}
 use Rattle.budget.specs.declared.DeadlineAnswer.the-variants as deadline
 use Rattle.budget.specs.Answers.{deadlineAnswer}
-use Rattle.codec.specs.Codec.{parametersOf}
-use Rattle.arbitration.specs.declared.ArbitrationConfig.{ArbitrationConfig}
-use Rattle.arbitration.specs.declared.ArbitrationOrder.{ArbitrationOrder}
+use Rattle.window_config.specs.declared.ArbitrationConfig.{ArbitrationConfig}
+use Rattle.window_config.specs.declared.ArbitrationOrder.{ArbitrationOrder}
 use Rattle.arbitration.specs.declared.Candidate.{Candidate}
-use Rattle.arbitration.specs.declared.ConfigMade.{ConfigMade}
-use Rattle.arbitration.specs.declared.ConfigMade.the-variants as config
+use Rattle.window_config.specs.declared.ConfigMade.{ConfigMade}
+use Rattle.window_config.specs.declared.ConfigMade.the-variants as config
 use Rattle.arbitration.specs.declared.CpuWindow.{CpuWindow}
 use Rattle.arbitration.specs.declared.Demand.{Demand}
 use Rattle.arbitration.specs.declared.DispatchMode.{DispatchMode}
 use Rattle.arbitration.specs.declared.KeyAnswer.{KeyAnswer}
 use Rattle.arbitration.specs.declared.KeyAnswer.the-variants as key
 use Rattle.arbitration.specs.declared.KeyOption.{KeyOption}
-use Rattle.arbitration.specs.declared.Verdict.{Verdict}
-use Rattle.arbitration.specs.declared.Verdict.the-variants as verdict
 use Rattle.arbitration.specs.declared.WindowMade.{WindowMade}
 use Rattle.arbitration.specs.declared.WindowMade.the-variants as window
-use Rattle.arbitration.specs.Answers.{configMade, windowMade, verdictOf, keyAnswer}
-use Rattle.arbitration.specs.Config.{soundConfig}
-use Rattle.arbitration.specs.Window.{newWindow, refreshed, charged, protectionDeadline, nextDeadline}
+use Rattle.arbitration.specs.Answers.{configMade, windowMade, keyAnswer}
+use Rattle.window_config.specs.Config.{soundConfig}
+use Rattle.arbitration.specs.Window.{newWindow, refreshed, protectionDeadline, nextDeadline}
 use Rattle.arbitration.specs.Key.{keyOf}
-use Rattle.arbitration.specs.Calls.{With, with, judged, refreshCall, accountCall, periodDeadlineCall, protectionCall, keyCall, nextDeadlineCall}
+use Rattle.arbitration.specs.Calls.{With, with, judged, periodDeadlineCall, protectionCall, keyCall, nextDeadlineCall}
 use Rattle.window_words.specs.WindowWords.{modeFrom, configOf, windowOf, configured, progressed, demandOf, candidateOf}
 use Rattle.window_entries.specs.Entries.{Left, left, leftOf, storedOver, newConfigOf, configLeft, windowLeft}
 
@@ -58,22 +53,9 @@ refreshed-keeps : (w : CpuWindow) (now : ℕ) → (refreshed w now) .config ≡ 
 unfolding refreshed given
 refreshed-keeps w now = one-keeps w (rises (w .epoch) (now / w .config .«period_ns»)) _ w refl refl
 
-charged-keeps : (w : CpuWindow) (start end : ℕ) (p : SchedulingParameters) (m : DispatchMode) → (charged w start end p m) .config ≡ w .config
-unfolding charged
-charged-keeps w start end p m = refreshed-keeps w end
-
 judged-keeps : {A : Type 0} (w : CpuWindow) (x : With A) → Keeps w x → Keeps w (judged w x)
 unfolding judged
 judged-keeps w x h = choose-keeps w (soundConfig (w .config)) x (with (refused 5) w) h refl
-
-refresh-keeps : (now : ℕ) (w : CpuWindow) → Keeps w (refreshCall w now)
-unfolding refreshCall given
-refresh-keeps now w = judged-keeps w (with (value tt) (refreshed w now)) (refreshed-keeps w now)
-
-account-keeps : (start end : ℕ) (p : SchedulingParameters) (m : DispatchMode) (w : CpuWindow) → Keeps w (accountCall w start end p m)
-unfolding accountCall given ifLess
-account-keeps start end p m w =
-    judged-keeps w _ (choose-keeps w (ltb end start) (with (refused 7) w) (with (value tt) (charged w start end p m)) refl (charged-keeps w start end p m))
 
 period-keeps : (now : ℕ) (w : CpuWindow) → Keeps w (periodDeadlineCall w now)
 unfolding periodDeadlineCall given
@@ -108,19 +90,6 @@ kept before w call keeps {a} {v} made k =
     let same : Keeps (windowOf w) (with a v) = subst (λ x. Keeps (windowOf w) x) (sym made) (keeps (windowOf w)) in
     k ∙ stored-whole before (windowOf w) a v same ∙ (λ i. leftOf before (made i))
 
-module _ (w : List ℕ) {b v : CpuWindow} {a : Answer (Unit {0})} {y : Left (Unit {0})} where
-  pub refresh-left : (now : ℕ) → b ≡ windowOf w → with a v ≡ refreshCall b now → y ≡ storedOver tt (windowOf w) a v → y ≡ leftOf tt (refreshCall (windowOf w) now)
-  refresh-left now e h k =
-      let made : with a v ≡ refreshCall (windowOf w) now = rw (sym e) h in
-      kept tt w (λ u. refreshCall u now) (refresh-keeps now) made k
-
-  pub account-left : (start end : ℕ) (row : List ℕ) (tag : ℕ) {p : SchedulingParameters} {m : DispatchMode}
-      → b ≡ windowOf w → p ≡ parametersOf row → m ≡ modeFrom tag → with a v ≡ accountCall b start end p m → y ≡ storedOver tt (windowOf w) a v
-      → y ≡ leftOf tt (accountCall (windowOf w) start end (parametersOf row) (modeFrom tag))
-  account-left start end row tag {p} {m} e e₁ e₂ h k =
-      let made : with a v ≡ accountCall (windowOf w) start end (parametersOf row) (modeFrom tag) = rw (sym e, sym e₁, sym e₂) h in
-      kept tt w (λ u. accountCall u start end (parametersOf row) (modeFrom tag)) (account-keeps start end (parametersOf row) (modeFrom tag)) made k
-
 module _ (before : Deadline) (w : List ℕ) {b v : CpuWindow} {a : Answer Deadline} {y : Left Deadline} where
   pub period-left : (now : ℕ) → b ≡ windowOf w → with a v ≡ periodDeadlineCall b now → y ≡ storedOver before (windowOf w) a v → y ≡ leftOf before (periodDeadlineCall (windowOf w) now)
   period-left now e h k =
@@ -147,11 +116,6 @@ key-left before w {b} {v} {a} now row flags {c} {d} e e₁ e₂ h k =
     kept before w (λ u. keyCall u now (candidateOf row) (demandOf flags)) (key-keeps now (candidateOf row) (demandOf flags)) made k
 
 -- An accepted step's window and answer were stored, a refusal's number is told.
-module _ (w v : CpuWindow) {u : CpuWindow} {x : Verdict} where
-  pub step-accepted : x ≡ verdict.Accepted → u ≡ progressed w (v .epoch) (v .«priority_remaining_ns») (v .«protected_remaining_ns») → left 0 tt u ≡ storedOver tt w (verdictOf x) v
-  unfolding storedOver
-  step-accepted e h = rw (e, h) refl
-
 module _ (before : Deadline) (w v : CpuWindow) {u : CpuWindow} {x : DeadlineAnswer} where
   pub deadline-stored : {d after : Deadline} → x ≡ deadline.Deadline d → after ≡ d → u ≡ progressed w (v .epoch) (v .«priority_remaining_ns») (v .«protected_remaining_ns»)
       → left 0 after u ≡ storedOver before w (deadlineAnswer x) v
@@ -165,10 +129,6 @@ module _ (before : KeyOption) (w v : CpuWindow) {u : CpuWindow} {x : KeyAnswer} 
   key-stored e f h = rw (e, f, h) refl
 
 module _ (w v : CpuWindow) {r : Refusal} (n : ℕ) where
-  pub step-refused : {x : Verdict} → x ≡ verdict.Refused r → n ≡ numberOf r → left n tt w ≡ storedOver tt w (verdictOf x) v
-  unfolding storedOver
-  step-refused e f = rw (e, f) refl
-
   pub deadline-refused : (before : Deadline) {x : DeadlineAnswer} → x ≡ deadline.Refused r → n ≡ numberOf r → left n before w ≡ storedOver before w (deadlineAnswer x) v
   unfolding storedOver
   deadline-refused before e f = rw (e, f) refl
@@ -200,14 +160,10 @@ module _ (w : List ℕ) (g : ArbitrationConfig) {x : WindowMade} where
   window-refused n e h m f = rw (sym e, sym h, m, f) refl
 
 pub ruleset entries = (
-  refresh-left,
-  account-left,
   period-left,
   protection-left,
   next-left,
   key-left,
-  step-accepted,
-  step-refused,
   deadline-stored,
   deadline-refused,
   key-stored,

@@ -1,29 +1,37 @@
 // C calls on lent words, through which the Rust host compares CPU windows and dispatch keys with the kernel's source. Each is the call of its name on what the words
 // stand for. It answers document 01's number, 0 where the call was accepted; a refusal leaves what the lent words stand for as it was.
 ghost use mathlib.Core.Path.{_≡_};
-ghost use Rattle.codec.specs.Codec.{parametersOf, backendFrom};
+ghost use Rattle.refusal.specs.Cases.{choose};
+ghost use Rattle.time.specs.Time.{rises};
+ghost use Rattle.policy_words.specs.PolicyWords.{word, parametersOf, roleFrom, backendFrom, epochFrom, deadlineOf};
 ghost use Rattle.budget.specs.Answers.{deadlineAnswer};
-ghost use Rattle.arbitration.specs.Config.{preferring, acceptsBudget, admitted};
+ghost use Rattle.window_config.specs.Config.{soundConfig, preferring, acceptsBudget, admitted};
 ghost use Rattle.arbitration.specs.Key.{compareKeys};
-ghost use Rattle.arbitration.specs.Answers.{configMade, windowMade, verdictOf, keyAnswer};
-ghost use Rattle.arbitration.specs.Window.{newWindow};
+ghost use Rattle.arbitration.specs.Answers.{configMade, windowMade, keyAnswer};
+ghost use Rattle.arbitration.specs.Window.{newWindow, refreshed, usesAllowance, isProtected, charged};
 ghost use Rattle.arbitration.specs.Calls.{refreshCall, accountCall, periodDeadlineCall, protectionCall, keyCall, nextDeadlineCall};
-ghost use Rattle.window_words.specs.WindowWords.{modeFrom, orderOf, configOf, windowOf, configured, progressed, demandOf, candidateOf, dispatchKeyOf, keyOptionOf, deadlineOf};
+ghost use Rattle.window_words.specs.WindowWords.{modeFrom, orderOf, configOf, windowOf, configured, progressed, demandOf, candidateOf, dispatchKeyOf, keyOptionOf};
 ghost use Rattle.window_entries.specs.Entries.{left, leftOf, storedOver, newConfigOf, configLeft, windowLeft, orderingNumber};
-use arbitration::ArbitrationConfig;
-use arbitration::ConfigMade;
 use arbitration::CpuWindow;
 use arbitration::KeyAnswer;
-use arbitration::Verdict;
 use arbitration::WindowDeadline;
 use arbitration::WindowKey;
 use arbitration::WindowMade;
-use arbitration::WindowStep;
-use arbitration::compare_keys;
 use budget::DeadlineAnswer;
-use codec::backend_from;
-use codec::parameters_of;
+use dispatch_keys::compare_keys;
 use order::Ordering;
+use policy::BudgetParameters;
+use policy_words::backend_from;
+use policy_words::epoch_from;
+use policy_words::parameters_of;
+use policy_words::words_of_deadline;
+use time::Epoch;
+use time::charge_of;
+use time::epoch_of;
+use time::epoch_rises;
+use time::saturating_sub;
+use window_config::ArbitrationConfig;
+use window_config::ConfigMade;
 use window_words::candidate_of;
 use window_words::config_of;
 use window_words::demand_of;
@@ -33,7 +41,6 @@ use window_words::window_of;
 use window_words::with_config;
 use window_words::with_progress;
 use window_words::with_window;
-use window_words::words_of_deadline;
 use window_words::words_of_key_option;
 
 // ArbitrationConfig::new, on words 0 to 6 of a window.
@@ -125,31 +132,122 @@ fn store_progress(window: &mut [u64; 12], after: CpuWindow)
     );
 }
 
-// The window of an accepted step stored.
-fn store_step(window: &mut [u64; 12], step: WindowStep) -> u64
-    ensures { λ r. ⌜ left r tt (windowOf (now (window .exit))) ≡ storedOver tt (windowOf (now (window .entry))) (verdictOf (step .answer)) (step .window) ⌝ }
+// Whether `ArbitrationConfig::new` would take the configuration. In this order the compiler keeps a branch for each test, which is fewer instructions than to gather them.
+fn is_sound(w: [u64; 12]) -> bool
+    ensures { λ r. ⌜ r ≡ soundConfig (configOf w) ⌝ }
 {
-    let answer = step.answer;
-    let after = step.window;
-    match answer {
-        Verdict::Accepted => {
-            store_progress(window, after);
-            0
-        }
-        Verdict::Refused(refusal) => refusal.number(),
+    if (w[4] % 256) as u8 <= (w[3] % 256) as u8 {
+        return false;
     }
+    if (w[5] % 256) as u8 <= (w[4] % 256) as u8 {
+        return false;
+    }
+    if (w[6] % 256) as u8 <= (w[5] % 256) as u8 {
+        return false;
+    }
+    if w[0] <= w[2] {
+        return false;
+    }
+    if w[2] == 0 {
+        return false;
+    }
+    if w[0] - w[2] <= w[1] {
+        return false;
+    }
+    if BudgetParameters::MAX_PERIOD_NS < w[0] {
+        return false;
+    }
+    true
 }
 
-// CpuWindow::refresh
+// Whether an epoch is later than the window's.
+fn is_later(w: [u64; 12], epoch: u64) -> bool
+    ensures { λ r. ⌜ r ≡ rises (epochFrom (word w 8) (word w 9)) epoch ⌝ }
+{
+    epoch_rises(epoch_from(w[8], w[9]), epoch)
+}
+
+// CpuWindow::refresh, by the words that it bears on: a window that stays in its epoch is not stored.
 #[no_mangle]
 pub extern "C" fn window_refresh(window: &mut [u64; 12], now_ns: u64) -> u64
     ensures { λ r. ⌜ left r tt (windowOf (now (window .exit))) ≡ leftOf tt (refreshCall (windowOf (now (window .entry))) «now_ns») ⌝ }
 {
-    let before = window_of(*window);
-    store_step(window, before.refresh(now_ns))
+    let words = *window;
+    if !is_sound(words) {
+        return 5;
+    }
+    let epoch = epoch_of(now_ns, words[0]);
+    if !is_later(words, epoch) {
+        return 0;
+    }
+    *window = with_progress(words, Epoch::Some(epoch), words[1], words[2]);
+    0
 }
 
-// CpuWindow::account_dispatch
+// The window refreshed to a reading.
+fn refreshed_words(w: [u64; 12], now_ns: u64) -> [u64; 12]
+    ensures { λ r. ⌜ windowOf r ≡ refreshed (windowOf w) «now_ns» ⌝ }
+{
+    let epoch = epoch_of(now_ns, w[0]);
+    if !is_later(w, epoch) {
+        return w;
+    }
+    with_progress(w, Epoch::Some(epoch), w[1], w[2])
+}
+
+// Whether the allowance carries an interval, by the tags of its mode and of the thread's role.
+fn takes_allowance(mode: u64, role: u64) -> bool
+    ensures { λ r. ⌜ r ≡ usesAllowance (modeFrom mode) (roleFrom role) ⌝ }
+{
+    if mode == 1 {
+        return true;
+    }
+    if role == 1 {
+        return true;
+    }
+    false
+}
+
+// Whether the floor carries it.
+fn takes_floor(role: u64) -> bool
+    ensures { λ r. ⌜ r ≡ isProtected (roleFrom role) ⌝ }
+{
+    if role == 0 {
+        return false;
+    }
+    if role == 1 {
+        return false;
+    }
+    true
+}
+
+fn share(taken: bool, charge: u64) -> u64
+    ensures { λ r. ⌜ r ≡ choose taken charge 0 ⌝ }
+{
+    if taken {
+        return charge;
+    }
+    0
+}
+
+// The window charged with an interval.
+fn charged_words(w: [u64; 12], start: u64, end: u64, row: [u64; 32], mode: u64) -> [u64; 12]
+    ensures { λ r. ⌜ windowOf r ≡ charged (windowOf w) start end (parametersOf row) (modeFrom mode) ⌝ }
+{
+    let fresh = refreshed_words(w, end);
+    let charge = charge_of(start, end, fresh[0]);
+    let allowance = share(takes_allowance(mode, row[3]), charge);
+    let floor = share(takes_floor(row[3]), charge);
+    let epoch = epoch_from(fresh[8], fresh[9]);
+    with_progress(
+        fresh,
+        epoch,
+        saturating_sub(fresh[10], allowance),
+        saturating_sub(fresh[11], floor),
+    )
+}
+
+// CpuWindow::account_dispatch, by the words that it bears on.
 #[no_mangle]
 pub extern "C" fn window_account_dispatch(
     window: &mut [u64; 12],
@@ -160,13 +258,15 @@ pub extern "C" fn window_account_dispatch(
 ) -> u64
     ensures { λ r. ⌜ left r tt (windowOf (now (window .exit))) ≡ leftOf tt (accountCall (windowOf (now (window .entry))) start end (parametersOf (now (row .entry))) (modeFrom mode)) ⌝ }
 {
-    let before = window_of(*window);
-    let parameters = parameters_of(*row);
-    let its_mode = mode_from(mode);
-    store_step(
-        window,
-        before.account_dispatch(start, end, parameters, its_mode),
-    )
+    let words = *window;
+    if !is_sound(words) {
+        return 5;
+    }
+    if end < start {
+        return 7;
+    }
+    *window = charged_words(words, start, end, *row, mode);
+    0
 }
 
 // The window and the deadline of an accepted step stored.

@@ -5,19 +5,17 @@ use mathlib.Core.Bool.{Bool, true, false}
 use mathlib.Core.List.{List}
 use Rattle.refusal.specs.Cases.{ifEqual}
 use Rattle.time.specs.declared.Epoch.{Epoch}
-use Rattle.time.specs.declared.Deadline.{Deadline}
-use Rattle.time.specs.declared.Deadline.the-variants as deadline
-use Rattle.arbitration.specs.declared.ArbitrationOrder.{ArbitrationOrder}
-use Rattle.arbitration.specs.declared.ArbitrationConfig.{ArbitrationConfig}
+use Rattle.window_config.specs.declared.ArbitrationOrder.{ArbitrationOrder}
+use Rattle.window_config.specs.declared.ArbitrationConfig.{ArbitrationConfig}
 use Rattle.arbitration.specs.declared.CpuWindow.{CpuWindow}
 use Rattle.arbitration.specs.declared.Demand.{Demand}
 use Rattle.arbitration.specs.declared.Candidate.{Candidate}
-use Rattle.arbitration.specs.declared.DispatchKey.{DispatchKey}
+use Rattle.dispatch_keys.specs.declared.DispatchKey.{DispatchKey}
 use Rattle.arbitration.specs.declared.DispatchMode.{DispatchMode}
 use Rattle.arbitration.specs.declared.DispatchMode.the-variants as mode
 use Rattle.arbitration.specs.declared.KeyOption.{KeyOption}
 use Rattle.arbitration.specs.declared.KeyOption.the-variants as key
-use Rattle.codec.specs.Codec.{word, epochFrom, parametersOf}
+use Rattle.policy_words.specs.PolicyWords.{word, epochFrom, parametersOf}
 
 unfoldable pub flagFrom : ℕ → Bool
 flagFrom n = ifEqual n 0 false true
@@ -107,7 +105,3 @@ dispatchKeyOf w =
 -- A key of nine words: 0 none, else the key with the mode of word 1.
 unfoldable pub keyOptionOf : List ℕ → KeyOption
 keyOptionOf w = ifEqual (word w 0) 0 key.None (key.Some (dispatchKeyOf w) (modeFrom (word w 1)))
-
--- Two words: 0 none, else the time.
-unfoldable pub deadlineOf : List ℕ → Deadline
-deadlineOf w = ifEqual (word w 0) 0 deadline.None (deadline.Some (word w 1))

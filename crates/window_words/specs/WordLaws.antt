@@ -6,20 +6,18 @@ use mathlib.Core.List.{List, [], _∷_}
 use lib.ListN.{length, set}
 use Rattle.refusal.specs.Cases.{choose, ifEqual}
 use Rattle.time.specs.declared.Epoch.{Epoch}
-use Rattle.time.specs.declared.Deadline.{Deadline}
-use Rattle.time.specs.declared.Deadline.the-variants as deadline
 use Rattle.policy.specs.declared.SchedulingParameters.{SchedulingParameters}
-use Rattle.arbitration.specs.declared.ArbitrationConfig.{ArbitrationConfig}
-use Rattle.arbitration.specs.declared.ArbitrationOrder.{ArbitrationOrder}
+use Rattle.window_config.specs.declared.ArbitrationConfig.{ArbitrationConfig}
+use Rattle.window_config.specs.declared.ArbitrationOrder.{ArbitrationOrder}
 use Rattle.arbitration.specs.declared.CpuWindow.{CpuWindow}
-use Rattle.arbitration.specs.declared.DispatchKey.{DispatchKey}
+use Rattle.dispatch_keys.specs.declared.DispatchKey.{DispatchKey}
 use Rattle.arbitration.specs.declared.DispatchMode.{DispatchMode}
 use Rattle.arbitration.specs.declared.DispatchMode.the-variants as mode
 use Rattle.arbitration.specs.declared.KeyOption.{KeyOption}
 use Rattle.arbitration.specs.declared.KeyOption.the-variants as key
-use Rattle.codec.specs.Codec.{word, epochFrom}
-use Rattle.codec.specs.RowLaws.{by-words}
-use Rattle.window_words.specs.WindowWords.{flagFrom, modeFrom, orderOf, configOf, windowOf, configured, progressed, dispatchKeyOf, keyOptionOf, deadlineOf}
+use Rattle.policy_words.specs.PolicyWords.{word, epochFrom}
+use Rattle.policy_words.specs.ByWords.{by-words}
+use Rattle.window_words.specs.WindowWords.{flagFrom, modeFrom, orderOf, configOf, windowOf, configured, progressed, dispatchKeyOf, keyOptionOf}
 
 pub set-flag : {b : Bool} → b ≡ true → flagFrom 1 ≡ b
 unfolding flagFrom ifEqual choose
@@ -50,15 +48,6 @@ module _ {m : DispatchMode} where
   unfolding modeFrom ifEqual choose
   borrow-word h = sym h
 
-module _ {d : Deadline} where
-  pub no-deadline-words : d ≡ deadline.None → deadlineOf (0 ∷ 0 ∷ []) ≡ d
-  unfolding deadlineOf ifEqual choose
-  no-deadline-words h = sym h
-
-  pub deadline-words : {n : ℕ} → d ≡ deadline.Some n → deadlineOf (1 ∷ n ∷ []) ≡ d
-  unfolding deadlineOf ifEqual choose
-  deadline-words h = sym h
-
 module _ {k : KeyOption} where
   pub no-key-words : k ≡ key.None → keyOptionOf (0 ∷ 0 ∷ 0 ∷ 0 ∷ 0 ∷ 0 ∷ 0 ∷ 0 ∷ 0 ∷ []) ≡ k
   unfolding keyOptionOf ifEqual choose
@@ -67,7 +56,7 @@ module _ {k : KeyOption} where
   pub key-words : {x : DispatchKey} {m : DispatchMode} (w : List ℕ) → k ≡ key.Some x m → keyOptionOf w ≡ key.Some x m → keyOptionOf w ≡ k
   key-words w h e = e ∙ sym h
 
-pub ruleset word-laws = (set-flag, clear-flag, strict-word, priority-word, protected-word, ordinary-word, borrow-word, no-deadline-words, deadline-words, no-key-words, key-words)
+pub ruleset word-laws = (set-flag, clear-flag, strict-word, priority-word, protected-word, ordinary-word, borrow-word, no-key-words, key-words)
 
 pub config-stored : (r : List ℕ) (c : ArbitrationConfig) (priority budget fair borrow prefer : ℕ)
     → length r ≡ 12

@@ -1,22 +1,21 @@
 // A CPU window as a row of 12 words, and the words of what its calls are handed and answer. Nothing here is partial: every row stands for some value.
 ghost use mathlib.Core.Path.{_≡_};
-ghost use Rattle.window_words.specs.WindowWords.{flagFrom, modeFrom, orderOf, configOf, windowOf, configured, progressed, demandOf, candidateOf, dispatchKeyOf, keyOptionOf, deadlineOf};
+ghost use Rattle.window_words.specs.WindowWords.{flagFrom, modeFrom, orderOf, configOf, windowOf, configured, progressed, demandOf, candidateOf, dispatchKeyOf, keyOptionOf};
 use algorithms::Wide;
-use arbitration::ArbitrationConfig;
-use arbitration::ArbitrationOrder;
 use arbitration::Candidate;
 use arbitration::CpuWindow;
 use arbitration::Demand;
-use arbitration::DispatchKey;
 use arbitration::DispatchMode;
 use arbitration::KeyOption;
-use codec::byte_from;
-use codec::epoch_from;
-use codec::parameters_of;
-use codec::word_of_byte;
-use codec::words_of_epoch;
-use time::Deadline;
+use dispatch_keys::DispatchKey;
+use policy_words::byte_from;
+use policy_words::epoch_from;
+use policy_words::parameters_of;
+use policy_words::word_of_byte;
+use policy_words::words_of_epoch;
 use time::Epoch;
+use window_config::ArbitrationConfig;
+use window_config::ArbitrationOrder;
 
 fn flag_from(w: u64) -> bool
     ensures { λ r. ⌜ r ≡ flagFrom w ⌝ }
@@ -242,14 +241,5 @@ pub fn words_of_key_option(key: KeyOption) -> [u64; 9]
     match key {
         KeyOption::None => [0, 0, 0, 0, 0, 0, 0, 0, 0],
         KeyOption::Some(its, mode) => words_of_key(its, mode),
-    }
-}
-
-pub fn words_of_deadline(deadline: Deadline) -> [u64; 2]
-    ensures { λ w. ⌜ deadlineOf w ≡ deadline ⌝ }
-{
-    match deadline {
-        Deadline::None => [0, 0],
-        Deadline::Some(n) => [1, n],
     }
 }

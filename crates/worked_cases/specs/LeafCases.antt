@@ -12,15 +12,15 @@ use Rattle.policy.specs.declared.SchedulingRole.the-variants as role
 use Rattle.policy.specs.Parameters.{ofBudget, ofFifo}
 use Rattle.budget.specs.declared.BudgetRuntime.{BudgetRuntime}
 use Rattle.budget.specs.Runtime as budget
-use Rattle.arbitration.specs.declared.ArbitrationOrder.{ArbitrationOrder}
-use Rattle.arbitration.specs.declared.ArbitrationConfig.{ArbitrationConfig}
+use Rattle.window_config.specs.declared.ArbitrationOrder.{ArbitrationOrder}
+use Rattle.window_config.specs.declared.ArbitrationConfig.{ArbitrationConfig}
 use Rattle.arbitration.specs.declared.CpuWindow.{CpuWindow}
 use Rattle.arbitration.specs.declared.Demand.{Demand}
 use Rattle.arbitration.specs.declared.Candidate.{Candidate}
 use Rattle.arbitration.specs.declared.DispatchMode.the-variants as mode
 use Rattle.arbitration.specs.declared.KeyOption.{KeyOption}
 use Rattle.arbitration.specs.declared.KeyOption.the-variants as key
-use Rattle.arbitration.specs.Config.{newConfig}
+use Rattle.window_config.specs.Config.{newConfig}
 use Rattle.arbitration.specs.Window.{refreshed, protectionDeadline, dueAt}
 use Rattle.arbitration.specs.Key.{keyOf}
 use Rattle.arbitration.specs.Calls as call

@@ -10,5 +10,7 @@ pub mod TreeCases
 pub mod QueueCases
 -- The rows about selection.
 pub mod SelectionCases
+-- The rows about turns, accounting, the switch rule and deadlines.
+pub mod RuntimeCases
 -- The table of the ● cases, with one proof over it.
 pub mod WorkedCases

@@ -16,11 +16,11 @@ use Rattle.queue.specs.declared.CpuRunQueue.{CpuRunQueue}
 use Rattle.queue.specs.declared.Root.{Root}
 use Rattle.queue.specs.Queue.{newQueue, marked}
 use Rattle.queue.specs.Samples.{cpu, enqueueAt, Left, leftBy}
-use Rattle.selection.specs.declared.CandidateOption.the-variants as candidate
-use Rattle.selection.specs.declared.PassOption.{PassOption}
-use Rattle.selection.specs.declared.PassOption.the-variants as pass
+use Rattle.demands.specs.declared.CandidateOption.the-variants as candidate
+use Rattle.demands.specs.declared.PassOption.{PassOption}
+use Rattle.demands.specs.declared.PassOption.the-variants as pass
 use Rattle.selection.specs.declared.Selection.{Selection}
-use Rattle.selection.specs.Renewal.{withTrees}
+use Rattle.renewal.specs.Renewal.{withTrees}
 use Rattle.selection.specs.Peek.{Peeked, peeked, peekNext}
 use Rattle.selection.specs.Samples.{window, spentWindow, badWindow, six, budgeted, fair, running, runningFair, lastAt, selected, answerOf, windowOf, queueOf, tableOf, named, lowest}
 use Rattle.worked_cases.specs.Rows.{Row, row, bit}

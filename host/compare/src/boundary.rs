@@ -1,6 +1,6 @@
 //! Every boundary value with every other, thinned out evenly where the product is too large.
 
-use kernel::oracle::{Budget, Config, Runtime};
+use kernel::oracle::{Budget, Config, Params, Runtime};
 
 use tables::product::{Digits, each};
 use tables::tally::Tally;
@@ -12,7 +12,26 @@ fn parameters(tally: &mut Tally, limit: u128) {
     for value in 0..=u16::MAX {
         tally.weight_new(value);
     }
+    for value in 0..=u8::MAX {
+        tally.priority_new(value);
+    }
+    tally.constants();
     tally.params_idle();
+    each(limit, |p| {
+        let (policy, band, role) = (p.policy(), p.byte(), p.role());
+        let (weight, quantum, backend) = (p.weight(), p.quantum(), p.backend());
+        let period = p.period();
+        let budget = p.budget_about(period);
+        tally.params_read(Params {
+            policy,
+            band,
+            role,
+            weight,
+            quantum,
+            backend,
+            budget,
+        });
+    });
     each(limit, |p| {
         let period = p.period();
         let budget = p.budget(period);
@@ -78,6 +97,7 @@ fn runtimes(tally: &mut Tally, limit: u128) {
             burst: 1,
         };
         let runtime = p.runtime(end, budget.unwrap_or(none));
+        tally.runtime_same_kind(runtime, params);
         tally.runtime_account(runtime, params, start, end);
         tally.runtime_epoch_refresh(runtime, end, params);
         tally.runtime_finish_turn(runtime, params);

@@ -1,7 +1,9 @@
-//! The port's calls on lent words, of its crates record_entries and window_entries. What the words stand for: crates/codec/specs/Codec.antt for a row,
-//! crates/window_words/specs/WindowWords.antt and crates/record_entries/specs/RecordWords.antt for the others.
+//! The port's calls on lent words, of its crates record_entries and window_entries. What the words stand for: crates/policy_words/specs/PolicyWords.antt for
+//! parameters and runtime in a row, crates/window_words/specs/WindowWords.antt and crates/record_entries/specs/RecordWords.antt for the others.
 
 pub type Row = [u64; 32];
+pub type ParametersWords = [u64; 11];
+pub type RuntimeWords = [u64; 5];
 pub type WindowWords = [u64; 12];
 pub type DemandWords = [u64; 5];
 pub type KeyWords = [u64; 9];
@@ -18,18 +20,28 @@ unsafe extern "C" {
         answer: &mut BudgetWords,
     ) -> u64;
     pub safe fn thread_weight_new(value: u16) -> u16;
-    pub safe fn policy_class_and_priority(row: &Row, answer: &mut [u64; 2]) -> u64;
+    pub safe fn thread_priority_new(value: u8) -> u8;
+    pub safe fn policy_constants(answer: &mut [u64; 6]);
+    pub safe fn policy_fifo(priority: u8, answer: &mut [u64; 2]);
+    pub safe fn policy_fair(answer: &mut [u64; 2]);
+    pub safe fn policy_class_and_priority(tag: u64, priority: u64, answer: &mut [u64; 2]) -> u64;
+    pub safe fn parameters_read(row: &Row, answer: &mut ParametersWords);
     pub safe fn parameters_fair(
-        row: &mut Row,
+        answer: &mut ParametersWords,
         weight: u16,
         quantum_ns: u64,
         band: u8,
         role: u64,
         backend: u64,
     ) -> u64;
-    pub safe fn parameters_budget(row: &mut Row, budget: &BudgetWords, band: u8, role: u64);
-    pub safe fn parameters_fifo(row: &mut Row, priority: u8, band: u8, role: u64);
-    pub safe fn parameters_idle(row: &mut Row);
+    pub safe fn parameters_budget(
+        answer: &mut ParametersWords,
+        budget: &BudgetWords,
+        band: u8,
+        role: u64,
+    );
+    pub safe fn parameters_fifo(answer: &mut ParametersWords, priority: u8, band: u8, role: u64);
+    pub safe fn parameters_idle(answer: &mut ParametersWords);
 
     pub safe fn budget_new(runtime: &mut BudgetRuntimeWords, budget: &BudgetWords) -> u64;
     pub safe fn budget_refresh(
@@ -63,17 +75,24 @@ unsafe extern "C" {
         answer: &mut [u64; 5],
     ) -> u64;
 
-    pub safe fn runtime_new(row: &mut Row, pass_high: u64, pass_low: u64, remaining_ns: u64)
-    -> u64;
-    pub safe fn runtime_account(row: &mut Row, start: u64, end: u64) -> u64;
-    pub safe fn runtime_epoch_refresh(row: &mut Row, now_ns: u64) -> u64;
-    pub safe fn runtime_finish_turn(row: &mut Row) -> u64;
+    pub safe fn runtime_new(
+        row: &Row,
+        pass_high: u64,
+        pass_low: u64,
+        remaining_ns: u64,
+        answer: &mut RuntimeWords,
+    ) -> u64;
+    pub safe fn runtime_account(row: &Row, start: u64, end: u64, answer: &mut RuntimeWords) -> u64;
+    pub safe fn runtime_epoch_refresh(row: &Row, now_ns: u64, answer: &mut RuntimeWords) -> u64;
+    pub safe fn runtime_finish_turn(row: &Row, answer: &mut RuntimeWords) -> u64;
+    pub safe fn runtime_same_kind(row: &Row) -> bool;
     pub safe fn runtime_candidate_key(row: &Row, turn: u64, answer: &mut [u64; 3]);
     pub safe fn runtime_next_deadline(
-        row: &mut Row,
+        row: &Row,
         now_ns: u64,
         competition: bool,
         borrow: bool,
+        after: &mut RuntimeWords,
         answer: &mut DeadlineWords,
     ) -> u64;
 

@@ -59,6 +59,46 @@ pub trait Checks {
         self.compare("SchedulingPolicy::priority", policy, given, wanted);
     }
 
+    fn priority_new(&mut self, value: u8) {
+        let (given, wanted) = (port::priority_new(value), oracle::priority_new(value));
+        self.compare("ThreadPriority::new", value, given, wanted);
+        let (given, wanted) = (port::policy_fifo(value), oracle::policy_fifo(value));
+        self.compare("SchedulingPolicy::fifo", value, given, wanted);
+    }
+
+    fn constants(&mut self) {
+        let (given, wanted) = (port::constants(), expected::constants());
+        self.compare("constants of policy.rs", (), given, wanted);
+        let (given, wanted) = (port::policy_fair(), oracle::policy_fair());
+        self.compare("SchedulingPolicy::fair", (), given, wanted);
+    }
+
+    /// The seven readers, on parameters of any value.
+    fn params_read(&mut self, params: Params) {
+        let (given, wanted) = (port::params_read(params), oracle::params_read(params));
+        let name = "SchedulingParameters::policy";
+        self.compare(name, params, given.policy, wanted.policy);
+        let name = "SchedulingParameters::band";
+        self.compare(name, params, given.band, wanted.band);
+        let name = "SchedulingParameters::role";
+        self.compare(name, params, given.role, wanted.role);
+        let name = "SchedulingParameters::weight";
+        self.compare(name, params, given.weight, wanted.weight);
+        let name = "SchedulingParameters::quantum_ns";
+        self.compare(name, params, given.quantum, wanted.quantum);
+        let name = "SchedulingParameters::fair_backend";
+        self.compare(name, params, given.backend, wanted.backend);
+        let name = "SchedulingParameters::budget_parameters";
+        self.compare(name, params, given.budget, wanted.budget);
+    }
+
+    fn runtime_same_kind(&mut self, runtime: Runtime, params: Params) {
+        let given = port::runtime_same_kind(runtime, params);
+        let wanted = expected::kinds_agree(runtime, params);
+        let input = (runtime, params);
+        self.compare("same_kind, by PolicyRuntime::account", input, given, wanted);
+    }
+
     fn params_idle(&mut self) {
         let wanted = oracle::params_idle();
         self.compare(

@@ -101,6 +101,32 @@ pub fn policy_runtime_new(params: Params, fair: Runtime) -> Answer<Runtime> {
     }
 }
 
+/// What the source makes of the kinds: given a sound budget, `account` takes an empty interval where they agree, and nothing else.
+pub fn kinds_agree(runtime: Runtime, params: Params) -> bool {
+    let sound = Budget {
+        budget: 1,
+        period: 1,
+        burst: 1,
+    };
+    let params = Params {
+        budget: Some(sound),
+        ..params
+    };
+    matches!(runtime_account(runtime, params, 0, 0), Ok((_, true)))
+}
+
+/// The constants, in the order of the port's answer.
+pub fn constants() -> [u64; 6] {
+    [
+        HIGHEST_PRIORITY.into(),
+        NORMAL_PRIORITY.into(),
+        LOWEST_PRIORITY.into(),
+        DEFAULT_WEIGHT.into(),
+        MAX_WEIGHT.into(),
+        MAX_PERIOD_NS,
+    ]
+}
+
 fn same_kind(runtime: Runtime, policy: Policy) -> bool {
     matches!(
         (runtime, policy),

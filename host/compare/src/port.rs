@@ -70,31 +70,48 @@ fn class_and_priority(policy: Policy) -> (u64, [u64; 2]) {
         policy,
         ..params_idle()
     };
+    let [tag, priority, ..] = row_words(params, Runtime::Idle);
     let mut answer = [UNTOUCHED; 2];
-    let row = row_words(params, Runtime::Idle);
-    let class = calls::policy_class_and_priority(&row, &mut answer);
+    let class = calls::policy_class_and_priority(tag, priority, &mut answer);
     (class, answer)
 }
 
-/// A row of parameters that no constructor makes, so that each part must be put in its place.
-fn unwanted() -> calls::Row {
-    let params = Params {
-        policy: Policy::Budget,
-        band: 77,
-        role: Role::Protected,
-        weight: 1,
-        quantum: 1,
-        backend: Backend::RoundRobin,
-        budget: None,
-    };
-    row_words(params, Runtime::Idle)
+pub fn priority_new(value: u8) -> u8 {
+    calls::thread_priority_new(value)
 }
 
-/// The parameters that a call stores in a row.
-fn constructed(call: impl FnOnce(&mut calls::Row)) -> Params {
-    let mut row = unwanted();
-    call(&mut row);
-    row_parts(&row).0
+pub fn constants() -> [u64; 6] {
+    let mut answer = [UNTOUCHED; 6];
+    calls::policy_constants(&mut answer);
+    answer
+}
+
+/// The policy that a call stores.
+fn policy_made(call: impl FnOnce(&mut [u64; 2])) -> Policy {
+    let mut answer = [UNTOUCHED; 2];
+    call(&mut answer);
+    let mut words = [0; 11];
+    words[0..2].copy_from_slice(&answer);
+    parameters_of(words).policy
+}
+
+pub fn policy_fifo(priority: u8) -> Policy {
+    policy_made(|answer| calls::policy_fifo(priority, answer))
+}
+
+pub fn policy_fair() -> Policy {
+    policy_made(|answer| calls::policy_fair(answer))
+}
+
+/// The parameters that a call stores.
+fn constructed(call: impl FnOnce(&mut calls::ParametersWords)) -> Params {
+    let mut words = [UNTOUCHED; 11];
+    call(&mut words);
+    parameters_of(words)
+}
+
+pub fn params_read(params: Params) -> Params {
+    constructed(|answer| calls::parameters_read(&row_words(params, Runtime::Idle), answer))
 }
 
 pub fn params_fair(
@@ -104,25 +121,25 @@ pub fn params_fair(
     role: Role,
     backend: Backend,
 ) -> Option<Params> {
-    let mut row = unwanted();
+    let mut words = [UNTOUCHED; 11];
     let (role, backend) = (role_word(role), backend_word(backend));
-    let made = calls::parameters_fair(&mut row, weight, quantum, band, role, backend);
+    let made = calls::parameters_fair(&mut words, weight, quantum, band, role, backend);
     let made = flag_of(made);
-    assert!(made || row == unwanted(), "parameters that were not made");
-    made.then(|| row_parts(&row).0)
+    assert!(made || words == [UNTOUCHED; 11], "parameters not made");
+    made.then(|| parameters_of(words))
 }
 
 pub fn params_budget(budget: Budget, band: u8, role: Role) -> Params {
     let words = budget_words(budget);
-    constructed(|row| calls::parameters_budget(row, &words, band, role_word(role)))
+    constructed(|answer| calls::parameters_budget(answer, &words, band, role_word(role)))
 }
 
 pub fn params_fifo(priority: u8, band: u8, role: Role) -> Params {
-    constructed(|row| calls::parameters_fifo(row, priority, band, role_word(role)))
+    constructed(|answer| calls::parameters_fifo(answer, priority, band, role_word(role)))
 }
 
 pub fn params_idle() -> Params {
-    constructed(|row| calls::parameters_idle(row))
+    constructed(|answer| calls::parameters_idle(answer))
 }
 
 /// Calls with a budget runtime's lent words.
@@ -217,27 +234,14 @@ pub fn budget_reconfigure(runtime: BudgetRt, old: Budget, new: Budget) -> Answer
     )
 }
 
-/// Calls with a record's lent row, whose parameters must stay as they are.
-fn on_row(
-    params: Params,
-    runtime: Runtime,
-    call: impl FnOnce(&mut calls::Row) -> u64,
-) -> (u64, Runtime) {
-    let mut row = row_words(params, runtime);
-    let number = call(&mut row);
-    let (same, after) = row_parts(&row);
-    assert_eq!(same, params, "the parameters of a row");
-    assert!(number == 0 || after == runtime, "a runtime after a refusal");
-    (number, after)
-}
-
+/// Calls with the row of these parameters and this runtime, and gives the runtime that it answers.
 fn ran(
     params: Params,
     runtime: Runtime,
-    call: impl FnOnce(&mut calls::Row) -> u64,
+    call: impl FnOnce(&calls::Row, &mut calls::RuntimeWords) -> u64,
 ) -> Answer<Runtime> {
-    let (number, after) = on_row(params, runtime, call);
-    verdict(number).map(|()| after)
+    let row = row_words(params, runtime);
+    answered(|answer| call(&row, answer), runtime_of)
 }
 
 pub fn runtime_new(params: Params, fair: Runtime) -> Answer<Runtime> {
@@ -245,21 +249,25 @@ pub fn runtime_new(params: Params, fair: Runtime) -> Answer<Runtime> {
         panic!("what a fair thread starts with");
     };
     let [high, low] = halves(pass);
-    ran(params, Runtime::Idle, |row| {
-        calls::runtime_new(row, high, low, remaining)
+    ran(params, Runtime::Idle, |row, answer| {
+        calls::runtime_new(row, high, low, remaining, answer)
     })
 }
 
 pub fn runtime_account(runtime: Runtime, params: Params, start: u64, end: u64) -> Answer<Runtime> {
-    ran(params, runtime, |row| {
-        calls::runtime_account(row, start, end)
+    ran(params, runtime, |row, answer| {
+        calls::runtime_account(row, start, end, answer)
     })
 }
 
 pub fn runtime_epoch_refresh(runtime: Runtime, now: u64, params: Params) -> Answer<Runtime> {
-    ran(params, runtime, |row| {
-        calls::runtime_epoch_refresh(row, now)
+    ran(params, runtime, |row, answer| {
+        calls::runtime_epoch_refresh(row, now, answer)
     })
+}
+
+pub fn runtime_same_kind(runtime: Runtime, params: Params) -> bool {
+    calls::runtime_same_kind(&row_words(params, runtime))
 }
 
 pub fn runtime_candidate_key(runtime: Runtime, params: Params, turn: u64) -> (u128, u64) {
@@ -275,22 +283,18 @@ pub fn runtime_next_deadline(
     competition: bool,
     borrow: bool,
 ) -> Answer<(Runtime, Option<u64>)> {
-    let mut after = runtime;
-    let deadline = answered(
-        |answer| {
-            let (number, left) = on_row(params, runtime, |row| {
-                calls::runtime_next_deadline(row, now, competition, borrow, answer)
-            });
-            after = left;
-            number
-        },
-        option_of,
-    );
-    deadline.map(|deadline| (after, deadline))
+    let mut due = [UNTOUCHED; 2];
+    let after = ran(params, runtime, |row, after| {
+        calls::runtime_next_deadline(row, now, competition, borrow, after, &mut due)
+    });
+    assert!(after.is_ok() || due == [UNTOUCHED; 2], "a refused deadline");
+    after.map(|after| (after, option_of(due)))
 }
 
 pub fn runtime_finish_turn(runtime: Runtime, params: Params) -> Answer<Runtime> {
-    ran(params, runtime, |row| calls::runtime_finish_turn(row))
+    ran(params, runtime, |row, answer| {
+        calls::runtime_finish_turn(row, answer)
+    })
 }
 
 pub fn config_new(config: Config) -> Answer<Config> {

@@ -65,6 +65,7 @@ fn runtime_run(tally: &mut Tally, random: &mut Random) {
     }
     for _ in 0..8 {
         let end = random.later(now, period);
+        tally.runtime_same_kind(runtime, params);
         tally.runtime_account(runtime, params, now, end);
         tally.runtime_epoch_refresh(runtime, end, params);
         tally.runtime_finish_turn(runtime, params);
@@ -128,6 +129,15 @@ fn parameters_run(tally: &mut Tally, random: &mut Random) {
     let period = random.any_period();
     let budget = random.any_budget(period);
     tally.params_budget(budget, band, role);
+    tally.params_read(Params {
+        policy,
+        band,
+        role,
+        weight,
+        quantum,
+        backend,
+        budget: random.flag().then_some(budget),
+    });
 }
 
 pub fn run(tally: &mut Tally, seed: u64, time: Duration) {

@@ -52,16 +52,37 @@ pub fn mode_word(mode: Mode) -> u64 {
     place.expect("a mode") as u64
 }
 
+const PLAIN: Params = Params {
+    policy: Policy::Idle,
+    band: 0,
+    role: Role::Ordinary,
+    weight: 0,
+    quantum: 0,
+    backend: Backend::Stride,
+    budget: None,
+};
+
 /// A record's row with these parameters and this runtime.
 pub fn row_words(params: Params, runtime: Runtime) -> Row {
     row_of(&Record::new(params, runtime, 0, 0))
 }
 
-/// The parameters and the runtime of a row, of which nothing else may have changed.
-pub fn row_parts(row: &Row) -> (Params, Runtime) {
-    let record = record_of(row);
-    assert_eq!(*row, row_words(record.params, record.runtime), "a row");
-    (record.params, record.runtime)
+/// The parameters that eleven words stand for, as the port writes them.
+pub fn parameters_of(words: ParametersWords) -> Params {
+    let mut row = row_words(PLAIN, Runtime::Idle);
+    row[0..11].copy_from_slice(&words);
+    let params = record_of(&row).params;
+    assert_eq!(words, row_words(params, Runtime::Idle)[0..11], "parameters");
+    params
+}
+
+/// The runtime that five words stand for, as the port writes them.
+pub fn runtime_of(words: RuntimeWords) -> Runtime {
+    let mut row = row_words(PLAIN, Runtime::Idle);
+    row[11..16].copy_from_slice(&words);
+    let runtime = record_of(&row).runtime;
+    assert_eq!(words, row_words(PLAIN, runtime)[11..16], "a runtime");
+    runtime
 }
 
 pub fn budget_words(budget: Budget) -> BudgetWords {

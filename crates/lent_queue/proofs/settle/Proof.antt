@@ -1,4 +1,4 @@
--- One case for each end of the work.
+-- The parts put back once, then one case for each end of the work.
 use Rattle.queue.specs.PlanLaws.{plannings}
 use borrow.Author.Needs.{needs}
 use Rattle.lent_queue.proofs.settle.Statement.{statement}
@@ -9,11 +9,9 @@ settle-spec =
     tie.close
     (tie.spec
     (λ c. search needs)
-    (λ c κs. search needs)
-    (λ c. search needs)
     (λ c. search needs)
     (λ c κs. search needs)
     (λ c κs. search needs)
-    (λ c. search (plannings) depth 8)
-    (λ c. search (plannings) depth 8)
-    (λ c. search (plannings) depth 8))
+    (λ c. search plannings depth 8)
+    (λ c. search plannings depth 8)
+    (λ c. search plannings depth 8))

@@ -1,4 +1,4 @@
--- The roots as they stand in the rows, then their heads.
+-- The rows of the roots, then their heads.
 use Rattle.lent_selection.specs.LentLaws.{peeks}
 use borrow.Author.Needs.{needs}
 use Rattle.lent_selection.proofs.peek_roots.Statement.{statement}
@@ -8,7 +8,10 @@ pub peek-roots-spec : {M : Type 1} → statement M
 peek-roots-spec =
     tie.close
     (tie.spec
-    (λ c κs. search needs)
+    (λ c. search needs)
+    (λ c. search needs)
+    (λ c. search needs)
+    (λ c. search needs)
     (λ c κs. search needs)
     (λ c. search needs)
     (λ c. search peeks depth 8))

@@ -1,7 +1,7 @@
 -- The epoch, the change of period, the heads.
 use Rattle.refusal.specs.Cases.{cases}
 use Rattle.lists.specs.ListsLaws.{listings}
-use Rattle.selection.specs.RenewalLaws.{steps}
+use Rattle.renewal.specs.RenewalLaws.{steps}
 use Rattle.lent_selection.specs.LentParts.{runningQueue}
 use Rattle.lent_selection.specs.LentLaws.{peeks}
 use borrow.Author.Needs.{needs}

@@ -1,4 +1,4 @@
--- The epoch first; else the parts, their renewal, and what it left stored.
+-- The epoch first; else the roles, and what they leave stored.
 use Rattle.lent_selection.specs.LentLaws.{renewals}
 use borrow.Author.Needs.{needs}
 use Rattle.lent_selection.proofs.renew_lent.Statement.{statement}
@@ -12,8 +12,11 @@ renew-lent-spec =
     (λ c κs. search needs)
     (λ c. search renewals depth 8)
     (λ c κs. search needs)
+    (λ c. search needs)
     (λ c κs. search needs)
+    (λ c. search needs)
     (λ c κs. search needs)
-    (λ c κs. search needs)
+    (λ c. search needs)
+    (λ c. search renewals depth 8)
     (λ c. search needs)
     (λ c. search renewals depth 8))

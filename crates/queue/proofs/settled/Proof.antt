@@ -1,4 +1,4 @@
--- One case for each end of the work.
+-- The parts put back once, then one case for each end of the work.
 use Rattle.queue.specs.PlanLaws.{plannings}
 use borrow.Author.Needs.{needs}
 use Rattle.queue.proofs.settled.Statement.{statement}
@@ -8,8 +8,6 @@ pub settled-spec : {M : Type 1} → statement M
 settled-spec =
     tie.close
     (tie.spec
-    (λ c. search needs)
-    (λ c κs. search needs)
     (λ c. search needs)
     (λ c. search needs)
     (λ c κs. search needs)

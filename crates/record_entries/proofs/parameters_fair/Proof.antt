@@ -1,5 +1,4 @@
--- The words stand for the arguments, and what the constructor makes is stored in the row. None is told as 0.
-use Rattle.record_entries.specs.EntryLaws.{entries}
+-- The words stand for the arguments, and what the constructor makes is stored.
 use borrow.Author.Needs.{needs}
 use Rattle.record_entries.proofs.parameters_fair.Statement.{statement}
 use Rattle.record_entries.proofs.parameters_fair.Tie as tie
@@ -11,8 +10,5 @@ parameters-fair-spec =
     (λ c κs. search needs)
     (λ c κs. search needs)
     (λ c κs. search needs)
-    (λ c. search needs)
     (λ c κs. search needs)
-    (λ c. search needs)
-    (λ c. search entries depth 8)
-    (λ c. search entries depth 8))
+    (λ c. cc))

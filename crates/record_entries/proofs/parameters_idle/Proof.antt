@@ -1,4 +1,4 @@
--- The words stand for the arguments, and what the constructor makes is stored in the row.
+-- What the constructor makes is stored.
 use borrow.Author.Needs.{needs}
 use Rattle.record_entries.proofs.parameters_idle.Statement.{statement}
 use Rattle.record_entries.proofs.parameters_idle.Tie as tie

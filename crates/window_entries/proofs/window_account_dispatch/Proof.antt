@@ -1,5 +1,5 @@
--- The words stand for the arguments, the call answers by its own contract, and its window and answer are stored.
-use Rattle.window_entries.specs.EntryLaws.{entries}
+-- The judgement and the readings decide, and the charged words stand for the charged window.
+use Rattle.window_entries.specs.StepLaws.{steps}
 use borrow.Author.Needs.{needs}
 use Rattle.window_entries.proofs.window_account_dispatch.Statement.{statement}
 use Rattle.window_entries.proofs.window_account_dispatch.Tie as tie
@@ -9,8 +9,7 @@ window-account-dispatch-spec =
     tie.close
     (tie.spec
     (λ c κs. search needs)
+    (λ c. search steps depth 8)
+    (λ c. search steps depth 8)
     (λ c κs. search needs)
-    (λ c κs. search needs)
-    (λ c κs. search needs)
-    (λ c κs. search needs)
-    (λ c. search entries depth 8))
+    (λ c. search steps depth 8))

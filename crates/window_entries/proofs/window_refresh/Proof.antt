@@ -1,5 +1,5 @@
--- The words stand for the arguments, the call answers by its own contract, and its window and answer are stored.
-use Rattle.window_entries.specs.EntryLaws.{entries}
+-- The judgement and the epochs are those of the window that the words stand for; only a later epoch stores.
+use Rattle.window_entries.specs.StepLaws.{steps}
 use borrow.Author.Needs.{needs}
 use Rattle.window_entries.proofs.window_refresh.Statement.{statement}
 use Rattle.window_entries.proofs.window_refresh.Tie as tie
@@ -9,6 +9,12 @@ window-refresh-spec =
     tie.close
     (tie.spec
     (λ c κs. search needs)
+    (λ c. search steps depth 8)
+    (λ c. search needs)
     (λ c κs. search needs)
     (λ c κs. search needs)
-    (λ c. search entries depth 8))
+    (λ c. search steps depth 8)
+    (λ c. search needs)
+    (λ c. search needs)
+    (λ c κs. search needs)
+    (λ c. search steps depth 8))

@@ -3,7 +3,9 @@
 use super::convert::Mirror;
 use super::stop::{Run, run};
 use super::types::*;
-use crate::task::policy::{BudgetParameters, SchedulingParameters, ThreadPriority, ThreadWeight};
+use crate::task::policy::{
+    BudgetParameters, SchedulingParameters, SchedulingPolicy, ThreadPriority, ThreadWeight,
+};
 use crate::task::scheduler::algorithms::{BudgetRuntime, PolicyRuntime};
 
 pub const MAX_PERIOD_NS: u64 = BudgetParameters::MAX_PERIOD_NS;
@@ -21,6 +23,21 @@ pub fn budget_new(budget: u64, period: u64, burst: u64) -> Option<Budget> {
 /// `ThreadWeight::new`.
 pub fn weight_new(value: u16) -> Option<u16> {
     ThreadWeight::new(value).map(ThreadWeight::get)
+}
+
+/// `ThreadPriority::new`.
+pub fn priority_new(value: u8) -> u8 {
+    ThreadPriority::new(value).get()
+}
+
+/// `SchedulingPolicy::fifo`.
+pub fn policy_fifo(priority: u8) -> Policy {
+    Mirror::from_source(SchedulingPolicy::fifo(ThreadPriority::new(priority)))
+}
+
+/// `SchedulingPolicy::fair`.
+pub fn policy_fair() -> Policy {
+    Mirror::from_source(SchedulingPolicy::fair())
 }
 
 /// `SchedulingPolicy::class`.

@@ -1,12 +1,12 @@
 use Rattle.refusal.specs.Cases.{cases}
 use Rattle.arbitration.specs.ArbitrationLaws.{modes}
-use Rattle.arbitration.specs.Key.{keyOf}
+use Rattle.arbitration.specs.Key.{exhaustedOf, algorithmOf, keyOf}
 use borrow.Author.Needs.{needs}
 use Rattle.arbitration.proofs.CpuWindow.key.Statement.{statement}
 use Rattle.arbitration.proofs.CpuWindow.key.Tie as tie
 
 pub key-spec : {M : Type 1} → statement M
-unfolding keyOf
+unfolding keyOf exhaustedOf algorithmOf
 key-spec =
     tie.close
     (tie.spec

@@ -1,11 +1,9 @@
 use Rattle.policy.specs.PolicyCases.{policies}
-use Rattle.arbitration.specs.Key.{exhaustedOf}
 use borrow.Author.Needs.{needs}
 use Rattle.arbitration.proofs.tests.is_exhausted.Statement.{statement}
 use Rattle.arbitration.proofs.tests.is_exhausted.Tie as tie
 
 pub is-exhausted-spec : {M : Type 1} → statement M
-unfolding exhaustedOf
 is-exhausted-spec =
     tie.close
     (tie.spec

@@ -1,11 +1,9 @@
 use Rattle.policy.specs.PolicyCases.{policies}
-use Rattle.arbitration.specs.Key.{strictFifo}
 use borrow.Author.Needs.{needs}
 use Rattle.arbitration.proofs.tests.is_strict_fifo.Statement.{statement}
 use Rattle.arbitration.proofs.tests.is_strict_fifo.Tie as tie
 
 pub is-strict-fifo-spec : {M : Type 1} → statement M
-unfolding strictFifo
 is-strict-fifo-spec =
     tie.close
     (tie.spec

@@ -1,7 +1,7 @@
 -- The epoch, the change of period, the heads.
 use Rattle.refusal.specs.Cases.{cases}
 use Rattle.lists.specs.ListsLaws.{listings}
-use Rattle.selection.specs.RenewalLaws.{steps}
+use Rattle.renewal.specs.RenewalLaws.{steps}
 use Rattle.selection.specs.PeekLaws.{peeking}
 use Rattle.selection.specs.Peek.{peekRunning}
 use borrow.Author.Needs.{needs}

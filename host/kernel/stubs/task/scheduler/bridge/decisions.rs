@@ -204,3 +204,71 @@ pub fn deadline_rule(
     *mode = processor.mode;
     result.map(|()| processor.armed_deadline)
 }
+
+/// A processor that runs thread 0 of records that stay the source's own between calls, with a given selection: for counts of instructions.
+pub struct KeptScheduler(CpuScheduler);
+
+impl KeptScheduler {
+    /// On processor 0, last accounted at `now`; the queue says that a FIFO and a budget thread wait.
+    pub fn of(
+        records: &[Record],
+        window: Window,
+        now: u64,
+        ready: Option<Ready>,
+        demand: Demand,
+    ) -> Self {
+        let queue = Queue {
+            fifo_length: 1,
+            budget_count: 1,
+            ..Queue::EMPTY
+        };
+        Self(CpuScheduler {
+            index: CpuIndex::from(0),
+            current: thread(0),
+            run_queue: queue_to_source(&queue),
+            window: window.to_source(),
+            last_account_ns: Some(now),
+            fair_floor: 0,
+            dispatch_mode: Mode::Ordinary.to_source(),
+            armed_deadline_ns: None,
+            deadline_generation: 0,
+            records: records_to_source(records),
+            rules: Rules::SOURCE,
+            move_limit_reached: false,
+            given_selection: Some(given(ready, demand)),
+        })
+    }
+
+    /// `prepare_enqueue` of thread 0; the counters run on.
+    pub fn prepare(&mut self, front: bool, now: u64) {
+        access::prepare(&mut self.0.records[0], 0, front, now);
+    }
+
+    /// The clock that `account` reads.
+    pub fn set_clock(reading: u64) {
+        crate::time::set_monotonic_nanoseconds(Some(reading));
+    }
+
+    /// `account_current` up to the clock's reading.
+    pub fn account(&mut self) -> Answer<()> {
+        access::account(&mut self.0).map_err(refusal)
+    }
+
+    /// `choose_ready`: whether it switches.
+    pub fn choose(&mut self) -> Answer<bool> {
+        let chosen = access::choose(&mut self.0, false).map_err(refusal)?;
+        Ok(chosen.is_some())
+    }
+
+    /// `refresh_deadline`.
+    pub fn deadline(&mut self) -> Answer<Option<u64>> {
+        access::deadline(&mut self.0).map_err(refusal)?;
+        Ok(self.0.armed_deadline_ns)
+    }
+
+    /// `finish_turn` of thread 0's runtime.
+    pub fn finish(&mut self) {
+        let schedule = &mut self.0.records[0];
+        schedule.runtime.finish_turn(schedule.parameters);
+    }
+}

@@ -1,0 +1,95 @@
+// Calls of state/runtime.rs on the table, with the refusal's number for an answer. The scratch has the turn counters, a demand, two keys and the deadline.
+use crate::letters::ACCOUNT;
+use crate::letters::FINISH;
+use crate::report::NONE;
+use runtime_entries::keys_choose_ready;
+use runtime_entries::rows_account_current;
+use runtime_entries::rows_finish_turn;
+use runtime_entries::rows_prepare_enqueue;
+use runtime_entries::rows_refresh_deadline;
+
+pub const TURNS: usize = 1;
+
+pub const DEMAND: usize = 2;
+
+pub const KEY: usize = 3;
+
+pub const READY: usize = 4;
+
+pub const DUE: usize = 5;
+
+pub fn five(row: [u64; 32]) -> [u64; 5] {
+    [row[0], row[1], row[2], row[3], row[4]]
+}
+
+pub fn nine(row: [u64; 32]) -> [u64; 9] {
+    [
+        row[0],
+        row[1],
+        row[2],
+        row[3],
+        row[4],
+        row[5],
+        row[6],
+        row[7],
+        row[8],
+    ]
+}
+
+// The first two words of a scratch row.
+pub fn set_two(x: &mut [[u64; 32]; 6], two: [u64; 2], at: usize) {
+    if at < 6 {
+        x[at][0] = two[0];
+        x[at][1] = two[1];
+    }
+}
+
+pub fn prepare(t: &mut [[u64; 32]], x: &mut [[u64; 32]; 6], a: [u64; 6]) -> u64 {
+    let row = x[TURNS];
+    let mut turns = [row[0], row[1]];
+    let n = rows_prepare_enqueue(t, a[0], a[1] != 0, a[2], &mut turns);
+    set_two(x, turns, TURNS);
+    n
+}
+
+pub fn charge(t: &mut [[u64; 32]], w: &mut [u64; 12], letter: u64, a: [u64; 6]) -> u64 {
+    if letter == ACCOUNT {
+        return rows_account_current(t, a[0], w, a[1], a[2], a[3]);
+    }
+    rows_finish_turn(t, a[0])
+}
+
+// 1 where it switches, and 2 more where the running thread then goes to the front.
+pub fn choose(t: &mut [[u64; 32]], ready: [u64; 9], key: [u64; 9], a: [u64; 6]) -> u64 {
+    let i = a[0] as usize;
+    if i < t.len() {
+        let row = t[i];
+        return keys_choose_ready(&ready, &key, &row, a[1] != 0, a[2] != 0, a[3] != 0);
+    }
+    NONE
+}
+
+pub fn deadline(
+    t: &mut [[u64; 32]],
+    w: &mut [u64; 12],
+    x: &mut [[u64; 32]; 6],
+    a: [u64; 6],
+) -> u64 {
+    let mut due = [0u64; 2];
+    let key = nine(x[KEY]);
+    let demand = five(x[DEMAND]);
+    let n = rows_refresh_deadline(
+        t,
+        a[0],
+        a[1],
+        &key,
+        w,
+        a[2] != 0,
+        a[3] != 0,
+        a[4] != 0,
+        &demand,
+        &mut due,
+    );
+    set_two(x, due, DUE);
+    n
+}

@@ -1,0 +1,19 @@
+-- The one row that is stored, or none.
+use Rattle.lent_selection.specs.LentLaws.{renewals}
+use borrow.Author.Needs.{needs}
+use Rattle.lent_selection.proofs.store_mark.Statement.{statement}
+use Rattle.lent_selection.proofs.store_mark.Tie as tie
+
+pub store-mark-spec : {M : Type 1} → statement M
+store-mark-spec =
+    tie.close
+    (tie.spec
+    (λ c. search needs)
+    (λ c κs. search needs)
+    (λ c. search needs)
+    (λ c. search needs)
+    (λ c. search needs)
+    (λ c. search needs)
+    (λ c κs. search needs)
+    (λ c. search (renewals, needs) depth 8)
+    (λ c. search (renewals, needs) depth 8))

@@ -1,0 +1,13 @@
+-- The tests of the tag stand in the definition's order.
+use Rattle.refusal.specs.Cases.{cases}
+use Rattle.policy_words.specs.PolicyWords.{backendFrom}
+use Rattle.policy_words.proofs.backend_from.Statement.{statement}
+use Rattle.policy_words.proofs.backend_from.Tie as tie
+
+pub backend-from-spec : {M : Type 1} → statement M
+unfolding backendFrom
+backend-from-spec =
+    tie.close
+    (tie.spec
+    (λ c. search cases depth 8)
+    (λ c. search cases depth 8))

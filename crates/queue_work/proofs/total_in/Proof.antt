@@ -1,0 +1,16 @@
+-- One case of the definition for each return; the sum fits, since the total is not the greatest.
+use Rattle.refusal.specs.Cases.{cases}
+use Rattle.queue_work.specs.Work.{totalIn}
+use borrow.Author.Needs.{needs}
+use Rattle.queue_work.proofs.total_in.Statement.{statement}
+use Rattle.queue_work.proofs.total_in.Tie as tie
+
+pub total-in-spec : {M : Type 1} → statement M
+unfolding totalIn
+total-in-spec =
+    tie.close
+    (tie.spec
+    (λ c. search (cases) depth 8)
+    (λ c. search needs)
+    (λ c. search (cases) depth 8)
+    (λ c. search (cases) depth 8))

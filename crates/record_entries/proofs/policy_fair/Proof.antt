@@ -1,0 +1,12 @@
+-- What the constructor makes is stored.
+use borrow.Author.Needs.{needs}
+use Rattle.record_entries.proofs.policy_fair.Statement.{statement}
+use Rattle.record_entries.proofs.policy_fair.Tie as tie
+
+pub policy-fair-spec : {M : Type 1} → statement M
+policy-fair-spec =
+    tie.close
+    (tie.spec
+    (λ c κs. search needs)
+    (λ c κs. search needs)
+    (λ c. cc))

@@ -1,0 +1,15 @@
+-- `insert` with the end named.
+mod Lts
+mod Tie
+use Rattle.records.proofs.enqueue.Statement.{statement}
+use Rattle.records.proofs.enqueue.Proof.Tie as tie
+use borrow.Author.Needs.{needs}
+
+pub enqueue-spec : {M : Type 1} → statement M
+enqueue-spec =
+    tie.close
+    (tie.spec
+    (λ c κs. search needs)
+    (λ c. search needs)
+    (λ c. search needs)
+    (λ c. search needs))

@@ -1,0 +1,2 @@
+-- What lending rows adds to a call: its refusal, and the rows that it works on.
+pub mod Lent

@@ -1,0 +1,241 @@
+// The calls over a lent slice of thread records: a thin layer that copies the records to rows, which the caller lends too, makes the core's call on the rows and
+// copies the records back. The contracts have the core's definitions, over the caller's own records. Fewer rows than records is BadTable with nothing changed; more
+// than 4,096 records are copied, and the core's call is BadTable.
+ghost use mathlib.Core.Bool.{true, false};
+ghost use mathlib.Core.Path.{_≡_};
+ghost use lib.ListN.{length, take, drop};
+ghost use Rattle.refusal.specs.Answer.{refused};
+ghost use Rattle.arbitration.specs.Answers.{verdictOf, windowStep};
+ghost use Rattle.arbitration.specs.Calls.{with};
+ghost use Rattle.rows.specs.Table.{table, out};
+ghost use Rattle.queue.specs.Queue.{step, enqueueCall, removeCall};
+ghost use Rattle.queue.specs.Answers.{verdictAnswer};
+ghost use Rattle.lent_queue.specs.LentQueue.{queueOf};
+ghost use Rattle.selection.specs.Peek.{peeked, peekNext};
+ghost use Rattle.selection.specs.Answers.{peekAnswer};
+ghost use Rattle.runtime.specs.Prepare.{counted, prepareEnqueue};
+ghost use Rattle.runtime.specs.Account.{accountCurrent, finishTurn};
+ghost use Rattle.runtime.specs.Answers.{preparedAnswer};
+ghost use Rattle.records.specs.Lent.{within, used};
+use arbitration::CpuWindow;
+use arbitration::DispatchMode;
+use arbitration::WindowStep;
+use codec::decode;
+use codec::encode;
+use decisions::Turns;
+use demands::CandidateOption;
+use lent_queue::enqueue_lent;
+use lent_queue::remove_lent;
+use lent_selection::peek_lent;
+use queue::Verdict;
+use refusal::Refusal;
+use runtime::Prepared;
+use selection::PeekAnswer;
+use selection::WindowPeek;
+use thread::CpuIndex;
+use thread::ThreadId;
+use thread::ThreadRecord;
+
+fn to_rows(t: &[ThreadRecord], rows: &mut [[u64; 32]])
+    requires { ⌜ length (now rows) ≡ length (now t) ⌝ }
+    ensures { λ r. ⌜ table (now (rows .exit)) ≡ now (t .entry) ⌝ }
+{
+    let n = t.len();
+    let mut i = 0;
+    while i < n {
+        rows[i] = encode(t[i]);
+        i = i + 1;
+    }
+}
+
+fn from_rows(t: &mut [ThreadRecord], rows: &[[u64; 32]])
+    requires { ⌜ length (now rows) ≡ length (now t) ⌝ }
+    ensures { λ r. ⌜ now (t .exit) ≡ table (now (rows .entry)) ⌝ }
+{
+    let n = t.len();
+    let mut i = 0;
+    while i < n {
+        t[i] = decode(rows[i]);
+        i = i + 1;
+    }
+}
+
+// At the front or at the back.
+fn insert(
+    q: &mut [[u64; 5]; 270],
+    t: &mut [ThreadRecord],
+    rows: &mut [[u64; 32]],
+    path: &mut [[u64; 2]; 40],
+    id: ThreadId,
+    cpu: CpuIndex,
+    front: bool,
+) -> Verdict
+    ensures { λ r. ⌜ out (step (verdictAnswer r) (queueOf (now (q .exit)))) (now (t .exit)) ≡ within (now (rows .entry)) (now (t .entry)) (step (refused 10) (queueOf (now (q .entry)))) (enqueueCall front (now (t .entry)) (queueOf (now (q .entry))) (id .0) cpu) ⌝ }
+    ensures { λ r. ⌜ drop (used (now (rows .entry)) (now (t .entry))) (now (rows .exit)) ≡ drop (used (now (rows .entry)) (now (t .entry))) (now (rows .entry)) ⌝ }
+    ensures { λ r. ⌜ table (take (used (now (rows .entry)) (now (t .entry))) (now (rows .exit))) ≡ take (used (now (rows .entry)) (now (t .entry))) (now (t .exit)) ⌝ }
+{
+    let n = t.len();
+    if rows.len() < n {
+        return Verdict::Refused(Refusal::BadTable);
+    }
+    let part = &mut rows[0..n];
+    to_rows(t, part);
+    let answer = enqueue_lent(q, part, path, id, cpu, front);
+    from_rows(t, part);
+    answer
+}
+
+pub fn enqueue(
+    q: &mut [[u64; 5]; 270],
+    t: &mut [ThreadRecord],
+    rows: &mut [[u64; 32]],
+    path: &mut [[u64; 2]; 40],
+    id: ThreadId,
+    cpu: CpuIndex,
+) -> Verdict
+    ensures { λ r. ⌜ out (step (verdictAnswer r) (queueOf (now (q .exit)))) (now (t .exit)) ≡ within (now (rows .entry)) (now (t .entry)) (step (refused 10) (queueOf (now (q .entry)))) (enqueueCall false (now (t .entry)) (queueOf (now (q .entry))) (id .0) cpu) ⌝ }
+    ensures { λ r. ⌜ drop (used (now (rows .entry)) (now (t .entry))) (now (rows .exit)) ≡ drop (used (now (rows .entry)) (now (t .entry))) (now (rows .entry)) ⌝ }
+    ensures { λ r. ⌜ table (take (used (now (rows .entry)) (now (t .entry))) (now (rows .exit))) ≡ take (used (now (rows .entry)) (now (t .entry))) (now (t .exit)) ⌝ }
+{
+    insert(q, t, rows, path, id, cpu, false)
+}
+
+pub fn enqueue_front(
+    q: &mut [[u64; 5]; 270],
+    t: &mut [ThreadRecord],
+    rows: &mut [[u64; 32]],
+    path: &mut [[u64; 2]; 40],
+    id: ThreadId,
+    cpu: CpuIndex,
+) -> Verdict
+    ensures { λ r. ⌜ out (step (verdictAnswer r) (queueOf (now (q .exit)))) (now (t .exit)) ≡ within (now (rows .entry)) (now (t .entry)) (step (refused 10) (queueOf (now (q .entry)))) (enqueueCall true (now (t .entry)) (queueOf (now (q .entry))) (id .0) cpu) ⌝ }
+    ensures { λ r. ⌜ drop (used (now (rows .entry)) (now (t .entry))) (now (rows .exit)) ≡ drop (used (now (rows .entry)) (now (t .entry))) (now (rows .entry)) ⌝ }
+    ensures { λ r. ⌜ table (take (used (now (rows .entry)) (now (t .entry))) (now (rows .exit))) ≡ take (used (now (rows .entry)) (now (t .entry))) (now (t .exit)) ⌝ }
+{
+    insert(q, t, rows, path, id, cpu, true)
+}
+
+pub fn remove(
+    q: &mut [[u64; 5]; 270],
+    t: &mut [ThreadRecord],
+    rows: &mut [[u64; 32]],
+    path: &mut [[u64; 2]; 40],
+    id: ThreadId,
+    cpu: CpuIndex,
+) -> Verdict
+    ensures { λ r. ⌜ out (step (verdictAnswer r) (queueOf (now (q .exit)))) (now (t .exit)) ≡ within (now (rows .entry)) (now (t .entry)) (step (refused 10) (queueOf (now (q .entry)))) (removeCall (now (t .entry)) (queueOf (now (q .entry))) (id .0) cpu) ⌝ }
+    ensures { λ r. ⌜ drop (used (now (rows .entry)) (now (t .entry))) (now (rows .exit)) ≡ drop (used (now (rows .entry)) (now (t .entry))) (now (rows .entry)) ⌝ }
+    ensures { λ r. ⌜ table (take (used (now (rows .entry)) (now (t .entry))) (now (rows .exit))) ≡ take (used (now (rows .entry)) (now (t .entry))) (now (t .exit)) ⌝ }
+{
+    let n = t.len();
+    if rows.len() < n {
+        return Verdict::Refused(Refusal::BadTable);
+    }
+    let part = &mut rows[0..n];
+    to_rows(t, part);
+    let answer = remove_lent(q, part, path, id, cpu);
+    from_rows(t, part);
+    answer
+}
+
+// Selection.
+pub fn peek_next(
+    q: &mut [[u64; 5]; 270],
+    t: &mut [ThreadRecord],
+    rows: &mut [[u64; 32]],
+    path: &mut [[u64; 2]; 40],
+    cpu: CpuIndex,
+    reading: u64,
+    window: CpuWindow,
+    current: CandidateOption,
+) -> WindowPeek
+    ensures { λ r. ⌜ out (peeked (peekAnswer (r .answer)) (r .window) (queueOf (now (q .exit)))) (now (t .exit)) ≡ within (now (rows .entry)) (now (t .entry)) (peeked (refused 10) window (queueOf (now (q .entry)))) (peekNext (now (t .entry)) (queueOf (now (q .entry))) cpu reading window current) ⌝ }
+    ensures { λ r. ⌜ drop (used (now (rows .entry)) (now (t .entry))) (now (rows .exit)) ≡ drop (used (now (rows .entry)) (now (t .entry))) (now (rows .entry)) ⌝ }
+    ensures { λ r. ⌜ table (take (used (now (rows .entry)) (now (t .entry))) (now (rows .exit))) ≡ take (used (now (rows .entry)) (now (t .entry))) (now (t .exit)) ⌝ }
+{
+    let n = t.len();
+    if rows.len() < n {
+        return WindowPeek {
+            answer: PeekAnswer::Refused(Refusal::BadTable),
+            window,
+        };
+    }
+    let part = &mut rows[0..n];
+    to_rows(t, part);
+    let answer = peek_lent(q, part, path, cpu, reading, window, current);
+    from_rows(t, part);
+    answer
+}
+
+pub fn prepare_enqueue(
+    t: &mut [ThreadRecord],
+    rows: &mut [[u64; 32]],
+    id: ThreadId,
+    front: bool,
+    reading: u64,
+    turns: Turns,
+) -> Prepared
+    ensures { λ r. ⌜ out (preparedAnswer r) (now (t .exit)) ≡ within (now (rows .entry)) (now (t .entry)) (counted (refused 10) turns) (prepareEnqueue (now (t .entry)) (id .0) front reading turns) ⌝ }
+    ensures { λ r. ⌜ drop (used (now (rows .entry)) (now (t .entry))) (now (rows .exit)) ≡ drop (used (now (rows .entry)) (now (t .entry))) (now (rows .entry)) ⌝ }
+    ensures { λ r. ⌜ table (take (used (now (rows .entry)) (now (t .entry))) (now (rows .exit))) ≡ take (used (now (rows .entry)) (now (t .entry))) (now (t .exit)) ⌝ }
+{
+    let n = t.len();
+    if rows.len() < n {
+        return Prepared {
+            answer: arbitration::Verdict::Refused(Refusal::BadTable),
+            turns,
+        };
+    }
+    let part = &mut rows[0..n];
+    to_rows(t, part);
+    let answer = runtime::prepare_enqueue(part, id, front, reading, turns);
+    from_rows(t, part);
+    answer
+}
+
+pub fn account_current(
+    t: &mut [ThreadRecord],
+    rows: &mut [[u64; 32]],
+    id: ThreadId,
+    window: CpuWindow,
+    mode: DispatchMode,
+    start: u64,
+    end: u64,
+) -> WindowStep
+    ensures { λ r. ⌜ out (windowStep r) (now (t .exit)) ≡ within (now (rows .entry)) (now (t .entry)) (with (refused 10) window) (accountCurrent (now (t .entry)) (id .0) window mode start end) ⌝ }
+    ensures { λ r. ⌜ drop (used (now (rows .entry)) (now (t .entry))) (now (rows .exit)) ≡ drop (used (now (rows .entry)) (now (t .entry))) (now (rows .entry)) ⌝ }
+    ensures { λ r. ⌜ table (take (used (now (rows .entry)) (now (t .entry))) (now (rows .exit))) ≡ take (used (now (rows .entry)) (now (t .entry))) (now (t .exit)) ⌝ }
+{
+    let n = t.len();
+    if rows.len() < n {
+        return WindowStep {
+            answer: arbitration::Verdict::Refused(Refusal::BadTable),
+            window,
+        };
+    }
+    let part = &mut rows[0..n];
+    to_rows(t, part);
+    let answer = runtime::account_current(part, id, window, mode, start, end);
+    from_rows(t, part);
+    answer
+}
+
+pub fn finish_turn(
+    t: &mut [ThreadRecord],
+    rows: &mut [[u64; 32]],
+    id: ThreadId,
+) -> arbitration::Verdict
+    ensures { λ r. ⌜ out (verdictOf r) (now (t .exit)) ≡ within (now (rows .entry)) (now (t .entry)) (refused 10) (finishTurn (now (t .entry)) (id .0)) ⌝ }
+    ensures { λ r. ⌜ drop (used (now (rows .entry)) (now (t .entry))) (now (rows .exit)) ≡ drop (used (now (rows .entry)) (now (t .entry))) (now (rows .entry)) ⌝ }
+    ensures { λ r. ⌜ table (take (used (now (rows .entry)) (now (t .entry))) (now (rows .exit))) ≡ take (used (now (rows .entry)) (now (t .entry))) (now (t .exit)) ⌝ }
+{
+    let n = t.len();
+    if rows.len() < n {
+        return arbitration::Verdict::Refused(Refusal::BadTable);
+    }
+    let part = &mut rows[0..n];
+    to_rows(t, part);
+    let answer = runtime::finish_turn(part, id);
+    from_rows(t, part);
+    answer
+}

@@ -1,0 +1,18 @@
+-- The row is read, then refreshed.
+use Rattle.lists.specs.ListsLaws.{row-inside, row-outside}
+use Rattle.renewal.specs.Steps.{runtimeRefreshed}
+use borrow.Author.Needs.{needs}
+use Rattle.renewal.proofs.refresh_runtime.Statement.{statement}
+use Rattle.renewal.proofs.refresh_runtime.Tie as tie
+
+pub refresh-runtime-spec : {M : Type 1} → statement M
+unfolding runtimeRefreshed
+refresh-runtime-spec =
+    tie.close
+    (tie.spec
+    (λ c. search needs)
+    (λ c. search needs)
+    (λ c κs. search needs)
+    (λ c. search needs)
+    (λ c. search (row-inside, row-outside) depth 8)
+    (λ c. search (row-inside, row-outside) depth 8))

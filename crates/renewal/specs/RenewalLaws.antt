@@ -1,0 +1,424 @@
+-- Laws by which the functions of the change of period meet the definitions: r is what the call gave, x what its contract says of it.
+use Prim.Native.Nat.{ℕ, zero, suc, _+_, _-_, _<_, _≤_}
+use native.Mathlib.Omega.{arith}
+use native.Mathlib.Numerals.{unary-clauses}
+use mathlib.Core.Path.{_≡_, refl, sym, ap, _∙_}
+use mathlib.Core.Bool.{Bool, true, false}
+use mathlib.Core.List.{List, [], _∷_}
+use lib.Dec.{eqb}
+use lib.ListN.{length, length-map, getD, set}
+use borrow.Author.Tests.{eq-eqb, ne-eqb}
+use Rattle.refusal.specs.Answer.{Answer, value, refused, numberOf}
+use Rattle.refusal.specs.declared.Refusal.{Refusal}
+use Rattle.refusal.specs.Cases.{choose, given, ifEqual}
+use Rattle.time.specs.declared.Epoch.{Epoch}
+use Rattle.time.specs.declared.Epoch.the-variants as epoch
+use Rattle.policy.specs.declared.BudgetOption.{BudgetOption}
+use Rattle.policy.specs.declared.BudgetOption.the-variants as budget
+use Rattle.policy.specs.declared.BudgetParameters.{BudgetParameters}
+use Rattle.policy.specs.declared.SchedulingParameters.{SchedulingParameters}
+use Rattle.policy.specs.PolicyCases.{onBudget}
+use Rattle.codec.specs.Codec.{word, budgetFrom, parametersOf, runtimeOf, decoded}
+use Rattle.algorithms.specs.declared.PolicyRuntime.{PolicyRuntime}
+use Rattle.algorithms.specs.declared.RuntimeAnswer.{RuntimeAnswer}
+use Rattle.algorithms.specs.declared.RuntimeAnswer.the-variants as runtime
+use Rattle.algorithms.specs.Answers.{runtimeAnswer}
+use Rattle.algorithms.specs.Runtime.{epochRefreshed}
+use Rattle.thread.specs.declared.Link.{Link}
+use Rattle.thread.specs.declared.Link.the-variants as link
+use Rattle.thread.specs.declared.ThreadRecord.{ThreadRecord}
+use Rattle.thread.specs.Judgement.{isBadRecord}
+use Rattle.thread.specs.Membership.{onLink, isNone}
+use Rattle.thread.specs.Records.{withRuntime}
+use Rattle.rows.specs.declared.RecordRead.{RecordRead}
+use Rattle.rows.specs.declared.RecordRead.the-variants as read
+use Rattle.rows.specs.Table.{Out, out, after, table, recordOf, recordAt, setRuntime}
+use Rattle.rows.specs.TableCases.{onRecord}
+use Rattle.rows.specs.TableLaws.{record-within, record-got-within, record-set-runtime-same}
+use Rattle.lists.specs.Lists.{onAnswer, onOut}
+use Rattle.ready_index.specs.declared.Least.{Least}
+use Rattle.ready_index.specs.declared.Least.the-variants as least
+use Rattle.ready_index.specs.Cases.{onRooted}
+use Rattle.ready_index.specs.Index as index
+use Rattle.ready_index.specs.LoopLaws.{whole, setting-out, onward}
+use Rattle.renewal.specs.declared.BudgetTrees.{BudgetTrees}
+use Rattle.renewal.specs.declared.HeadRead.{HeadRead}
+use Rattle.renewal.specs.declared.HeadRead.the-variants as head
+use Rattle.renewal.specs.declared.RoleStep.{RoleStep}
+use Rattle.renewal.specs.declared.RoleStep.the-variants as role
+use Rattle.renewal.specs.declared.Moved.{Moved}
+use Rattle.renewal.specs.declared.Moved.the-variants as move
+use Rattle.renewal.specs.declared.NextMove.{NextMove}
+use Rattle.renewal.specs.declared.NextMove.the-variants as next
+use Rattle.renewal.specs.declared.SelectionParts.{SelectionParts}
+use Rattle.renewal.specs.Leaves.{Leaves, leaves, onLeaves}
+use Rattle.queue.specs.declared.Root.{Root}
+use Rattle.queue.specs.declared.Verdict.{Verdict}
+use Rattle.queue.specs.declared.Verdict.the-variants as verdict
+use Rattle.queue.specs.Answers.{verdictAnswer}
+use Rattle.queue.specs.Queue.{emptyRoot}
+use Rattle.renewal.specs.RootRows.{rootsOf}
+use Rattle.renewal.specs.Renewal.{leastLink, headOf, refreshRecord, refreshRuntime, budgetTrees, moveOne, moveAll, rootAt, withTrees, renewRoles, isEpoch, isHalt}
+use Rattle.renewal.specs.Steps.{refreshedStored, budgetRefreshed, rowRefreshed, runtimeRefreshed, refiled, Next, emptied, moved, stopped, onNext, nextMove, lastMove, roleRenewed}
+use Rattle.renewal.specs.Answers.{headAnswer, moveAnswer, nextAnswer, roleAnswer}
+
+-- By the least thread of a tree.
+module _ {y : Answer Link} {r x : Least} where
+  pub least-none : r ≡ x → r ≡ least.None → y ≡ value link.None → y ≡ leastLink x
+  unfolding leastLink
+  least-none e m h = rw (sym e ∙ m) h
+
+  pub least-some : {n : ℕ} → r ≡ x → r ≡ least.Some n → y ≡ value (link.Some n) → y ≡ leastLink x
+  unfolding leastLink
+  least-some e m h = rw (sym e ∙ m) h
+
+  pub least-damaged : r ≡ x → r ≡ least.Damaged → y ≡ refused 1 → y ≡ leastLink x
+  unfolding leastLink
+  least-damaged e m h = rw (sym e ∙ m) h
+
+-- By a tree's head.
+module _ {B : Type 0} {y : B} {r : HeadRead} {x : Answer Link} (g : ℕ → B) (f : Link → B) where
+  pub head-found : {l : Link} → headAnswer r ≡ x → r ≡ head.Head l → y ≡ f l → y ≡ onAnswer x g f
+  unfolding onAnswer
+  head-found e m h = rw (sym e, m) h
+
+  pub head-damaged : headAnswer r ≡ x → r ≡ head.Damaged → y ≡ g 1 → y ≡ onAnswer x g f
+  unfolding onAnswer
+  head-damaged e m h = rw (sym e, m) h
+
+-- By a runtime that is refreshed.
+module _ {B : Type 0} {y : B} {r : RuntimeAnswer} (g : ℕ → B) (f : PolicyRuntime → B) where
+  pub runtime-fresh : {v : PolicyRuntime} → r ≡ runtime.Runtime v → y ≡ f v → y ≡ onAnswer (runtimeAnswer r) g f
+  unfolding onAnswer
+  runtime-fresh m h = rw m h
+
+  pub runtime-refused : {n : Refusal} → r ≡ runtime.Refused n → y ≡ g (numberOf n) → y ≡ onAnswer (runtimeAnswer r) g f
+  unfolding onAnswer
+  runtime-refused m h = rw m h
+
+-- By a verdict.
+module _ {B : Type 0} {y : B} {r : Verdict} (g : ℕ → B) (f : Unit {0} → B) where
+  pub was-accepted : r ≡ verdict.Accepted → y ≡ f tt → y ≡ onAnswer (verdictAnswer r) g f
+  unfolding onAnswer
+  was-accepted m h = rw m h
+
+  pub was-turned-down : {n : Refusal} → r ≡ verdict.Refused n → y ≡ g (numberOf n) → y ≡ onAnswer (verdictAnswer r) g f
+  unfolding onAnswer
+  was-turned-down m h = rw m h
+
+-- An answer and the table after a store.
+pub stored-after : {A B : Type 0} {a : A} {c : B} {t : List ThreadRecord} {x : Out B} → out c t ≡ x → out a t ≡ out a (after x)
+stored-after s = rw (ap after s)
+
+-- By the words of a record's budget.
+module _ {A : Type 0} {y : A} (w : List ℕ) (a : A) (f : BudgetParameters → A) where
+  pub no-budget-row : word w 7 ≡ 0 → y ≡ a → y ≡ onBudget (decoded w .parameters .budget) a f
+  unfolding decoded parametersOf budgetFrom ifEqual choose onBudget
+  no-budget-row m h = rw (eq-eqb (word w 7) 0 m) h
+
+  pub some-budget-row : (word w 7 ≡ 0 → ⊥) → y ≡ f (record { «budget_ns» = word w 8; «period_ns» = word w 9; «burst_ns» = word w 10 }) → y ≡ onBudget (decoded w .parameters .budget) a f
+  unfolding decoded parametersOf budgetFrom ifEqual choose onBudget
+  some-budget-row m h = rw (ne-eqb (word w 7) 0 m) h
+
+-- The refresh of a row's runtime.
+pub row-fresh : {A : Type 0} {y : A} {p : SchedulingParameters} {r : PolicyRuntime} {a : Answer PolicyRuntime} (w : List ℕ) (now : ℕ) (f : Answer PolicyRuntime → A)
+    → p ≡ parametersOf w → r ≡ runtimeOf w → a ≡ epochRefreshed r now p → y ≡ f a → y ≡ given (epochRefreshed (decoded w .runtime) now (decoded w .parameters)) f
+unfolding decoded given
+row-fresh w now f e₁ e₂ e₃ h = rw (sym e₁, sym e₂, sym e₃) h
+
+-- By a move.
+module _ {B : Type 0} {y : B} {r : Moved} (g : ℕ → BudgetTrees → B) (f : Unit {0} → BudgetTrees → B) where
+  pub move-done : {trees : BudgetTrees} → r ≡ move.Done trees → y ≡ f tt trees → y ≡ onLeaves (moveAnswer r) g f
+  unfolding onLeaves
+  move-done m h = rw m h
+
+  pub move-refused : {n : Refusal} {trees : BudgetTrees} → r ≡ move.Refused n trees → y ≡ g (numberOf n) trees → y ≡ onLeaves (moveAnswer r) g f
+  unfolding onLeaves
+  move-refused m h = rw m h
+
+pub ruleset renewing = (least-none, least-some, least-damaged, head-found, head-damaged, runtime-fresh, runtime-refused, was-accepted, was-turned-down, stored-after, no-budget-row, some-budget-row, row-fresh, move-done, move-refused)
+
+-- A record that was read is, once refreshed, what then stands in the table.
+module _ (t : List ThreadRecord) (id now : ℕ) {r : ThreadRecord} (got : recordAt t id ≡ read.Got r) where
+  the-record : recordOf t id ≡ r
+  unfolding onRecord
+  the-record = ap (λ x. onRecord x r (λ s. s)) (sym (record-within t id (record-got-within t id got)) ∙ got)
+
+  stands : (x : PolicyRuntime) → recordAt (after (setRuntime t id x)) id ≡ read.Got (withRuntime x r)
+  stands x = record-set-runtime-same t id x (record-got-within t id got) ∙ ap (λ s. read.Got (withRuntime x s)) the-record
+
+  pub refreshed-then : {B : Type 0} (g : ℕ → List ThreadRecord → B) (d : List ThreadRecord → B) (f : ThreadRecord → List ThreadRecord → B)
+      → onOut (refreshRecord t id r now) (λ a t₁. onAnswer a (λ n. g n t₁) (λ s. f s t₁))
+      ≡ onOut (rowRefreshed t id r now) (λ a t₁. onAnswer a (λ n. g n t₁) (λ u. onRecord (recordAt t₁ id) (d t₁) (λ s. f s t₁)))
+  unfolding refreshRecord rowRefreshed budgetRefreshed refreshedStored given onRecord choose onBudget onAnswer onOut
+  refreshed-then {B} g d f = rw got (go (isBadRecord r) (r .parameters .budget) (epochRefreshed (r .runtime) now (r .parameters)))
+    where
+      go : (bad : Bool) (b : BudgetOption) (a : Answer PolicyRuntime)
+          → onOut (choose bad (out (refused 11) t)
+          (onBudget b (out (value r) t) (λ q. onAnswer a (λ n. out (refused 11) t) (λ x. out (value (withRuntime x r)) (after (setRuntime t id x))))))
+          (λ a t₁. onAnswer a (λ n. g n t₁) (λ s. f s t₁))
+          ≡ onOut {A = Answer (Unit {0})} {B = B} (choose bad (out (refused 11) t)
+          (onBudget b (out (value (tt {0})) t) (λ q. onAnswer a (λ n. out (refused 11) t) (λ x. out (value (tt {0})) (after (setRuntime t id x))))))
+          (λ a t₁. onAnswer a (λ n. g n t₁) (λ u. onRecord (recordAt t₁ id) (d t₁) (λ s. f s t₁)))
+      go true b a = refl
+      go false budget.None a = rw got refl
+      go false (budget.Some q) (refused n) = refl
+      go false (budget.Some q) (value x) = rw (stands x) refl
+
+-- The second half of a move, as `moveOne` has it.
+pub refiled-so : {y : Out (Leaves (Unit {0}) BudgetTrees)} (t : List ThreadRecord) (trees : BudgetTrees) (id now : ℕ) → y ≡ refiled t trees id now
+    → y
+    ≡ onOut (refreshRuntime t id now)
+    (λ a t₂. onAnswer a
+    (λ n. out (leaves (refused n) trees) t₂)
+    (λ r. onRooted (index.insert t₂ (trees .ready) id)
+    (λ t₃. out (leaves (refused 9) trees) t₃)
+    (λ top t₃. out (leaves (value tt) (budgetTrees (trees .exhausted) top (trees .moves))) t₃)))
+unfolding refreshRuntime runtimeRefreshed onRecord onOut onAnswer
+refiled-so t trees id now h = h ∙ sym (go (recordAt t id) refl)
+  where
+    insertion : List ThreadRecord → Out (Leaves (Unit {0}) BudgetTrees)
+    insertion t₂ =
+        onRooted (index.insert t₂ (trees .ready) id)
+        (λ t₃. out (leaves (refused 9) trees) t₃)
+        (λ top t₃. out (leaves (value tt) (budgetTrees (trees .exhausted) top (trees .moves))) t₃)
+
+    either-way : (x : RecordRead) (t₁ : List ThreadRecord) → onRecord x (insertion t₁) (λ s. insertion t₁) ≡ insertion t₁
+    either-way (read.Got s) t₁ = refl
+    either-way read.Damaged t₁ = refl
+
+    all-ways : (x : Out (Answer (Unit {0})))
+        → onOut x (λ a t₁. onAnswer a (λ n. out (leaves (refused n) trees) t₁) (λ u. onRecord (recordAt t₁ id) (insertion t₁) (λ s. insertion t₁)))
+        ≡ onOut x (λ a t₁. onAnswer a (λ n. out (leaves (refused n) trees) t₁) (λ u. insertion t₁))
+    all-ways (out (value u) t₁) = either-way (recordAt t₁ id) t₁
+    all-ways (out (refused n) t₁) = refl
+
+    go : (x : RecordRead) → recordAt t id ≡ x
+        → onOut (onRecord x (out (refused 1) t) (λ r. refreshRecord t id r now)) (λ a t₂. onAnswer a (λ n. out (leaves (refused n) trees) t₂) (λ r. insertion t₂))
+        ≡ onOut (onRecord x (out (refused 1) t) (λ r. rowRefreshed t id r now)) (λ a t₂. onAnswer a (λ n. out (leaves (refused n) trees) t₂) (λ u. insertion t₂))
+    go (read.Got r) e = refreshed-then t id now e (λ n t₁. out (leaves (refused n) trees) t₁) insertion (λ s t₁. insertion t₁) ∙ all-ways (rowRefreshed t id r now)
+    go read.Damaged e = refl
+
+-- The moves that are left go by the next move.
+module _ (t : List ThreadRecord) (exhausted ready : Link) (now : ℕ) where
+  abbrev byNext : ℕ → Out Next → Out (Leaves (Unit {0}) BudgetTrees)
+  byNext n x =
+      onNext x
+      (λ t₁. out (leaves (value tt) (budgetTrees exhausted ready n)) t₁)
+      (λ trees t₁. moveAll (n - 1) t₁ (trees .exhausted) (trees .ready) now)
+      (λ k trees t₁. out (leaves (refused k) trees) t₁)
+
+  move-step : (n : ℕ) → 0 < n → moveAll n t exhausted ready now ≡ byNext n (nextMove n t exhausted ready now)
+  unfolding moveAll nextMove onAnswer onLink onOut onLeaves onNext
+  move-step zero h = absurd (omega arith)
+  move-step (suc n) h = simp unary-clauses (go (headOf t exhausted))
+    where
+      worked : (x : Out (Leaves (Unit {0}) BudgetTrees))
+          → onOut x (λ s t₁. onLeaves s (λ k trees. out (leaves (refused k) trees) t₁) (λ u trees. moveAll n t₁ (trees .exhausted) (trees .ready) now))
+          ≡ onNext (onOut x (λ s t₁. onLeaves s (λ k trees. out (stopped k trees) t₁) (λ u trees. out (moved trees) t₁)))
+          (λ t₁. out (leaves (value tt) (budgetTrees exhausted ready (suc n))) t₁)
+          (λ trees t₁. moveAll n t₁ (trees .exhausted) (trees .ready) now)
+          (λ k trees t₁. out (leaves (refused k) trees) t₁)
+      worked (out (leaves (value u) trees) t₁) = refl
+      worked (out (leaves (refused k) trees) t₁) = refl
+
+      go : (a : Answer Link)
+          → onAnswer a
+          (λ k. out (leaves (refused k) (budgetTrees exhausted ready (suc n))) t)
+          (λ head. onLink head
+          (out (leaves (value tt) (budgetTrees exhausted ready (suc n))) t)
+          (λ id. onOut (moveOne t (budgetTrees exhausted ready n) id now)
+          (λ s t₁. onLeaves s
+          (λ k trees. out (leaves (refused k) trees) t₁)
+          (λ u trees. moveAll n t₁ (trees .exhausted) (trees .ready) now))))
+          ≡ onNext (onAnswer a
+          (λ k. out (stopped k (budgetTrees exhausted ready (suc n))) t)
+          (λ head. onLink head
+          (out emptied t)
+          (λ id. onOut (moveOne t (budgetTrees exhausted ready n) id now)
+          (λ s t₁. onLeaves s
+          (λ k trees. out (stopped k trees) t₁)
+          (λ u trees. out (moved trees) t₁)))))
+          (λ t₁. out (leaves (value tt) (budgetTrees exhausted ready (suc n))) t₁)
+          (λ trees t₁. moveAll n t₁ (trees .exhausted) (trees .ready) now)
+          (λ k trees t₁. out (leaves (refused k) trees) t₁)
+      go (refused k) = refl
+      go (value link.None) = refl
+      go (value (link.Some id)) = worked (moveOne t (budgetTrees exhausted ready n) id now)
+
+  module _ {y : Out (Leaves (Unit {0}) BudgetTrees)} {r : NextMove} {t₁ : List ThreadRecord} (n : ℕ) where
+    pub moves-emptied : 0 < n → out (nextAnswer r) t₁ ≡ nextMove n t exhausted ready now → r ≡ next.Emptied
+        → y ≡ out (leaves (value tt) (budgetTrees exhausted ready n)) t₁ → y ≡ moveAll n t exhausted ready now
+    unfolding onNext
+    moves-emptied p e m h = rw (move-step n p, sym e, m) h
+
+    pub moves-moved : {trees : BudgetTrees} → 0 < n → out (nextAnswer r) t₁ ≡ nextMove n t exhausted ready now → r ≡ next.Moved trees
+        → y ≡ moveAll (n - 1) t₁ (trees .exhausted) (trees .ready) now → y ≡ moveAll n t exhausted ready now
+    unfolding onNext
+    moves-moved p e m h = rw (move-step n p, sym e, m) h
+
+    pub moves-stopped : {k : Refusal} {trees : BudgetTrees} → 0 < n → out (nextAnswer r) t₁ ≡ nextMove n t exhausted ready now → r ≡ next.Refused k trees
+        → y ≡ out (leaves (refused (numberOf k)) trees) t₁ → y ≡ moveAll n t exhausted ready now
+    unfolding onNext
+    moves-stopped p e m h = rw (move-step n p, sym e, m) h
+
+  pub moves-spent : {y : Out (Leaves (Unit {0}) BudgetTrees)} (n : ℕ) → n ≤ 0 → y ≡ lastMove t exhausted ready → y ≡ moveAll n t exhausted ready now
+  unfolding moveAll lastMove
+  moves-spent zero p h = h
+  moves-spent (suc n) p h = absurd (omega arith)
+
+pub ruleset moving = (onward, moves-emptied, moves-moved, moves-stopped, moves-spent)
+
+-- The moves of one role, by the words of its roots.
+set-same : {A : Type 0} (l : List A) (k : ℕ) (d : A) → set l k (getD l k d) ≡ l
+set-same [] k d = refl
+set-same (x ∷ l) zero d = refl
+set-same {A} (x ∷ l) (suc k) d = ap {B = List A} (λ r. x ∷ r) (set-same l k d)
+
+is-none : (l : Link) → isNone l ≡ true → l ≡ link.None
+unfolding isNone onLink choose
+is-none link.None h = refl
+is-none (link.Some n) h = ap (λ b. choose b link.None (link.Some n)) h
+
+no-exhausted : (moves : ℕ) (t : List ThreadRecord) (ready : Link) (now : ℕ) → moveAll moves t link.None ready now ≡ out (leaves (value tt) (budgetTrees link.None ready moves)) t
+unfolding moveAll headOf index.first leastLink onAnswer onLink
+no-exhausted zero t ready now = refl
+no-exhausted (suc moves) t ready now = refl
+
+module _ (rows : List (List ℕ)) (role moves : ℕ) (t : List ThreadRecord) (now : ℕ) where
+  abbrev theRoots : List Root
+  theRoots = rootsOf rows
+
+  same-trees : (spent : Link) → spent ≡ rootAt theRoots (9 + role) → withTrees theRoots role (budgetTrees spent (rootAt theRoots (6 + role)) moves) ≡ theRoots
+  unfolding withTrees
+  same-trees spent e =
+      ap (λ (x : Link). set (set theRoots (9 + role) (record { root = x })) (6 + role) (record { root = rootAt theRoots (6 + role) })) e
+      ∙ ap (λ (l : List Root). set l (6 + role) (record { root = rootAt theRoots (6 + role) })) (set-same theRoots (9 + role) emptyRoot)
+      ∙ set-same theRoots (6 + role) emptyRoot
+
+  -- An empty exhausted tree is passed over.
+  pub role-empty : {exhausted : Link} {r : Bool} → exhausted ≡ rootAt (rootsOf rows) (9 + role) → r ≡ isNone exhausted → r ≡ true
+      → out (leaves (value moves) (rootsOf rows)) t ≡ roleRenewed role moves t (rootsOf rows) now
+  unfolding roleRenewed onOut onLeaves
+  role-empty {exhausted} e test h =
+      let none : link.None ≡ rootAt theRoots (9 + role) = sym (is-none exhausted (sym test ∙ h)) ∙ e in
+      rw (sym none, no-exhausted moves t (rootAt theRoots (6 + role)) now) (ap (λ l. out (leaves (value moves) l) t) (sym (same-trees link.None none)))
+
+  module _ {s : Moved} {exhausted ready : Link} {t₁ : List ThreadRecord} {trees : BudgetTrees} {roots₁ : List Root} where
+    pub role-moved : exhausted ≡ rootAt (rootsOf rows) (9 + role) → ready ≡ rootAt (rootsOf rows) (6 + role)
+        → out (moveAnswer s) t₁ ≡ moveAll moves t exhausted ready now → s ≡ move.Done trees → roots₁ ≡ withTrees (rootsOf rows) role trees
+        → out (leaves (value (trees .moves)) roots₁) t₁ ≡ roleRenewed role moves t (rootsOf rows) now
+    unfolding roleRenewed onOut onLeaves
+    role-moved a b e m w = rw (sym a, sym b, sym e, m, w)
+
+    pub role-stopped : {k : Refusal} → exhausted ≡ rootAt (rootsOf rows) (9 + role) → ready ≡ rootAt (rootsOf rows) (6 + role)
+        → out (moveAnswer s) t₁ ≡ moveAll moves t exhausted ready now → s ≡ move.Refused k trees → roots₁ ≡ withTrees (rootsOf rows) role trees
+        → out (leaves (refused (numberOf k)) roots₁) t₁ ≡ roleRenewed role moves t (rootsOf rows) now
+    unfolding roleRenewed onOut onLeaves
+    role-stopped a b e m w = rw (sym a, sym b, sym e, m, w)
+
+-- Two roots stored one after the other.
+pub trees-stored : {l₁ l₂ : List Root} (l : List Root) (role : ℕ) (trees : BudgetTrees) → l₁ ≡ set l (9 + role) (record { root = trees .exhausted })
+    → l₂ ≡ set l₁ (6 + role) (record { root = trees .ready }) → l₂ ≡ withTrees l role trees
+unfolding withTrees
+trees-stored l role trees e₁ e₂ = rw (e₂, e₁)
+
+pub ruleset one-role = (role-empty, role-moved, role-stopped, trees-stored)
+
+-- The roles that are left go by the moves of the next one.
+module _ (t : List ThreadRecord) (moves : ℕ) (roots : List Root) (now : ℕ) where
+  roles-next : (n : ℕ)
+      → renewRoles (suc n) moves t roots now
+      ≡ onOut (roleRenewed (2 - n) moves t roots now) (λ s t₁. onLeaves s (λ k l. out (leaves (refused k) l) t₁) (λ m l. renewRoles n m t₁ l now))
+  unfolding renewRoles roleRenewed given onOut onLeaves
+  roles-next n = go (moveAll moves t (rootAt roots (9 + (2 - n))) (rootAt roots (6 + (2 - n))) now)
+    where
+      go : (x : Out (Leaves (Unit {0}) BudgetTrees))
+          → onOut x
+          (λ s t₁. onLeaves s
+          (λ k trees. out (leaves (refused k) (withTrees roots (2 - n) trees)) t₁)
+          (λ u trees. renewRoles n (trees .moves) t₁ (withTrees roots (2 - n) trees) now))
+          ≡ onOut (onOut {B = Out (Leaves ℕ (List Root))} x
+          (λ s t₁. onLeaves s
+          (λ k trees. out (leaves (refused k) (withTrees roots (2 - n) trees)) t₁)
+          (λ u trees. out (leaves (value (trees .moves)) (withTrees roots (2 - n) trees)) t₁)))
+          (λ s t₁. onLeaves s (λ k l. out (leaves (refused k) l) t₁) (λ m l. renewRoles n m t₁ l now))
+      go (out (leaves (value u) trees) t₁) = refl
+      go (out (leaves (refused k) trees) t₁) = refl
+
+  roles-step : (n : ℕ) → 0 < n
+      → renewRoles n moves t roots now
+      ≡ onOut (roleRenewed (3 - n) moves t roots now) (λ s t₁. onLeaves s (λ k l. out (leaves (refused k) l) t₁) (λ m l. renewRoles (n - 1) m t₁ l now))
+  roles-step zero h = absurd (omega arith)
+  roles-step (suc n) h =
+      let role : 3 - suc n ≡ 2 - n = omega arith in
+      let one : suc n - 1 ≡ n = omega arith in
+      rw (role, one) (roles-next n)
+
+  module _ {y : Out (Leaves (Unit {0}) (List Root))} {s : RoleStep} {t₁ : List ThreadRecord} {roots₁ : List Root} (n : ℕ) where
+    pub role-done : {m : ℕ} → 0 < n → out (leaves (roleAnswer s) roots₁) t₁ ≡ roleRenewed (3 - n) moves t roots now → s ≡ role.Done m
+        → y ≡ renewRoles (n - 1) m t₁ roots₁ now → y ≡ renewRoles n moves t roots now
+    unfolding onOut onLeaves
+    role-done p e m h = rw (roles-step n p, sym e, m) h
+
+    pub role-refused : {k : Refusal} → 0 < n → out (leaves (roleAnswer s) roots₁) t₁ ≡ roleRenewed (3 - n) moves t roots now → s ≡ role.Refused k
+        → y ≡ out (leaves (refused (numberOf k)) roots₁) t₁ → y ≡ renewRoles n moves t roots now
+    unfolding onOut onLeaves
+    role-refused p e m h = rw (roles-step n p, sym e, m) h
+
+  pub roles-over : {y : Out (Leaves (Unit {0}) (List Root))} (n : ℕ) → n ≤ 0 → y ≡ out (leaves (value tt) roots) t → y ≡ renewRoles n moves t roots now
+  unfolding renewRoles
+  roles-over zero p h = h
+  roles-over (suc n) p h = absurd (omega arith)
+
+-- On rows that roots by value were stored to, and read from.
+pub roles-by-rows : {a : Answer (Unit {0})} {l l₁ roots roots₁ : List Root} {t₁ : List ThreadRecord} (n moves : ℕ) (t : List ThreadRecord) (now : ℕ)
+    → l ≡ roots → out (leaves a l₁) t₁ ≡ renewRoles n moves t l now → roots₁ ≡ l₁ → out (leaves a roots₁) t₁ ≡ renewRoles n moves t roots now
+roles-by-rows n moves t now e s f = rw (f, sym e) s
+
+-- There are as many moves as rows.
+pub roles-set-out : (rows : List (List ℕ)) (roots : List Root) (now : ℕ)
+    → renewRoles 3 (length rows) (table rows) roots now ≡ whole (renewRoles 3 (length (table rows)) (table rows) roots now)
+unfolding table
+roles-set-out rows roots now = rw (length-map rows decoded) (setting-out (renewRoles 3 (length rows) (table rows) roots now))
+
+pub ruleset roles = (onward, role-done, role-refused, roles-over)
+
+-- By the queue's epoch.
+module _ {y : Bool} {x : Epoch} (e : ℕ) where
+  pub no-epoch : x ≡ epoch.None → y ≡ false → y ≡ isEpoch x e
+  unfolding isEpoch
+  no-epoch m h = rw m h
+
+  pub some-epoch : {n : ℕ} → x ≡ epoch.Some n → y ≡ eqb n e → y ≡ isEpoch x e
+  unfolding isEpoch
+  some-epoch m h = rw m h
+
+-- By whether a refusal is Halted.
+module _ {A : Type 0} {y : A} {r n : ℕ} (a b : A) where
+  pub is-halt : r ≡ n → r ≡ 9 → y ≡ a → y ≡ choose (isHalt n) a b
+  unfolding isHalt choose
+  is-halt e m h = rw (sym e, eq-eqb r 9 m) h
+
+  pub no-halt : r ≡ n → (r ≡ 9 → ⊥) → y ≡ b → y ≡ choose (isHalt n) a b
+  unfolding isHalt choose
+  no-halt e m h = rw (sym e, ne-eqb r 9 m) h
+
+-- By a verdict that stands beside what a step left.
+module _ {A B : Type 0} {y : A} {r : Verdict} {b : B} (g : ℕ → B → A) (f : Unit {0} → B → A) where
+  pub step-accepted : r ≡ verdict.Accepted → y ≡ f tt b → y ≡ onLeaves (leaves (verdictAnswer r) b) g f
+  unfolding onLeaves
+  step-accepted m h = rw m h
+
+  pub step-refused : {n : Refusal} → r ≡ verdict.Refused n → y ≡ g (numberOf n) b → y ≡ onLeaves (leaves (verdictAnswer r) b) g f
+  unfolding onLeaves
+  step-refused m h = rw m h
+
+-- The parts of a refusal with the mark that it leaves.
+pub with-mark : {h x : Bool} (n : ℕ) (roots : List Root) (e : Epoch) (t : List ThreadRecord) → h ≡ x
+    → _≡_ {A = Out (Leaves (Unit {0}) SelectionParts)}
+    (out (leaves (refused n) (record { indices = roots; «budget_epoch» = e; halted = h })) t)
+    (out (leaves (refused n) (record { indices = roots; «budget_epoch» = e; halted = x })) t)
+with-mark n roots e t m = rw m
+
+pub ruleset steps = (no-epoch, some-epoch, is-halt, no-halt, step-accepted, step-refused, with-mark)

@@ -1,0 +1,438 @@
+// The change of period: every thread of the exhausted trees is refreshed and filed as ready. After the first loop of `CpuRunQueue::peek_next`.
+mod roots;
+
+pub use roots::root_at;
+pub use roots::roots_of;
+pub use roots::set_root;
+pub use roots::store_roots;
+ghost use Prim.Native.Nat.{_<_};
+ghost use mathlib.Core.Bool.{true, false};
+ghost use mathlib.Core.Path.{_≡_};
+ghost use lib.ListN.{length};
+ghost use Rattle.refusal.specs.Answer.{numberOf};
+ghost use Rattle.refusal.specs.Cases.{choose};
+ghost use Rattle.algorithms.specs.Answers.{runtimeAnswer};
+ghost use Rattle.codec.specs.Codec.{decoded};
+ghost use Rattle.rows.specs.Table.{table, out};
+ghost use Rattle.queue.specs.Answers.{verdictAnswer};
+ghost use Rattle.renewal.specs.Renewal as renewal;
+ghost use Rattle.renewal.specs.Steps as steps;
+ghost use Rattle.renewal.specs.Leaves.{leaves};
+ghost use Rattle.renewal.specs.RootRows.{rootsOf};
+ghost use Rattle.renewal.specs.Answers.{headAnswer, moveAnswer, nextAnswer, roleAnswer, rolesAnswer, partsAnswer};
+use algorithms::RuntimeAnswer;
+use codec::parameters_of;
+use codec::runtime_of;
+use queue::Root;
+use queue::Verdict;
+use queue::is_bad_row;
+use ready_index::Least;
+use ready_index::Rooted;
+use ready_index::first;
+use refusal::Refusal;
+use rows::set_runtime;
+use thread::Link;
+use time::Epoch;
+
+// What selection touches of a queue: the twelve roots, the epoch of the last selection and the mark of a queue that halted.
+pub struct SelectionParts {
+    pub indices: [Root; 12],
+    pub budget_epoch: Epoch,
+    pub halted: bool,
+}
+
+// The two budget trees of a role, and how many moves a change of period has left.
+pub struct BudgetTrees {
+    pub exhausted: Link,
+    pub ready: Link,
+    pub moves: u64,
+}
+
+// The head of a tree, none where it is empty.
+pub enum HeadRead {
+    Head(Link),
+    Damaged,
+}
+
+// The trees after a move, or as they are left where it is refused.
+enum Moved {
+    Done(BudgetTrees),
+    Refused(Refusal, BudgetTrees),
+}
+
+// What the next move of a role found.
+enum NextMove {
+    Emptied,
+    Moved(BudgetTrees),
+    Refused(Refusal, BudgetTrees),
+}
+
+// How many moves one role left of those that it was given.
+enum RoleStep {
+    Done(u64),
+    Refused(Refusal),
+}
+
+// The roots as the roles of a change of period leave them.
+pub struct RolesStep {
+    pub answer: Verdict,
+    pub indices: [Root; 12],
+}
+
+// The parts as a change of period leaves them.
+pub struct PartsStep {
+    pub answer: Verdict,
+    pub parts: SelectionParts,
+}
+
+// The head of a tree, or none of an empty tree.
+pub fn head_of(t: &[[u64; 32]], root: Link) -> HeadRead
+    ensures { λ r. ⌜ headAnswer r ≡ renewal.headOf (table (now (t .entry))) root ⌝ }
+{
+    match first(t, root) {
+        Least::None => HeadRead::Head(Link::None),
+        Least::Some(id) => HeadRead::Head(Link::Some(id)),
+        Least::Damaged => HeadRead::Damaged,
+    }
+}
+
+fn store_refreshed(t: &mut [[u64; 32]], id: u64, refreshed: RuntimeAnswer) -> Verdict
+    ensures { λ r. ⌜ out (verdictAnswer r) (table (now (t .exit))) ≡ steps.refreshedStored (table (now (t .entry))) id (runtimeAnswer refreshed) ⌝ }
+{
+    match refreshed {
+        RuntimeAnswer::Refused(_) => Verdict::Refused(Refusal::BadRecord),
+        RuntimeAnswer::Runtime(fresh) => {
+            set_runtime(t, id, fresh);
+            Verdict::Accepted
+        }
+    }
+}
+
+// A record's budget refreshed to the reading and stored: only the words of its runtime are read again.
+fn refresh_budget(t: &mut [[u64; 32]], id: u64, reading: u64) -> Verdict
+    ensures { λ r. ⌜ out (verdictAnswer r) (table (now (t .exit))) ≡ steps.budgetRefreshed (table (now (t .entry))) id reading ⌝ }
+{
+    let k = id as usize;
+    if k < t.len() {
+        let row = t[k];
+        let parameters = parameters_of(row);
+        let runtime = runtime_of(row);
+        let refreshed = runtime.epoch_refresh(reading, parameters);
+        return store_refreshed(t, id, refreshed);
+    }
+    Verdict::Refused(Refusal::Damaged)
+}
+
+// A record of this row: judged, then refreshed to the reading where it has a budget. After `refresh_runtime`.
+pub fn refresh_row(t: &mut [[u64; 32]], id: u64, row: [u64; 32], reading: u64) -> Verdict
+    ensures { λ r. ⌜ out (verdictAnswer r) (table (now (t .exit))) ≡ steps.rowRefreshed (table (now (t .entry))) id (decoded row) reading ⌝ }
+{
+    if is_bad_row(row) {
+        return Verdict::Refused(Refusal::BadRecord);
+    }
+    if row[7] == 0 {
+        return Verdict::Accepted;
+    }
+    refresh_budget(t, id, reading)
+}
+
+fn refresh_runtime(t: &mut [[u64; 32]], id: u64, reading: u64) -> Verdict
+    ensures { λ r. ⌜ out (verdictAnswer r) (table (now (t .exit))) ≡ steps.runtimeRefreshed (table (now (t .entry))) id reading ⌝ }
+{
+    let k = id as usize;
+    if k < t.len() {
+        let row = t[k];
+        return refresh_row(t, id, row, reading);
+    }
+    Verdict::Refused(Refusal::Damaged)
+}
+
+// A thread that is out of the exhausted tree is refreshed, and goes into the ready one.
+fn refile(
+    t: &mut [[u64; 32]],
+    path: &mut [[u64; 2]; 40],
+    trees: BudgetTrees,
+    id: u64,
+    reading: u64,
+) -> Moved
+    ensures { λ r. ⌜ out (moveAnswer r) (table (now (t .exit))) ≡ steps.refiled (table (now (t .entry))) trees id reading ⌝ }
+{
+    let exhausted = trees.exhausted;
+    let old = trees.ready;
+    let refreshed = refresh_runtime(t, id, reading);
+    match refreshed {
+        Verdict::Refused(refusal) => Moved::Refused(refusal, trees),
+        Verdict::Accepted => {
+            let Rooted::Root(ready) = ready_index::insert(t, path, old, id) else {
+                return Moved::Refused(Refusal::Halted, trees);
+            };
+            Moved::Done(BudgetTrees {
+                exhausted,
+                ready,
+                moves: trees.moves,
+            })
+        }
+    }
+}
+
+// One thread out of the exhausted tree, refreshed, and into the ready one.
+fn move_one(
+    t: &mut [[u64; 32]],
+    path: &mut [[u64; 2]; 40],
+    trees: BudgetTrees,
+    id: u64,
+    reading: u64,
+) -> Moved
+    ensures { λ r. ⌜ out (moveAnswer r) (table (now (t .exit))) ≡ renewal.moveOne (table (now (t .entry))) trees id reading ⌝ }
+{
+    let old = trees.exhausted;
+    let ready = trees.ready;
+    let Rooted::Root(exhausted) = ready_index::remove(t, path, old, id) else {
+        return Moved::Refused(Refusal::Halted, trees);
+    };
+    refile(
+        t,
+        path,
+        BudgetTrees {
+            exhausted,
+            ready,
+            moves: trees.moves,
+        },
+        id,
+        reading,
+    )
+}
+
+// The head of the exhausted tree moved, with so many moves left, of which there is one.
+fn next_move(
+    t: &mut [[u64; 32]],
+    path: &mut [[u64; 2]; 40],
+    exhausted: Link,
+    ready: Link,
+    moves: u64,
+    reading: u64,
+) -> NextMove
+    requires { ⌜ 0 < moves ⌝ }
+    ensures { λ r. ⌜ out (nextAnswer r) (table (now (t .exit))) ≡ steps.nextMove moves (table (now (t .entry))) exhausted ready reading ⌝ }
+{
+    let HeadRead::Head(head) = head_of(t, exhausted) else {
+        return NextMove::Refused(
+            Refusal::Damaged,
+            BudgetTrees {
+                exhausted,
+                ready,
+                moves,
+            },
+        );
+    };
+    let Link::Some(id) = head else {
+        return NextMove::Emptied;
+    };
+    let left = moves - 1;
+    let trees = BudgetTrees {
+        exhausted,
+        ready,
+        moves: left,
+    };
+    match move_one(t, path, trees, id, reading) {
+        Moved::Done(after) => NextMove::Moved(after),
+        Moved::Refused(refusal, after) => NextMove::Refused(refusal, after),
+    }
+}
+
+// With no move left, the exhausted tree must be empty.
+fn last_move(t: &[[u64; 32]], exhausted: Link, ready: Link) -> Moved
+    ensures { λ r. ⌜ out (moveAnswer r) (table (now (t .entry))) ≡ steps.lastMove (table (now (t .entry))) exhausted ready ⌝ }
+{
+    let trees = BudgetTrees {
+        exhausted,
+        ready,
+        moves: 0,
+    };
+    let HeadRead::Head(head) = head_of(t, exhausted) else {
+        return Moved::Refused(Refusal::Damaged, trees);
+    };
+    match head {
+        Link::None => Moved::Done(trees),
+        Link::Some(_) => Moved::Refused(Refusal::Damaged, trees),
+    }
+}
+
+// Until the exhausted tree is empty, in so many moves at most.
+fn move_all(
+    t: &mut [[u64; 32]],
+    path: &mut [[u64; 2]; 40],
+    old_exhausted: Link,
+    old_ready: Link,
+    moves: u64,
+    reading: u64,
+) -> Moved
+    ensures { λ r. ⌜ out (moveAnswer r) (table (now (t .exit))) ≡ renewal.moveAll moves (table (now (t .entry))) «old_exhausted» «old_ready» reading ⌝ }
+{
+    let mut exhausted = old_exhausted;
+    let mut ready = old_ready;
+    let mut left = moves;
+    while 0 < left {
+        match next_move(t, path, exhausted, ready, left, reading) {
+            NextMove::Emptied => {
+                return Moved::Done(BudgetTrees {
+                    exhausted,
+                    ready,
+                    moves: left,
+                });
+            }
+            NextMove::Moved(trees) => {
+                exhausted = trees.exhausted;
+                ready = trees.ready;
+                left -= 1;
+            }
+            NextMove::Refused(refusal, trees) => {
+                return Moved::Refused(refusal, trees);
+            }
+        }
+    }
+    last_move(t, exhausted, ready)
+}
+
+// The roots of a role's budget trees stored back.
+fn store_trees(roots: &mut [[u64; 5]], role: usize, trees: BudgetTrees)
+    requires { ⌜ role < 3 ⌝ }
+    ensures { λ r. ⌜ rootsOf (now (roots .exit)) ≡ renewal.withTrees (rootsOf (now (roots .entry))) role trees ⌝ }
+{
+    let exhausted = trees.exhausted;
+    let ready = trees.ready;
+    set_root(roots, 9 + role, exhausted);
+    set_root(roots, 6 + role, ready);
+}
+
+// The trees of one role, in so many moves at most. An empty exhausted tree is passed over.
+fn renew_role(
+    t: &mut [[u64; 32]],
+    path: &mut [[u64; 2]; 40],
+    roots: &mut [[u64; 5]],
+    role: usize,
+    moves: u64,
+    reading: u64,
+) -> RoleStep
+    requires { ⌜ role < 3 ⌝ }
+    ensures { λ r. ⌜ out (leaves (roleAnswer r) (rootsOf (now (roots .exit)))) (table (now (t .exit))) ≡ steps.roleRenewed role moves (table (now (t .entry))) (rootsOf (now (roots .entry))) reading ⌝ }
+{
+    let exhausted = root_at(roots, 9 + role);
+    if exhausted.is_none() {
+        return RoleStep::Done(moves);
+    }
+    let ready = root_at(roots, 6 + role);
+    match move_all(t, path, exhausted, ready, moves, reading) {
+        Moved::Done(trees) => {
+            store_trees(roots, role, trees);
+            RoleStep::Done(trees.moves)
+        }
+        Moved::Refused(refusal, trees) => {
+            store_trees(roots, role, trees);
+            RoleStep::Refused(refusal)
+        }
+    }
+}
+
+// The three roles in turn, in as many moves as there are records for all of them together.
+pub fn renew_roles(
+    t: &mut [[u64; 32]],
+    path: &mut [[u64; 2]; 40],
+    roots: &mut [[u64; 5]],
+    reading: u64,
+) -> Verdict
+    ensures { λ r. ⌜ out (leaves (verdictAnswer r) (rootsOf (now (roots .exit)))) (table (now (t .exit))) ≡ renewal.renewRoles 3 (length (table (now (t .entry)))) (table (now (t .entry))) (rootsOf (now (roots .entry))) reading ⌝ }
+{
+    let mut moves = t.len() as u64;
+    let mut left: usize = 3;
+    while 0 < left {
+        let role = 3 - left;
+        match renew_role(t, path, roots, role, moves, reading) {
+            RoleStep::Done(rest) => {
+                moves = rest;
+                left -= 1;
+            }
+            RoleStep::Refused(refusal) => {
+                return Verdict::Refused(refusal);
+            }
+        }
+    }
+    Verdict::Accepted
+}
+
+// The same on roots by value.
+fn renew_indices(
+    t: &mut [[u64; 32]],
+    path: &mut [[u64; 2]; 40],
+    roots: [Root; 12],
+    reading: u64,
+) -> RolesStep
+    ensures { λ r. ⌜ out (rolesAnswer r) (table (now (t .exit))) ≡ renewal.renewRoles 3 (length (table (now (t .entry)))) (table (now (t .entry))) roots reading ⌝ }
+{
+    let mut rows: [[u64; 5]; 12] = [[0; 5]; 12];
+    store_roots(&mut rows, roots);
+    let answer = renew_roles(t, path, &mut rows, reading);
+    let indices = roots_of(&rows);
+    RolesStep { answer, indices }
+}
+
+// Whether the queue's epoch is this one.
+pub fn is_epoch(last: Epoch, epoch: u64) -> bool
+    ensures { λ r. ⌜ r ≡ renewal.isEpoch last epoch ⌝ }
+{
+    match last {
+        Epoch::None => false,
+        Epoch::Some(number) => number == epoch,
+    }
+}
+
+// The mark after a refusal: Halted leaves it.
+pub fn mark_after(refusal: Refusal, halted: bool) -> bool
+    ensures { λ r. ⌜ r ≡ choose (renewal.isHalt (numberOf refusal)) true halted ⌝ }
+{
+    if refusal.number() == 9 {
+        return true;
+    }
+    halted
+}
+
+// At any change of epoch, also backward or from none, the roles' moves; then the epoch is stored.
+pub fn renew(
+    t: &mut [[u64; 32]],
+    path: &mut [[u64; 2]; 40],
+    parts: SelectionParts,
+    reading: u64,
+    epoch: u64,
+) -> PartsStep
+    ensures { λ r. ⌜ out (partsAnswer r) (table (now (t .exit))) ≡ renewal.renew (table (now (t .entry))) parts reading epoch ⌝ }
+{
+    let budget_epoch = parts.budget_epoch;
+    if is_epoch(budget_epoch, epoch) {
+        return PartsStep {
+            answer: Verdict::Accepted,
+            parts,
+        };
+    }
+    let roots = parts.indices;
+    let step = renew_indices(t, path, roots, reading);
+    let indices = step.indices;
+    let answer = step.answer;
+    match answer {
+        Verdict::Accepted => PartsStep {
+            answer: Verdict::Accepted,
+            parts: SelectionParts {
+                indices,
+                budget_epoch: Epoch::Some(epoch),
+                halted: parts.halted,
+            },
+        },
+        Verdict::Refused(refusal) => PartsStep {
+            answer: Verdict::Refused(refusal),
+            parts: SelectionParts {
+                indices,
+                budget_epoch,
+                halted: mark_after(refusal, parts.halted),
+            },
+        },
+    }
+}

@@ -1,0 +1,23 @@
+-- The calls stand in the definition's order.
+use Rattle.rotations.specs.CasesLaws.{turnings}
+use borrow.Author.Needs.{needs}
+use Rattle.rotations.proofs.double_left.Statement.{statement}
+use Rattle.rotations.proofs.double_left.Tie as tie
+
+pub double-left-spec : {M : Type 1} → statement M
+double-left-spec =
+    tie.close
+    (tie.spec
+    (λ c κs. search needs)
+    (λ c. search needs)
+    (λ c. search needs)
+    (λ c. search needs)
+    (λ c. search turnings depth 8)
+    (λ c κs. search needs)
+    (λ c. search needs)
+    (λ c. search needs)
+    (λ c. search needs)
+    (λ c. search turnings depth 8)
+    (λ c κs. search needs)
+    (λ c. search needs)
+    (λ c. search turnings depth 8))

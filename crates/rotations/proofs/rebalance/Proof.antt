@@ -1,0 +1,36 @@
+-- A node whose sides are even is left with its links; any other is balanced.
+use Rattle.rotations.specs.InPlaceLaws.{in-place}
+use borrow.Author.Needs.{needs}
+use Rattle.rotations.proofs.rebalance.Statement.{statement}
+use Rattle.rotations.proofs.rebalance.Tie as tie
+
+pub rebalance-spec : {M : Type 1} → statement M
+rebalance-spec =
+    tie.close
+    (tie.spec
+    (λ c κs. search needs)
+    (λ c. search needs)
+    (λ c. search needs)
+    (λ c. search needs)
+    (λ c. search in-place depth 12)
+    (λ c κs. search needs)
+    (λ c. search needs)
+    (λ c. search needs)
+    (λ c. search needs)
+    (λ c. search in-place depth 12)
+    (λ c κs. search needs)
+    (λ c. search needs)
+    (λ c. search needs)
+    (λ c. search needs)
+    (λ c. search in-place depth 12)
+    (λ c κs. search needs)
+    (λ c κs. search needs)
+    (λ c. search needs)
+    (λ c. search in-place depth 12)
+    (λ c κs. search needs)
+    (λ c. search needs)
+    (λ c. search needs)
+    (λ c. search needs)
+    (λ c. search in-place depth 12)
+    (λ c. search needs)
+    (λ c. search in-place depth 12))

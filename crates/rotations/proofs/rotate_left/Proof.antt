@@ -1,0 +1,38 @@
+-- Both records are read before one is stored, as in the definition.
+use Rattle.rotations.specs.CasesLaws.{turnings}
+use Rattle.rotations.specs.Balance.{rotateLeft}
+use borrow.Author.Needs.{needs}
+use Rattle.rotations.proofs.rotate_left.Statement.{statement}
+use Rattle.rotations.proofs.rotate_left.Tie as tie
+
+pub rotate-left-spec : {M : Type 1} → statement M
+unfolding rotateLeft
+rotate-left-spec =
+    tie.close
+    (tie.spec
+    (λ c κs. search needs)
+    (λ c. search needs)
+    (λ c. search needs)
+    (λ c. search needs)
+    (λ c. search turnings depth 8)
+    (λ c. search needs)
+    (λ c. search needs)
+    (λ c. search needs)
+    (λ c. search turnings depth 8)
+    (λ c κs. search needs)
+    (λ c. search needs)
+    (λ c. search needs)
+    (λ c. search needs)
+    (λ c. search turnings depth 8)
+    (λ c κs. search needs)
+    (λ c. search needs)
+    (λ c. search needs)
+    (λ c. search needs)
+    (λ c. search turnings depth 8)
+    (λ c κs. search needs)
+    (λ c. search needs)
+    (λ c. search needs)
+    (λ c. search needs)
+    (λ c. search turnings depth 8)
+    (λ c. search needs)
+    (λ c. search turnings depth 8))

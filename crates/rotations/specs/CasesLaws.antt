@@ -1,0 +1,35 @@
+-- The laws by which proofs of code go by an answer.
+use mathlib.Core.Path.{_≡_, sym, _∙_}
+use mathlib.Core.List.{List}
+use Prim.Native.Nat.{ℕ}
+use Rattle.refusal.specs.Cases.{cases}
+use Rattle.avl.specs.RotationLaws.{leaning}
+use Rattle.thread.specs.declared.ThreadRecord.{ThreadRecord}
+use Rattle.thread.specs.MembershipLaws.{memberships}
+use Rattle.rotations.specs.declared.HeightRead.{HeightRead}
+use Rattle.rotations.specs.declared.HeightRead.the-variants as height
+use Rattle.rotations.specs.declared.Turned.{Turned}
+use Rattle.rotations.specs.declared.Turned.the-variants as turned
+use Rattle.rows.specs.TableCases.{tables}
+use Rattle.rows.specs.Table.{Out, out}
+use Rattle.rotations.specs.Cases.{onHeight, onTurned}
+
+module _ {A : Type 0} {y : A} (a : A) where
+  pub height-got : {r x : HeightRead} {n : ℕ} (f : ℕ → A) → r ≡ x → r ≡ height.Got n → y ≡ f n → y ≡ onHeight x a f
+  unfolding onHeight
+  height-got f e m h = rw (sym e ∙ m) h
+
+  pub height-damaged : {r x : HeightRead} (f : ℕ → A) → r ≡ x → r ≡ height.Damaged → y ≡ a → y ≡ onHeight x a f
+  unfolding onHeight
+  height-damaged f e m h = rw (sym e ∙ m) h
+
+module _ {A : Type 0} {y : A} {t : List ThreadRecord} (a : List ThreadRecord → A) where
+  pub turned-root : {r : Turned} {x : Out Turned} {i : ℕ} (f : ℕ → List ThreadRecord → A) → out r t ≡ x → r ≡ turned.Root i → y ≡ f i t → y ≡ onTurned x a f
+  unfolding onTurned
+  turned-root f e m h = rw (sym e) (rw m h)
+
+  pub turned-damaged : {r : Turned} {x : Out Turned} (f : ℕ → List ThreadRecord → A) → out r t ≡ x → r ≡ turned.Damaged → y ≡ a t → y ≡ onTurned x a f
+  unfolding onTurned
+  turned-damaged f e m h = rw (sym e) (rw m h)
+
+pub ruleset turnings = (cases, leaning, memberships, tables, height-got, height-damaged, turned-root, turned-damaged)
