@@ -8,10 +8,6 @@ use tables::windows;
 
 pub use tables::windows::{candidate_words, demand_words, halves, key_words, whole, window_words};
 
-/// A record's parameters and its runtime, where they are answered by themselves.
-pub type ParametersWords = [u64; 11];
-pub type RuntimeWords = [u64; 5];
-
 pub fn flag_of(word: u64) -> bool {
     match word {
         0 => false,

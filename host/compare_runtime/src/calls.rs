@@ -2,6 +2,8 @@
 //! crates/window_words/specs/WindowWords.antt and crates/runtime_entries/specs/Entries.antt for the others.
 
 pub type Row = [u64; 32];
+pub type ParametersWords = [u64; 11];
+pub type RuntimeWords = [u64; 5];
 pub type WindowWords = [u64; 12];
 pub type DemandWords = [u64; 5];
 pub type KeyWords = [u64; 9];

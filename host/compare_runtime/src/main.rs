@@ -1,6 +1,6 @@
 //! Compares the port's preparing, accounting, switch rule and deadlines with the kernel's own Rust: `compare_runtime [--seed N] [--seconds S]`.
 //!
-//! First boundary values in combination and every pair of policies for the switch rule, then seeded random runs for S
+//! First every pair of policies for the switch rule, all small values, and boundary values in combination, then seeded random runs for S
 //! seconds. After each call the answer, the counters or the window, and every record are compared. The last line is
 //! `differs 0`, or `differs N` with the first differing inputs above it and exit code 1.
 
@@ -49,6 +49,7 @@ fn main() -> ExitCode {
     let mut random = Random::new(seed);
     runs::large(&mut tally, &mut random);
     runs::every_pair(&mut tally);
+    runs::small(&mut tally);
     runs::boundary(&mut tally, LIMIT);
     let (began, time) = (Instant::now(), Duration::from_secs(seconds));
     while began.elapsed() < time {

@@ -1,4 +1,4 @@
-//! Every boundary value with every other, thinned out where the product is too large, and seeded rounds.
+//! All small values; every boundary value with every other, thinned out where the product is too large; and seeded rounds.
 
 use kernel::oracle::*;
 
@@ -132,6 +132,81 @@ fn one(picks: &mut impl Picks, number: u64) -> Record {
         _ => (params_idle(), Runtime::Idle),
     };
     Record::new(params, runtime, number, 0)
+}
+
+fn small_config() -> Config {
+    Config {
+        period: 4,
+        allowance: 1,
+        floor: 1,
+        order: DEFAULT_ORDER,
+        prefer_fair: false,
+    }
+}
+
+fn small_window(picks: &mut impl Picks) -> Window {
+    Window {
+        epoch: picks.of([None, Some(0), Some(1), Some(2)]),
+        priority_remaining: picks.below(3),
+        protected_remaining: picks.below(3),
+        ..window_new(small_config())
+    }
+}
+
+fn small_budget(picks: &mut impl Picks) -> Record {
+    let budget = Budget {
+        budget: 1 + picks.below(4),
+        period: 4,
+        burst: 1 + picks.below(4),
+    };
+    let runtime = BudgetRt {
+        epoch: picks.of([None, Some(0), Some(1), Some(2)]),
+        remaining: picks.below(5),
+        burst: picks.below(5),
+    };
+    let params = params_budget(budget, 1, Role::Protected);
+    Record::new(params, Runtime::Budget(runtime), 1, 0)
+}
+
+/// All small values, none left out: a period of 4, readings below 10, budgets and bursts to 4 with any part of them left, windows with any part of allowance and
+/// floor left, counters at both ends of their range.
+pub fn small(tally: &mut Tally) {
+    let alone = |record| Named {
+        records: vec![record],
+        id: 0,
+    };
+    each(u128::MAX, |picks| {
+        let named = alone(small_budget(picks));
+        let (start, end) = (picks.below(10), picks.below(10));
+        let window = window_new(small_config());
+        tally.account_current(&named, window, Mode::Protected, start, end);
+    });
+    each(u128::MAX, |picks| {
+        let named = alone(one(picks, 5));
+        let (start, end) = (picks.below(10), picks.below(10));
+        let window = small_window(picks);
+        tally.account_current(&named, window, picks.mode(), start, end);
+    });
+    each(u128::MAX, |picks| {
+        let mut record = one(picks, 5);
+        record.turn = picks.of([0, 5]);
+        let (front, turns) = (picks.flag(), inputs::turns(picks));
+        tally.prepare_enqueue(&alone(record), front, picks.below(25), turns);
+    });
+    each(u128::MAX, |picks| {
+        let decision = Decision {
+            current: Record {
+                running: true,
+                ..one(picks, 5)
+            },
+            window: small_window(picks),
+            now: picks.below(10),
+            ready: None,
+            demand: Demand::default(),
+        };
+        let (mode, competition) = (picks.mode(), picks.flag());
+        tally.deadline(&decision, mode, competition, picks.flag());
+    });
 }
 
 /// A table of more records than document 01 takes, and one of just as many.
