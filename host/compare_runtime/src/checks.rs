@@ -140,7 +140,7 @@ pub trait Checks {
         } = *decision;
         let mut rows = Rows::of(&[current]);
         let mut after = window;
-        let answer = port_switch(&mut rows, &mut after, decision, yielding);
+        let answer = port_switch(&mut rows, 0, &mut after, decision, yielding);
         let (mut record, mut other) = (current, window);
         let wanted = expected::switch(&mut record, &mut other, now, ready, demand, yielding);
         self.compare(
@@ -168,7 +168,7 @@ pub trait Checks {
         };
         let mut rows = Rows::of(&[current]);
         let (mut after, mut its_mode) = (window, mode);
-        let answer = port_deadline(&mut rows, &mut after, &mut its_mode, decision, others);
+        let answer = port_deadline(&mut rows, 0, &mut after, &mut its_mode, decision, others);
         let (mut record, mut other, mut wanted_mode) = (current, window, mode);
         let wanted = expected::deadline(
             &mut record,
@@ -199,33 +199,36 @@ impl Checks for Tally {
     }
 }
 
-fn port_switch(
+/// The switch of the thread with this number, by the port's calls one after the other.
+pub fn port_switch(
     rows: &mut Rows,
+    id: u64,
     window: &mut Window,
     decision: &Decision,
     yielding: bool,
 ) -> Answer<Option<bool>> {
     let current = decision.current;
-    let key = rows.current_key(0, current.running, decision.now, window, decision.demand)?;
-    let expired = rows.expired(0)?;
+    let key = rows.current_key(id, current.running, decision.now, window, decision.demand)?;
+    let expired = rows.expired(id)?;
     let ready = decision.ready.map(|ready| ready.key);
     let tail = current.deferred == Some(Deferred::Tail);
-    let (switches, front) = rows.choose_ready(0, ready, &key, expired, yielding, tail);
+    let (switches, front) = rows.choose_ready(id, ready, &key, expired, yielding, tail);
     if expired || yielding {
-        rows.finish_turn(0)?;
+        rows.finish_turn(id)?;
     }
     Ok(switches.then_some(front))
 }
 
-fn port_deadline(
+pub fn port_deadline(
     rows: &mut Rows,
+    id: u64,
     window: &mut Window,
     mode: &mut Mode,
     decision: &Decision,
     others: Others,
 ) -> Answer<Option<u64>> {
     let (running, now) = (decision.current.running, decision.now);
-    let key = rows.current_key(0, running, now, window, decision.demand)?;
+    let key = rows.current_key(id, running, now, window, decision.demand)?;
     *mode = mode_of(&key).unwrap_or(*mode);
-    rows.refresh_deadline(0, now, &key, window, others)
+    rows.refresh_deadline(id, now, &key, window, others)
 }

@@ -4,60 +4,29 @@
 //! seconds. After each call the answer, the counters or the window, and every record are compared. The last line is
 //! `differs 0`, or `differs N` with the first differing inputs above it and exit code 1.
 
-mod calls;
-mod checks;
-mod expected;
-mod inputs;
-mod port;
-mod runs;
-#[path = "../../compare/src/words.rs"]
-#[allow(dead_code, unused_imports)]
-mod words;
-
-use std::env;
 use std::process::ExitCode;
-use std::time::{Duration, Instant};
 
+use compare_runtime::runs;
 use tables::generator::Random;
+use tables::run;
 use tables::tally::Tally;
-
-const USAGE: &str = "usage: compare_runtime [--seed N] [--seconds S]";
 
 /// As many numbers of a product of boundary values as are tried.
 const LIMIT: u128 = 300_000;
 
-fn options() -> Option<(u64, u64)> {
-    let (mut seed, mut seconds) = (1, 5);
-    let mut words = env::args().skip(1);
-    while let Some(word) = words.next() {
-        let number = words.next()?.parse().ok()?;
-        match word.as_str() {
-            "--seed" => seed = number,
-            "--seconds" => seconds = number,
-            _ => return None,
-        }
-    }
-    Some((seed, seconds))
+/// Tables at their limits, every pair of policies, all small values, and boundary values.
+fn first(tally: &mut Tally, random: &mut Random) {
+    runs::large(tally, random);
+    runs::every_pair(tally);
+    runs::small(tally);
+    runs::boundary(tally, LIMIT);
+}
+
+fn round(tally: &mut Tally, random: &mut Random, _: u64) {
+    runs::round(tally, random);
+    runs::sequence(tally, random);
 }
 
 fn main() -> ExitCode {
-    let Some((seed, seconds)) = options() else {
-        eprintln!("{USAGE}");
-        return ExitCode::from(2);
-    };
-    let mut tally = Tally::default();
-    let mut random = Random::new(seed);
-    runs::large(&mut tally, &mut random);
-    runs::every_pair(&mut tally);
-    runs::small(&mut tally);
-    runs::boundary(&mut tally, LIMIT);
-    let (began, time) = (Instant::now(), Duration::from_secs(seconds));
-    while began.elapsed() < time {
-        runs::round(&mut tally, &mut random);
-        runs::sequence(&mut tally, &mut random);
-    }
-    match tally.report() {
-        0 => ExitCode::SUCCESS,
-        _ => ExitCode::FAILURE,
-    }
+    run::compare("compare_runtime", first, round)
 }

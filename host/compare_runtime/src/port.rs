@@ -28,6 +28,14 @@ impl Rows {
         self.0.iter().map(record_of).collect()
     }
 
+    /// A call on rows that someone else keeps.
+    pub fn lent<T>(rows: &mut Vec<Row>, call: impl FnOnce(&mut Self) -> T) -> T {
+        let mut lent = Self(core::mem::take(rows));
+        let answer = call(&mut lent);
+        *rows = lent.0;
+        answer
+    }
+
     pub fn prepare_enqueue(
         &mut self,
         id: u64,

@@ -45,6 +45,16 @@ impl History {
         }
     }
 
+    /// A board that no list of accepted calls has left, of which demand 3 says nothing.
+    pub fn of(board: Board) -> Self {
+        let queued = board.table.records.iter();
+        Self {
+            queued: queued.map(|r| r.membership != Membership::None).collect(),
+            board,
+            stands: false,
+        }
+    }
+
     pub fn count(&self) -> u64 {
         self.board.count()
     }

@@ -65,6 +65,10 @@ impl Course {
         }
     }
 
+    pub fn config(&self) -> Config {
+        self.config
+    }
+
     /// A budget of the course's period, with what a refresh at this reading leaves of it.
     fn budgeted(&self, random: &mut Random, record: &mut Record) {
         let period = self.config.period;
@@ -153,7 +157,7 @@ impl Course {
     }
 
     /// The run's configuration, at times another, of another period or not sound.
-    fn config(&self, random: &mut Random) -> Config {
+    fn its_config(&self, random: &mut Random) -> Config {
         let mut config = self.config;
         config.prefer_fair = random.flag();
         match (self.steady, random.below(32)) {
@@ -169,7 +173,7 @@ impl Course {
         if random.below(3) == 0 {
             return self.window;
         }
-        let config = self.config(random);
+        let config = self.its_config(random);
         random.window(config, self.now)
     }
 

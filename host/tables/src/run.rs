@@ -7,7 +7,7 @@ use std::time::{Duration, Instant};
 use crate::generator::Random;
 use crate::tally::Tally;
 
-/// `--seed N` and `--seconds S`, else 1 and 5; none where a word is not one of them.
+/// `--seed N` and `--seconds S` or `--minutes M`, else 1 and 5 seconds; none where a word is not one of them.
 fn options() -> Option<(u64, u64)> {
     let (mut seed, mut seconds) = (1, 5);
     let mut words = env::args().skip(1);
@@ -16,6 +16,7 @@ fn options() -> Option<(u64, u64)> {
         match word.as_str() {
             "--seed" => seed = number,
             "--seconds" => seconds = number,
+            "--minutes" => seconds = 60 * number,
             _ => return None,
         }
     }
@@ -29,7 +30,7 @@ pub fn compare(
     mut round: impl FnMut(&mut Tally, &mut Random, u64),
 ) -> ExitCode {
     let Some((seed, seconds)) = options() else {
-        eprintln!("usage: {program} [--seed N] [--seconds S]");
+        eprintln!("usage: {program} [--seed N] [--seconds S | --minutes M]");
         return ExitCode::from(2);
     };
     let (mut tally, mut random) = (Tally::default(), Random::new(seed));

@@ -275,6 +275,12 @@ impl Rules {
         }
     }
 
+    /// The source on its own access to its records, with nothing beside it.
+    pub const NONE: Self = Self {
+        judge_records: false,
+        move_limit: u64::MAX,
+    };
+
     /// The source alone; the limit only stops a walk that would go on for ever.
     pub const SOURCE: Self = Self {
         judge_records: false,

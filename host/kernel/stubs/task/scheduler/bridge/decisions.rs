@@ -4,7 +4,8 @@ use std::sync::{Mutex, PoisonError};
 
 use super::super::Error;
 use super::super::algorithms::arbitration::CpuWindow;
-use super::super::queue::{ReadyThread, Selection as SourceSelection};
+use super::super::queue::{LocalReadyQueueAuthority, ReadyThread, Selection as SourceSelection};
+use super::super::registry::CpuThreadTableAuthority;
 use super::super::state::CpuScheduler;
 use super::super::state::runtime::access;
 use super::*;
@@ -270,5 +271,74 @@ impl KeptScheduler {
     pub fn finish(&mut self) {
         let schedule = &mut self.0.records[0];
         schedule.runtime.finish_turn(schedule.parameters);
+    }
+}
+
+/// A board over records and a queue that stay the source's own between calls, through the source's own access: for counts of instructions and times.
+pub struct KeptBoard(CpuScheduler);
+
+impl KeptBoard {
+    /// On processor 0, last accounted at `now`, with an empty queue; the thread `current` runs.
+    pub fn of(records: &[Record], window: Window, now: u64, current: u64) -> Self {
+        Self(CpuScheduler {
+            index: CpuIndex::from(0),
+            current: thread(current),
+            run_queue: queue_to_source(&Queue::EMPTY),
+            window: window.to_source(),
+            last_account_ns: Some(now),
+            fair_floor: 0,
+            dispatch_mode: Mode::Ordinary.to_source(),
+            armed_deadline_ns: None,
+            deadline_generation: 0,
+            records: records_to_source(records),
+            rules: Rules::NONE,
+            move_limit_reached: false,
+            given_selection: None,
+        })
+    }
+
+    /// `prepare_enqueue`, then the enqueue at the end that it says; the counters run on.
+    pub fn enqueue(&mut self, place: u64, front: bool, now: u64) -> Answer<()> {
+        let local = &mut self.0;
+        access::prepare(&mut local.records[length(place)], 0, front, now);
+        let table = CpuThreadTableAuthority::new(local.index, &mut local.records);
+        let threads = &mut LocalReadyQueueAuthority::new(table);
+        let (queue, id) = (&mut local.run_queue, thread(place));
+        match front {
+            true => queue.enqueue_front(threads, id, local.index),
+            false => queue.enqueue(threads, id, local.index),
+        }
+        .map_err(refusal)
+    }
+
+    /// The thread leaves the queue and runs.
+    pub fn run(&mut self, place: u64) -> Answer<()> {
+        let local = &mut self.0;
+        let membership = local.records[length(place)].ready_queue_links.membership;
+        let table = CpuThreadTableAuthority::new(local.index, &mut local.records);
+        let threads = &mut LocalReadyQueueAuthority::new(table);
+        let removed = local
+            .run_queue
+            .remove(threads, thread(place), local.index, membership);
+        local.current = thread(place);
+        local.records[length(place)].state = ThreadState::Running;
+        removed.map_err(refusal)
+    }
+
+    /// `account_current` up to the clock's reading (`KeptScheduler::set_clock`).
+    pub fn account(&mut self) -> Answer<()> {
+        access::account(&mut self.0).map_err(refusal)
+    }
+
+    /// `choose_ready`: the thread to switch to, and whether the running one goes to the front.
+    pub fn choose(&mut self) -> Answer<Option<(u64, bool)>> {
+        let chosen = access::choose(&mut self.0, false).map_err(refusal)?;
+        Ok(chosen.map(|(id, front)| (number(id), front)))
+    }
+
+    /// `refresh_deadline`.
+    pub fn deadline(&mut self) -> Answer<Option<u64>> {
+        access::deadline(&mut self.0).map_err(refusal)?;
+        Ok(self.0.armed_deadline_ns)
     }
 }

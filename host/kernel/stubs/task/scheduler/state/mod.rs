@@ -40,8 +40,8 @@ impl CpuScheduler {
         CpuThreadTableAuthority::new(self.index, &mut self.records)
     }
 
-    #[cfg(feature = "unchanged")]
-    fn local_selection(&mut self, current: Option<Candidate>) -> Result<Selection, Error> {
+    /// The queue's own selection, on the source's own access to the records.
+    fn own_selection(&mut self, current: Option<Candidate>) -> Result<Selection, Error> {
         let now = self.now();
         let cpu = self.index;
         let table = CpuThreadTableAuthority::new(cpu, &mut self.records);
@@ -54,10 +54,18 @@ impl CpuScheduler {
         )
     }
 
+    #[cfg(feature = "unchanged")]
+    fn local_selection(&mut self, current: Option<Candidate>) -> Result<Selection, Error> {
+        self.own_selection(current)
+    }
+
     #[cfg(not(feature = "unchanged"))]
     fn local_selection(&mut self, current: Option<Candidate>) -> Result<Selection, Error> {
         if let Some(selection) = self.given_selection {
             return Ok(selection);
+        }
+        if self.rules == crate::oracle::Rules::NONE {
+            return self.own_selection(current);
         }
         let now = self.now();
         let cpu = self.index;

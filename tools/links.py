@@ -1,0 +1,62 @@
+#!/usr/bin/env python3
+"""tools/links.py [--check], from the repository's root: the line numbers of the links in README.md and docs/ that name a definition, a theorem or a function.
+
+Such a link is [`NAME`](../crates/CRATE/FILE#L12): line 12 of that file is where NAME is defined. Without --check the numbers are set anew; with it nothing is written, each link that is
+not true is printed, and the exit status is 0 where all are."""
+import glob
+import os
+import re
+import sys
+
+LINK = re.compile(r'\[`([^`]+)`\]\(((?:\.\./)?crates/[^)#]+)#L(\d*)\)')
+
+
+def defined_at(name, lines):
+    """The line on which a file defines a name: a function, a type, a variant's owner, or a definition or theorem of specs/."""
+    last = re.escape(name.split('::')[-1].split(' .')[-1])
+    forms = [
+        rf'(pub )?(extern "C" )?(fn|struct|enum|const|type) {last}\b',
+        rf'((abbrev|unfoldable) )*(pub )?(abbrev |unfoldable |data |record |ruleset )*(pub )?«?{last}»? *(\(|:|=|where|\{{|$)',
+        rf'«?{last}»? :',
+    ]
+    owner = name.split('::')[-2] if '::' in name else None
+    start = 0
+    if owner:
+        start = next((n for n, line in enumerate(lines) if re.match(rf'impl {owner}\b', line)), 0)
+    for form in forms:
+        for n in range(start, len(lines)):
+            if re.match(form, lines[n].strip()):
+                return n + 1
+    return None
+
+
+def main():
+    check, wrong, count = '--check' in sys.argv[1:], 0, 0
+    for page in ['README.md', *sorted(glob.glob('docs/*.md'))]:
+        with open(page) as text:
+            before = text.read()
+
+        def mended(found):
+            nonlocal wrong, count
+            name, path, line = found.groups()
+            place = os.path.normpath(os.path.join(os.path.dirname(page), path))
+            count += 1
+            at = None
+            if os.path.exists(place):
+                with open(place) as source:
+                    at = defined_at(name, source.read().split('\n'))
+            if at is None or (check and str(at) != line):
+                wrong += 1
+                print(f'{page}: {name} is not defined at {path}#L{line}' + (f', but at line {at}' if at else ''))
+                return found.group(0)
+            return f'[`{name}`]({path}#L{at})'
+
+        after = LINK.sub(mended, before)
+        if not check and after != before:
+            with open(page, 'w') as text:
+                text.write(after)
+    print(f'links: {count} links, {wrong} not true')
+    sys.exit(1 if wrong else 0)
+
+
+main()
