@@ -1,85 +1,188 @@
 #!/usr/bin/env python3
-"""tools/wrong_answers.py [--list | --check], from the repository's root: the wrong answers that the contracts rule out, and whether each was refused where it was put.
+"""tools/wrong_answers.py [--list | --check | --try NAME..], from the repository's root: the wrong answers that the contracts rule out, and whether each is refused where it is put.
 
-An edit (crates/NAME/must-fail/*.edit) may try several wrong answers in one check of its crate, each in a function of its own and under a line `# fn PATH: the wrong answer in words`. The
-check's log says of each function whether it is proved: the named one must not be, by itself and not only because it calls another that is not. An edit without such a line changes a
-definition or a promise, and is judged whole by rt; its first line says the wrong answer.
+A wrong answer is a line `# fn PATH: the wrong answer in words` with the `file:`, `old:` and `new:` lines below it that put it into the function PATH of a crate. They stand
+- in crates/NAME/must-fail/*.edit, which `rt ci` tries. Several share one edit and so one check of the crate, where no edited function calls another. An edit without such a line changes a definition or a promise, and is
+  judged whole by rt; its first line says the wrong answer.
+- in crates/NAME/wrong-answers, any number of them, which --try puts in, as many at once as do not touch each other, and asks `rt dev` of a copy of the repository under target/wrong-answers.
+The check says of each function whether it is proved: the named one must not be, by itself and not only because it calls another that is not.
 
-With no word, after `rt ci` or `rt must-fail`: the logs are looked at; the last line is 'N wrong answers refused, 0 not', and the exit status is 0 then. --list writes docs/WRONG-ANSWERS.md,
+With no word, after `rt ci` or `rt must-fail`: the logs are looked at; the last line is 'N wrong answers refused, 0 not', and the exit status is 0 then; so it is with --try. --list writes docs/WRONG-ANSWERS.md,
 --check asks whether that page is current."""
 import glob
 import os
 import re
+import shutil
+import subprocess
 import sys
 
 PAGE = 'docs/WRONG-ANSWERS.md'
+COPY = 'target/wrong-answers'
 HEAD = """# Wrong answers that the contracts rule out, each tried
 
-Written by `python3 tools/wrong_answers.py --list` from crates/NAME/must-fail/*.edit. Each edit puts wrong answers into a copy of its crate, and the gate asks that the prover refuses them: of a function, that this function is not proved, by itself and not only because it calls
-another that is not (`python3 tools/wrong_answers.py`); of a definition or a promise, that the crate is not proved.
+Written by `python3 tools/wrong_answers.py --list`. Each wrong answer is put into a copy of its crate, and the prover must refuse it: of a function, that this function is not proved, by itself and not only because it calls another that is not; of a definition or a promise, that the crate is not
+proved. Those with an edit's name are tried by the gate (crates/NAME/must-fail), the others by hand (crates/NAME/wrong-answers, `python3 tools/wrong_answers.py --try NAME`).
 """
 
 
-def tried(edit):
-    """What an edit tries: a function, or none for a definition or a promise, and the wrong answer in words."""
-    with open(edit) as text:
-        lines = text.read()
-    functions = re.findall(r'^# fn ([\w:]+): (.*)$', lines, re.MULTILINE)
-    if functions:
-        return functions
-    place = re.search(r'^file: (.*)$', lines, re.MULTILINE).group(1)
-    return [(None, f"{re.search(r'^# (.*)$', lines, re.MULTILINE).group(1)} ({place})")]
+def answers_in(path):
+    """The wrong answers of a file: function (none for a definition or a promise), words, replacements."""
+    found, place, old = [], None, None
+    with open(path) as text:
+        lines = text.read().split('\n')
+    for line in lines:
+        head = re.match(r'# fn ([\w:]+): (.*)$', line)
+        if head:
+            found.append((head.group(1), head.group(2), []))
+        elif line.startswith('# ') and not found:
+            found.append((None, line[2:], []))
+        elif line.startswith('file: '):
+            place = line[6:]
+        elif line.startswith('old: '):
+            old = line[5:]
+        elif line.startswith('new:'):
+            found[-1][2].append((place, old, line[5:]))
+    return found
 
 
 def edits():
     for edit in sorted(glob.glob('crates/*/must-fail/*.edit')):
-        yield edit, edit.split('/')[1], os.path.basename(edit)[: -len('.edit')], tried(edit)
+        yield edit, edit.split('/')[1], os.path.basename(edit)[: -len('.edit')], answers_in(edit)
 
 
-def unproved(log):
-    """The functions that are not proved by themselves; of one that had no proof written, the log says 'no proof'."""
-    if not os.path.exists(log):
-        return set()
-    with open(log) as text:
-        return set(re.findall(r'^fn (\S+): (?:not proved|no proof)$', text.read(), re.MULTILINE))
+def by_hand(crate):
+    path = f'crates/{crate}/wrong-answers'
+    return answers_in(path) if os.path.exists(path) else []
+
+
+def unproved(said):
+    """The functions that are not proved by themselves; of one that had no proof written, the check says 'no proof'."""
+    return set(re.findall(r'^fn (\S+): (?:not proved$|no proof\b)', said, re.MULTILINE))
 
 
 def page():
-    lines, crate_before = [HEAD], None
+    rows = {}
     for _, crate, label, answers in edits():
-        if crate != crate_before:
-            lines.append(f'\n## {crate}\n\n| where | wrong answer | edit |\n|---|---|---|')
-        crate_before = crate
-        lines += [f'| {f"`{function}`" if function else "definition or promise"} | {answer} | {label} |' for function, answer in answers]
-    return '\n'.join(lines) + '\n'
+        for function, words, changes in answers:
+            where = f'`{function}`' if function else f'definition or promise ({changes[0][0]})'
+            rows.setdefault(crate, []).append((where, words, label))
+    for path in glob.glob('crates/*/wrong-answers'):
+        crate = path.split('/')[1]
+        rows.setdefault(crate, []).extend((f'`{function}`', words, 'by hand') for function, words, _ in by_hand(crate))
+    text = HEAD
+    for crate in sorted(rows):
+        text += f'\n## {crate}\n\n| where | wrong answer | edit |\n|---|---|---|\n'
+        text += ''.join(f'| {where} | {words} | {label} |\n' for where, words, label in sorted(rows[crate]))
+    return text
 
 
-def judged():
+def verdict(refused, others):
+    print(f'{refused} wrong answers refused, {others} not')
+    sys.exit(1 if others or not refused else 0)
+
+
+def judge_logs():
     refused, others = 0, 0
     for edit, crate, label, answers in edits():
         log = f'target/must-fail/{crate}/{label}/.log'
-        failed = unproved(log)
-        for function, answer in answers:
+        failed = unproved(open(log).read()) if os.path.exists(log) else set()
+        for function, words, _ in answers:
             if f'{crate}::{function}' in failed or function is None and os.path.exists(log):
                 refused += 1
             else:
                 others += 1
-                print(f'{edit}: {function}: NOT REFUSED there: {answer}')
-    print(f'{refused} wrong answers refused, {others} not')
-    return others == 0 and refused > 0
+                print(f'{edit}: {function}: NOT REFUSED there: {words}')
+    verdict(refused, others)
+
+
+def calls_within(crate):
+    """For each function of a crate, the functions of the crate that it reaches, by their last names."""
+    bodies = {}
+    for path in glob.glob(f'crates/{crate}/src/*.rt'):
+        with open(path) as text:
+            for name, body in re.findall(r'^ *(?:pub )?(?:extern "C" )?fn (\w+)(.*?)(?=^ *(?:pub )?(?:extern "C" )?fn |\Z)', text.read(), re.MULTILINE | re.DOTALL):
+                bodies[name] = bodies.get(name, '') + body
+    reached = {name: {other for other in bodies if re.search(rf'\b{other}\(', body)} for name, body in bodies.items()}
+    changed = True
+    while changed:
+        changed = False
+        for name, others in reached.items():
+            more = set().union(others, *(reached[other] for other in others))
+            if more != others:
+                reached[name], changed = more, True
+    return reached
+
+
+def rounds(crate, answers):
+    """The wrong answers in rounds: in a round no edited function is, or reaches, another edited one."""
+    reached, made = calls_within(crate), []
+    for answer in answers:
+        name = answer[0].split('::')[-1]
+        for one in made:
+            others = [a[0].split('::')[-1] for a in one]
+            if all(name != o and o not in reached.get(name, ()) and name not in reached.get(o, ()) for o in others):
+                one.append(answer)
+                break
+        else:
+            made.append([answer])
+    return made
+
+
+def put_in(crate, changes):
+    for place, old, new in changes:
+        path = f'{COPY}/crates/{crate}/{place}'
+        with open(path) as text:
+            before = text.read()
+        if before.count(old) != 1:
+            return f'the old text stands {before.count(old)} times in {place}: {old.strip()}'
+        with open(path, 'w') as out:
+            out.write(before.replace(old, new))
+    return None
+
+
+def tried(crate, one):
+    """One round on the copy: how many are refused, and those that are not."""
+    shutil.rmtree(f'{COPY}/crates/{crate}/src')
+    shutil.copytree(f'crates/{crate}/src', f'{COPY}/crates/{crate}/src')
+    bad = {answer[0]: put_in(crate, answer[2]) for answer in one}
+    ran = subprocess.run(['rt', 'dev', crate], cwd=COPY, capture_output=True, text=True)
+    said = ran.stdout + ran.stderr
+    failed = unproved(said) if 'logic=' in said else set()
+    wrong = [(f, w, bad[f] or ('' if 'logic=' in said else said[:300])) for f, w, _ in one if bad[f] or f'{crate}::{f}' not in failed]
+    return len(one) - len(wrong), wrong
+
+
+def try_by_hand(crates):
+    refused, others = 0, 0
+    os.makedirs(COPY, exist_ok=True)
+    for part in ['crates', 'crates.txt']:
+        subprocess.run(['cp', '-r', part, COPY], check=True)
+    os.makedirs(f'{COPY}/target', exist_ok=True)
+    for part in ['rlib', 'stamp']:
+        subprocess.run(['cp', '-r', f'target/{part}', f'{COPY}/target'], check=True)
+    for crate in crates:
+        for number, one in enumerate(rounds(crate, by_hand(crate))):
+            good, wrong = tried(crate, one)
+            refused, others = refused + good, others + len(wrong)
+            print(f'{crate}, round {number + 1}: {good} of {len(one)} refused', flush=True)
+            for function, words, why in wrong:
+                print(f'  {function}: NOT REFUSED there: {words} {why}', flush=True)
+    verdict(refused, others)
 
 
 def main():
     words = sys.argv[1:]
-    if '--list' in words:
+    if words[:1] == ['--list']:
         with open(PAGE, 'w') as out:
             out.write(page())
-    elif '--check' in words:
+    elif words[:1] == ['--check']:
         current = os.path.exists(PAGE) and open(PAGE).read() == page()
         print(f'{PAGE} is {"" if current else "not "}current')
         sys.exit(0 if current else 1)
+    elif words[:1] == ['--try']:
+        try_by_hand(words[1:] or sorted(path.split('/')[1] for path in glob.glob('crates/*/wrong-answers')))
     else:
-        sys.exit(0 if judged() else 1)
+        judge_logs()
 
 
 main()
