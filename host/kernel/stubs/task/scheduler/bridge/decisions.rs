@@ -325,14 +325,19 @@ impl KeptBoard {
         removed.map_err(refusal)
     }
 
-    /// `account_current` up to the clock's reading (`KeptScheduler::set_clock`).
+    /// The clock that `account` reads.
+    pub fn set_clock(reading: u64) {
+        KeptScheduler::set_clock(reading);
+    }
+
+    /// `account_current` up to the clock's reading.
     pub fn account(&mut self) -> Answer<()> {
         access::account(&mut self.0).map_err(refusal)
     }
 
     /// `choose_ready`: the thread to switch to, and whether the running one goes to the front.
-    pub fn choose(&mut self) -> Answer<Option<(u64, bool)>> {
-        let chosen = access::choose(&mut self.0, false).map_err(refusal)?;
+    pub fn choose(&mut self, yielding: bool) -> Answer<Option<(u64, bool)>> {
+        let chosen = access::choose(&mut self.0, yielding).map_err(refusal)?;
         Ok(chosen.map(|(id, front)| (number(id), front)))
     }
 

@@ -296,6 +296,14 @@ impl KeptQueue {
             .map_err(refusal)
     }
 
+    pub fn enqueue_front(&mut self, place: u64) -> Answer<()> {
+        let cpu = CpuThreadTableAuthority::new(CpuIndex::from(0), &mut self.records);
+        let threads = &mut LocalReadyQueueAuthority::new(cpu);
+        self.queue
+            .enqueue_front(threads, thread(place), CpuIndex::from(0))
+            .map_err(refusal)
+    }
+
     /// Handed the record's own membership.
     pub fn remove(&mut self, place: u64) -> Answer<()> {
         let membership = self.records[length(place)].ready_queue_links.membership;
