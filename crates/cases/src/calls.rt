@@ -142,7 +142,7 @@ pub fn called(
     }
     if its == SELECTIONS {
         let row = x[0];
-        return selected(q, t, *w, row, letter, a[0], a[1] != 0);
+        return selected(q, t, *w, row, letter, a[0], a[1]);
     }
     tabled(t, w, x, letter, a)
 }

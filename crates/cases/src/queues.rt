@@ -4,20 +4,20 @@ use crate::letters::FRONT;
 use crate::letters::SELECT;
 use crate::report::NONE;
 use crate::report::refused;
-use queue_entries::queue_enqueue;
-use queue_entries::queue_enqueue_front;
-use queue_entries::queue_remove;
-use selection_entries::queue_peek_next;
+use board::board_enqueue;
+use board::board_enqueue_front;
+use board::board_remove;
+use board::board_select;
 
 pub fn moved(q: &mut [[u64; 5]; 270], t: &mut [[u64; 32]], letter: u64, id: u64, cpu: u8) -> u64 {
     let mut path = [[0u64; 2]; 40];
     if letter == ENQUEUE {
-        return queue_enqueue(q, t, &mut path, id, cpu);
+        return board_enqueue(q, t, &mut path, id, cpu);
     }
     if letter == FRONT {
-        return queue_enqueue_front(q, t, &mut path, id, cpu);
+        return board_enqueue_front(q, t, &mut path, id, cpu);
     }
-    queue_remove(q, t, &mut path, id, cpu)
+    board_remove(q, t, &mut path, id, cpu)
 }
 
 // Whom a selection names, or the low word of the lowest fair pass: no pass here has a high one.
@@ -42,12 +42,12 @@ pub fn selected(
     row: [u64; 32],
     letter: u64,
     reading: u64,
-    running: bool,
+    running: u64,
 ) -> u64 {
     let mut path = [[0u64; 2]; 40];
     let mut answer = [0u64; 19];
     let mut w = window;
-    let n = queue_peek_next(
+    let n = board_select(
         q,
         t,
         &mut path,

@@ -2,11 +2,12 @@
 use crate::letters::ACCOUNT;
 use crate::letters::FINISH;
 use crate::report::NONE;
-use runtime_entries::keys_choose_ready;
-use runtime_entries::rows_account_current;
-use runtime_entries::rows_finish_turn;
-use runtime_entries::rows_prepare_enqueue;
-use runtime_entries::rows_refresh_deadline;
+use crate::report::refused;
+use board::board_account;
+use board::board_deadline;
+use board::board_finish;
+use board::board_prepare;
+use board::board_switch;
 
 pub const TURNS: usize = 1;
 
@@ -47,24 +48,36 @@ pub fn set_two(x: &mut [[u64; 32]; 6], two: [u64; 2], at: usize) {
 pub fn prepare(t: &mut [[u64; 32]], x: &mut [[u64; 32]; 6], a: [u64; 6]) -> u64 {
     let row = x[TURNS];
     let mut turns = [row[0], row[1]];
-    let n = rows_prepare_enqueue(t, a[0], a[1] != 0, a[2], &mut turns);
+    let n = board_prepare(t, a[0], a[1], a[2], &mut turns);
     set_two(x, turns, TURNS);
     n
 }
 
 pub fn charge(t: &mut [[u64; 32]], w: &mut [u64; 12], letter: u64, a: [u64; 6]) -> u64 {
     if letter == ACCOUNT {
-        return rows_account_current(t, a[0], w, a[1], a[2], a[3]);
+        return board_account(t, a[0], w, a[1], a[2], a[3]);
     }
-    rows_finish_turn(t, a[0])
+    board_finish(t, a[0])
 }
 
 // 1 where it switches, and 2 more where the running thread then goes to the front.
+fn switch(ready: &[u64; 9], key: &[u64; 9], row: &[u64; 32], a: [u64; 6]) -> u64 {
+    let mut choice = [0u64; 2];
+    let n = board_switch(ready, key, row, a[1], a[2], a[3], &mut choice);
+    if n != 0 {
+        return refused(n);
+    }
+    match choice[1] {
+        0 => choice[0] % 2,
+        _ => choice[0] % 2 + 2,
+    }
+}
+
 pub fn choose(t: &mut [[u64; 32]], ready: [u64; 9], key: [u64; 9], a: [u64; 6]) -> u64 {
     let i = a[0] as usize;
     if i < t.len() {
         let row = t[i];
-        return keys_choose_ready(&ready, &key, &row, a[1] != 0, a[2] != 0, a[3] != 0);
+        return switch(&ready, &key, &row, a);
     }
     NONE
 }
@@ -78,18 +91,7 @@ pub fn deadline(
     let mut due = [0u64; 2];
     let key = nine(x[KEY]);
     let demand = five(x[DEMAND]);
-    let n = rows_refresh_deadline(
-        t,
-        a[0],
-        a[1],
-        &key,
-        w,
-        a[2] != 0,
-        a[3] != 0,
-        a[4] != 0,
-        &demand,
-        &mut due,
-    );
+    let n = board_deadline(t, a[0], a[1], &key, w, a[2], a[3], a[4], &demand, &mut due);
     set_two(x, due, DUE);
     n
 }

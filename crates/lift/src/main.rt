@@ -1,27 +1,26 @@
 // A lift with two hooks: drives the crates together as a board would and prints who ran when, in two scenarios. host/lift_check runs the same on the kernel's Rust.
-mod board;
+mod cycle;
 mod report;
 mod threads;
 
-use board::CURRENT;
-use board::DEADLINE;
-use board::DUE;
-use board::NOW;
-use board::RUNNING;
-use board::WAKES;
-use board::WORK;
-use board::account;
-use board::dispatch;
-use board::enqueue;
-use board::new_board;
-use queue_entries::queue_new;
+use board::board_new;
+use board::board_window;
+use cycle::CURRENT;
+use cycle::DEADLINE;
+use cycle::DUE;
+use cycle::NOW;
+use cycle::RUNNING;
+use cycle::WAKES;
+use cycle::WORK;
+use cycle::account;
+use cycle::dispatch;
+use cycle::enqueue;
+use cycle::new_board;
 use report::refused;
 use report::stretch;
 use report::title;
 use threads::IDLE;
 use threads::table;
-use window_entries::config_new;
-use window_entries::window_new;
 
 const ALWAYS: u64 = 18_446_744_073_709_551_615;
 
@@ -68,21 +67,21 @@ fn least(a: u64, b: u64) -> u64 {
     b
 }
 
-fn work_of(b: [u64; 22], id: u64) -> u64 {
+fn work_of(b: [u64; 23], id: u64) -> u64 {
     if id < 8 {
         return b[WORK + id as usize];
     }
     0
 }
 
-fn set_work(b: &mut [u64; 22], id: u64, work: u64) {
+fn set_work(b: &mut [u64; 23], id: u64, work: u64) {
     if id < 8 {
         b[WORK + id as usize] = work;
     }
 }
 
 // How far the running thread gets: to its deadline, to the end of its work, or to what comes next.
-fn until(b: [u64; 22], next: u64) -> u64 {
+fn until(b: [u64; 23], next: u64) -> u64 {
     let work = work_of(b, b[CURRENT]);
     let done = least(plus(b[NOW], work), next);
     if b[DUE] == 0 {
@@ -92,7 +91,7 @@ fn until(b: [u64; 22], next: u64) -> u64 {
 }
 
 // What the running thread has left after a stretch; it waits from there on where that is nothing.
-fn worked(b: &mut [u64; 22], length: u64) {
+fn worked(b: &mut [u64; 23], length: u64) {
     let id = b[CURRENT];
     let left = minus(work_of(*b, id), length);
     set_work(b, id, left);
@@ -106,7 +105,7 @@ fn run(
     q: &mut [[u64; 5]; 270],
     t: &mut [[u64; 32]],
     window: &mut [u64; 12],
-    b: &mut [u64; 22],
+    b: &mut [u64; 23],
     next: u64,
 ) -> u64 {
     let refused = dispatch(q, t, window, b);
@@ -129,10 +128,10 @@ fn coming(wakes: &[[u64; 3]], at: u64, end: u64) -> [u64; 3] {
     [end, IDLE, 0]
 }
 
-fn wake(q: &mut [[u64; 5]; 270], t: &mut [[u64; 32]], b: &mut [u64; 22], who: [u64; 3]) -> u64 {
+fn wake(q: &mut [[u64; 5]; 270], t: &mut [[u64; 32]], b: &mut [u64; 23], who: [u64; 3]) -> u64 {
     b[WAKES] = plus(b[WAKES], 1);
     set_work(b, who[1], who[2]);
-    enqueue(q, t, b, who[1], false)
+    enqueue(q, t, b, who[1], 0)
 }
 
 // Whoever wakes now is enqueued; else the running thread gets its stretch. After a refusal and after the end nothing happens.
@@ -140,7 +139,7 @@ fn event(
     q: &mut [[u64; 5]; 270],
     t: &mut [[u64; 32]],
     window: &mut [u64; 12],
-    b: &mut [u64; 22],
+    b: &mut [u64; 23],
     next: [u64; 3],
     end: u64,
     refused: u64,
@@ -159,12 +158,8 @@ fn event(
 
 // Period 10,000,000, allowance 2,000,000, floor 3,000,000, ranks 0, 1, 2, 3.
 fn set_window(window: &mut [u64; 12]) -> u64 {
-    *window = [10_000_000, 2_000_000, 3_000_000, 0, 1, 2, 3, 0, 0, 0, 0, 0];
-    let refused = config_new(window);
-    if refused != 0 {
-        return refused;
-    }
-    window_new(window)
+    let config = [10_000_000, 2_000_000, 3_000_000, 0, 1, 2, 3, 0];
+    board_window(window, &config)
 }
 
 // A lift on a new board, up to its end; at most 64 wakes and stretches. A refusal ends it.
@@ -173,7 +168,7 @@ fn lift(wakes: &[[u64; 3]], end: u64) {
     let mut t = table();
     let mut window = [0u64; 12];
     let mut b = new_board();
-    queue_new(&mut q);
+    board_new(&mut q);
     let mut number = set_window(&mut window);
     let mut left: u64 = 64;
     while 0 < left {

@@ -1,12 +1,12 @@
 // What is printed: a table with a line for each stretch that a thread runs.
-use crate::board::CURRENT;
-use crate::board::DEADLINE;
-use crate::board::DUE;
-use crate::board::KEYED;
-use crate::board::MODE;
-use crate::board::NOW;
-use crate::board::RANK;
-use crate::board::URGENCY;
+use crate::cycle::CURRENT;
+use crate::cycle::DEADLINE;
+use crate::cycle::DUE;
+use crate::cycle::KEYED;
+use crate::cycle::MODE;
+use crate::cycle::NOW;
+use crate::cycle::RANK;
+use crate::cycle::URGENCY;
 
 const STDOUT: i32 = 1;
 
@@ -76,7 +76,7 @@ fn mode(given: u64, n: u64) {
 }
 
 // From its reading on the running thread runs for so long: why, by its key's mode, urgency and rank, and until which deadline at the latest.
-pub fn stretch(b: [u64; 22], length: u64) {
+pub fn stretch(b: [u64; 23], length: u64) {
     number(b[NOW], 9);
     entry(BLANK, 2);
     entry(b[CURRENT], 16);

@@ -17,7 +17,7 @@ use time::Epoch;
 use window_config::ArbitrationConfig;
 use window_config::ArbitrationOrder;
 
-fn flag_from(w: u64) -> bool
+pub fn flag_from(w: u64) -> bool
     ensures { λ r. ⌜ r ≡ flagFrom w ⌝ }
 {
     if w == 0 {

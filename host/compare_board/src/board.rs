@@ -6,9 +6,7 @@ use compare_runtime::expected;
 use compare_runtime::port::{Answer, Others, Rows};
 use compare_selection::history::{CPU, History};
 use compare_selection::selecting::Peek;
-use kernel::oracle::{
-    Candidate, Deferred, Mode, Record, Selection, Turns, Window,
-};
+use kernel::oracle::{Candidate, Deferred, Mode, Record, Selection, Turns, Window};
 use tables::tally::Tally;
 
 pub struct Board {
@@ -114,13 +112,7 @@ impl Board {
         self.keep(id, records[0]);
         let board = &mut self.run.board;
         board.compare(tally, "candidate on a board", (id, now), port, source);
-        let (fair_pass, turn, budget_available) = source.ok().flatten()?;
-        Some(Candidate {
-            params: records[0].params,
-            fair_pass,
-            turn,
-            budget_available,
-        })
+        source.ok().flatten()
     }
 
     fn select(&mut self, tally: &mut Tally) -> Option<Selection> {
@@ -140,9 +132,9 @@ impl Board {
         });
         let (mut record, demand) = (decision.current, decision.demand);
         let (now, ready) = (decision.now, decision.ready);
-        let source = self.judged(id).and_then(|_| {
-            expected::switch(&mut record, &mut window, now, ready, demand, yielding)
-        });
+        let source = self
+            .judged(id)
+            .and_then(|_| expected::switch(&mut record, &mut window, now, ready, demand, yielding));
         self.keep(id, record);
         let (ours, wanted) = ((port, port_window), (source, window));
         let board = &mut self.run.board;
@@ -197,7 +189,14 @@ impl Board {
         let decision = self.decision(id, &selection, None);
         let (mut port_window, mut port_mode) = (self.window, self.mode);
         let port = Rows::lent(&mut self.run.board.table.rows, |rows| {
-            port_deadline(rows, id, &mut port_window, &mut port_mode, &decision, others)
+            port_deadline(
+                rows,
+                id,
+                &mut port_window,
+                &mut port_mode,
+                &decision,
+                others,
+            )
         });
         let (mut record, mut window, mut mode) = (decision.current, self.window, self.mode);
         let (now, ready) = (self.now, selection.ready);

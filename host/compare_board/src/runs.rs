@@ -44,7 +44,14 @@ fn sleeper(random: &mut Random, board: &Board) -> Option<u64> {
 fn tick(tally: &mut Tally, random: &mut Random, board: &mut Board, deadline: Option<u64>) {
     let period = board.window.config.period.max(1);
     let edge = period - board.now % period;
-    let step = random.of([1, period / 7, period / 3, edge - 1, edge, period.saturating_mul(3)]);
+    let step = random.of([
+        1,
+        period / 7,
+        period / 3,
+        edge - 1,
+        edge,
+        period.saturating_mul(3),
+    ]);
     let later = board.now.saturating_add(step);
     let end = match random.below(64) {
         0 => board.now.saturating_sub(period / 2),

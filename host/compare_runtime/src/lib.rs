@@ -4,6 +4,7 @@ pub mod calls;
 pub mod checks;
 pub mod expected;
 pub mod inputs;
+pub mod lengths;
 pub mod port;
 pub mod runs;
 #[path = "../../compare/src/words.rs"]

@@ -1,0 +1,93 @@
+// Calls on the queue's words and the table's rows.
+ghost use mathlib.Core.Bool.{true, false};
+ghost use mathlib.Core.Path.{_≡_};
+ghost use mathlib.Core.List.{[], _∷_};
+ghost use Rattle.rows.specs.Table.{table};
+ghost use Rattle.queue.specs.Queue as calls;
+ghost use Rattle.queue.specs.Answers.{verdictAnswer};
+ghost use Rattle.lent_queue.specs.LentQueue.{queueOf};
+ghost use Rattle.board.specs.Board.{left, fitting, numbered, processor, queueLeft, lengthsOf, lengths};
+use crate::words::BAD_TABLE;
+use crate::words::copy;
+use lent_queue::enqueue_lent;
+use lent_queue::new_lent;
+use lent_queue::remove_lent;
+use queue::Verdict;
+use thread::CpuIndex;
+use thread::ThreadId;
+
+fn number_of(verdict: Verdict) -> u64
+    ensures { λ r. ⌜ r ≡ numbered (verdictAnswer verdict) ⌝ }
+{
+    match verdict {
+        Verdict::Accepted => 0,
+        Verdict::Refused(refusal) => refusal.number(),
+    }
+}
+
+// CpuRunQueue::new
+#[no_mangle]
+pub extern "C" fn board_new(q: &mut [[u64; 5]; 270]) -> u64
+    ensures { λ r. ⌜ left r (queueOf (now (q .exit))) ≡ left 0 calls.newQueue ⌝ }
+{
+    new_lent(q);
+    0
+}
+
+// CpuRunQueue::enqueue, with a path that the caller lends.
+#[no_mangle]
+pub extern "C" fn board_enqueue(
+    q: &mut [[u64; 5]; 270],
+    t: &mut [[u64; 32]],
+    path: &mut [[u64; 2]; 40],
+    id: u64,
+    cpu: u8,
+) -> u64
+    ensures { λ r. ⌜ left r (queueOf (now (q .exit)), table (now (t .exit))) ≡ queueLeft (calls.enqueueCall false (table (now (t .entry))) (queueOf (now (q .entry))) id (processor cpu)) ⌝ }
+{
+    number_of(enqueue_lent(q, t, path, ThreadId(id), CpuIndex(cpu), false))
+}
+
+// CpuRunQueue::enqueue_front, with a path that the caller lends.
+#[no_mangle]
+pub extern "C" fn board_enqueue_front(
+    q: &mut [[u64; 5]; 270],
+    t: &mut [[u64; 32]],
+    path: &mut [[u64; 2]; 40],
+    id: u64,
+    cpu: u8,
+) -> u64
+    ensures { λ r. ⌜ left r (queueOf (now (q .exit)), table (now (t .exit))) ≡ queueLeft (calls.enqueueCall true (table (now (t .entry))) (queueOf (now (q .entry))) id (processor cpu)) ⌝ }
+{
+    number_of(enqueue_lent(q, t, path, ThreadId(id), CpuIndex(cpu), true))
+}
+
+// CpuRunQueue::remove, with a path that the caller lends.
+#[no_mangle]
+pub extern "C" fn board_remove(
+    q: &mut [[u64; 5]; 270],
+    t: &mut [[u64; 32]],
+    path: &mut [[u64; 2]; 40],
+    id: u64,
+    cpu: u8,
+) -> u64
+    ensures { λ r. ⌜ left r (queueOf (now (q .exit)), table (now (t .exit))) ≡ queueLeft (calls.removeCall (table (now (t .entry))) (queueOf (now (q .entry))) id (processor cpu)) ⌝ }
+{
+    number_of(remove_lent(q, t, path, ThreadId(id), CpuIndex(cpu)))
+}
+
+// CpuRunQueue::real_time_len, fair_len and budget_len.
+#[no_mangle]
+pub extern "C" fn board_lengths(q: &[[u64; 5]; 270], answer: &mut [u64]) -> u64
+    ensures { λ r. ⌜ left r (lengthsOf (now (answer .exit))) ≡ fitting ((now (answer .entry), 3) ∷ []) (lengthsOf (now (answer .entry))) (left 0 (lengths (queueOf (now (q .entry))))) ⌝ }
+{
+    if answer.len() != 3 {
+        return BAD_TABLE;
+    }
+    let real_time = lent_queue::real_time_len(q);
+    let fair = lent_queue::fair_len(q);
+    let budget = lent_queue::budget_len(q);
+    let words = [real_time, fair, budget];
+    copy(answer, &words);
+    0
+}
