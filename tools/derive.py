@@ -1,12 +1,13 @@
 #!/usr/bin/env python3
-"""tools/derive.py [--check], from the repository's root: writes the borrow derivations of crate records, whose functions take a slice of thread records.
+"""tools/derive.py [--check | --again], from the repository's root: writes the borrow derivations of crate records, whose functions take a slice of thread records.
 
 The prover prints no derivation for a slice of structs, but the rules that a derivation cites hold for any element type. So a copy of the crate is made under
 target/derive in which the element is an array of 16-bit numbers of the same size, the contracts say nothing and the other crates' functions are stubs of
 the same signature. The prover prints the derivations of that, and here the struct is put back in, by the names of proofs/Elem.antt. Nothing of this is trusted: what is
 written is checked in crate records as any proof is. Of each function F there are proofs/KindsF.antt and ReadsF.antt, which callers cite, and proofs/F/Proof/Lts.antt and
-Tie.antt; Proof.antt is written by hand (where there is none yet, with holes). With --check nothing is written and the exit status says whether all are current."""
-import glob, os, re, shutil, subprocess, sys
+Tie.antt; Proof.antt is written by hand (where there is none yet, with holes). What was written, and from what (the copy and this tool), is kept by its sums in crates/records/proofs/derived.txt: --check writes nothing, compares
+these sums and says by its exit status whether all are current; --again has everything printed anew and compares the text, a minute's work."""
+import glob, hashlib, os, re, shutil, subprocess, sys
 
 LAYER, STRUCT = 'records', 'ThreadRecord'
 SIZE = 200  # bytes: `size-is` in proofs/ThreadRecord/Laws.antt of what `rt goals thread` writes; a wrong one is refused when records is checked
@@ -305,6 +306,29 @@ def laid_out(made):
     return {path: open(f'{place}/{path}').read() for path in made}
 
 
+def sum_of(paths):
+    """One sum over files, by name and content."""
+    sums = hashlib.sha256()
+    for path in sorted(paths):
+        with open(path, 'rb') as content:
+            sums.update(os.path.relpath(path).encode() + b'\0' + content.read() + b'\0')
+    return sums.hexdigest()
+
+
+def written():
+    """The derivations in the crate."""
+    return {p for p in glob.glob(f'crates/{LAYER}/proofs/**/*.antt', recursive=True) if re.search(r'/(Kinds\w+|Reads\w+|Types|Lts|Tie)\.antt$', p)}
+
+
+def sums():
+    """The sums of what the derivations are written from, and of the derivations. It is asked right after `make_twin`, before the prover leaves anything in the copy."""
+    twin = [p for p in glob.glob(f'{TWIN}/**/*', recursive=True) if os.path.isfile(p)]
+    return sum_of(twin + ['tools/derive.py']), lambda: sum_of(written())
+
+
+SUMS = f'crates/{LAYER}/proofs/derived.txt'
+
+
 def main():
     deps = {}
     for line in open('crates.txt'):
@@ -314,15 +338,19 @@ def main():
             deps[name] = used.split()
     shutil.rmtree(TWIN, ignore_errors=True)
     functions = make_twin(deps)
-    made = derivations(functions)
-    written = {p for p in glob.glob(f'crates/{LAYER}/proofs/**/*.antt', recursive=True) if re.search(r'/(Kinds\w+|Reads\w+|Types|Lts|Tie)\.antt$', p)}
-    stale = sorted(written - set(made)) + sorted(p for p, text in made.items() if not os.path.exists(p) or open(p).read() != text)
+    source, derived = sums()
     if '--check' in sys.argv[1:]:
+        current = os.path.exists(SUMS) and open(SUMS).read() == f'from {source}\nwritten {derived()}\n'
+        print(f'derive: the derivations are {"" if current else "not "}current')
+        sys.exit(0 if current else 1)
+    made = derivations(functions)
+    stale = sorted(written() - set(made)) + sorted(p for p, text in made.items() if not os.path.exists(p) or open(p).read() != text)
+    if '--again' in sys.argv[1:]:
         for path in stale:
             print('derive: not current:', path)
         print(f'derive: {len(made)} derivation files, {len(stale)} not current')
         sys.exit(1 if stale else 0)
-    for path in written - set(made):
+    for path in written() - set(made):
         os.remove(path)
     for path, text in made.items():
         write(path, text)
@@ -332,6 +360,7 @@ def main():
             write(proof, skeleton(f, made[f'crates/{LAYER}/proofs/{f}/Proof/Tie.antt']))
     modules = sorted(os.path.basename(p)[:-5] for p in glob.glob(f'crates/{LAYER}/proofs/*.antt') if not p.endswith('/Lib.antt'))
     write(f'crates/{LAYER}/proofs/Lib.antt', ''.join(f'pub mod {m}\n' for m in modules))
+    write(SUMS, f'from {source}\nwritten {derived()}\n')
     print(f'derive: {len(made)} derivation files written')
 
 
