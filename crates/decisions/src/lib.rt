@@ -3,6 +3,8 @@ mod own;
 mod switching;
 mod taking;
 
+pub use own::borrows;
+pub use own::budget_expiry;
 pub use own::own_deadline;
 pub use switching::choose_ready;
 pub use switching::is_spent;

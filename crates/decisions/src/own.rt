@@ -16,7 +16,7 @@ use time::checked_add;
 use time::min_of;
 use time::period_end;
 
-fn borrows(mode: DispatchMode) -> bool
+pub fn borrows(mode: DispatchMode) -> bool
     ensures { λ r. ⌜ r ≡ borrows mode ⌝ }
 {
     match mode {
@@ -39,7 +39,7 @@ fn saturated_end(reading: u64, period_ns: u64) -> u64
 }
 
 // Without a budget peer: until its time is spent or its period ends; none where the former does not fit.
-fn budget_expiry(reading: u64, remaining_ns: u64, budget: BudgetParameters) -> Deadline
+pub fn budget_expiry(reading: u64, remaining_ns: u64, budget: BudgetParameters) -> Deadline
     ensures { λ r. ⌜ r ≡ budgetExpiry reading «remaining_ns» budget ⌝ }
 {
     let Deadline::Some(expiry) = checked_add(reading, remaining_ns) else {

@@ -8,5 +8,11 @@ pub mod Account
 pub mod Deadline
 -- Each answer's number in document 01, or its values.
 pub mod Answers
+-- What a judged record is, and what refreshing, accounting and ending its turn give of it.
+pub mod Judged
+-- What the calls do with the row of a judged record.
+pub mod Rows
+-- That this is what the definitions say of its record.
+pub mod RowLaws
 -- Laws by which the functions meet the definitions.
 pub mod RuntimeLaws

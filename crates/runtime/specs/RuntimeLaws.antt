@@ -1,165 +1,412 @@
--- Laws by which the functions meet the definitions: r is what the call gave, x what its contract says of it.
-use Prim.Native.Nat.{ℕ}
-use mathlib.Core.Path.{_≡_, sym}
-use mathlib.Core.Bool.{Bool, true, false}
-use mathlib.Core.List.{List}
+-- Laws by which the functions meet the definitions, one for each way through a call: r is what a call gave, x what its contract says of it.
+use Prim.Native.Nat.{ℕ, _<_, _≤_}
+use mathlib.Core.Path.{_≡_, refl, sym, ap, _∙_}
+use mathlib.Core.Bool.{Bool, true, false, not}
+use mathlib.Core.List.{List, []}
 use mathlib.Core.Option.{Option, none, some}
+use lib.ListN.{length, getD}
+use borrow.Author.Tests.{not-true, not-false}
 use Rattle.refusal.specs.Answer.{Answer, value, refused, numberOf}
-use Rattle.refusal.specs.Cases.{andThen, choose}
+use Rattle.refusal.specs.Cases.{choose, given, ifLess, andThen}
 use Rattle.refusal.specs.declared.Refusal.{Refusal}
 use Rattle.time.specs.declared.Deadline.{Deadline}
+use Rattle.time.specs.declared.Epoch.{Epoch}
+use Rattle.time.specs.Time.{earliestOf}
+use Rattle.policy.specs.declared.BudgetParameters.{BudgetParameters}
+use Rattle.policy.specs.declared.SchedulingParameters.{SchedulingParameters}
+use Rattle.policy.specs.declared.SchedulingPolicy.{SchedulingPolicy}
+use Rattle.budget.specs.declared.BudgetAnswer.{BudgetAnswer}
+use Rattle.budget.specs.declared.BudgetAnswer.the-variants as answer
+use Rattle.budget.specs.declared.BudgetDeadline.{BudgetDeadline}
+use Rattle.budget.specs.declared.BudgetDeadline.the-variants as ends
+use Rattle.budget.specs.declared.BudgetRuntime.{BudgetRuntime}
 use Rattle.budget.specs.declared.DeadlineAnswer.the-variants as ended
-use Rattle.algorithms.specs.declared.PolicyRuntime.{PolicyRuntime}
-use Rattle.algorithms.specs.declared.RuntimeAnswer.{RuntimeAnswer}
-use Rattle.algorithms.specs.declared.RuntimeAnswer.the-variants as runtime
-use Rattle.algorithms.specs.declared.RuntimeDeadline.{RuntimeDeadline}
-use Rattle.algorithms.specs.declared.RuntimeDeadline.the-variants as own
-use Rattle.algorithms.specs.Answers.{runtimeAnswer, runtimeDeadline}
+use Rattle.budget.specs.Answers.{budgetAnswer, budgetDeadline}
+use Rattle.budget.specs.Runtime as budget
+use Rattle.algorithms.specs.declared.Wide.{Wide}
+use Rattle.algorithms.specs.declared.PolicyRuntime.the-variants as runtime
 use Rattle.arbitration.specs.declared.Candidate.{Candidate}
 use Rattle.arbitration.specs.declared.CpuWindow.{CpuWindow}
-use Rattle.arbitration.specs.declared.Verdict.the-variants as verdict
+use Rattle.arbitration.specs.declared.DispatchMode.{DispatchMode}
 use Rattle.arbitration.specs.declared.WindowStep.{WindowStep}
 use Rattle.arbitration.specs.declared.WindowDeadline.{WindowDeadline}
-use Rattle.arbitration.specs.Calls.{With, with}
 use Rattle.arbitration.specs.Answers.{windowStep, windowDeadline}
+use Rattle.arbitration.specs.Calls.{With, with, accountCall, nextDeadlineCall}
+use Rattle.window_config.specs.Config.{soundConfig}
 use Rattle.thread.specs.declared.ThreadRecord.{ThreadRecord}
-use Rattle.rows.specs.Table.{Out, out, after, setRuntime}
+use Rattle.thread.specs.Judgement.{isBadRecord}
+use Rattle.codec.specs.Codec.{word, policyFrom, epochFrom, parametersOf, decoded}
+use Rattle.rows.specs.declared.Change.{Change}
+use Rattle.rows.specs.declared.RecordRead.the-variants as read
+use Rattle.rows.specs.Table.{Out, out, after, table, recordAt, setRuntime, setTurn}
+use Rattle.rows.specs.TableCases.{onRecord}
+use Rattle.rows.specs.RowTableLaws.{record-inside, record-outside}
+use Rattle.lists.specs.Lists.{onAnswer, onOut}
 use Rattle.lists.specs.ListsLaws.{left-by, answered}
+use Rattle.queue.specs.Queue.{maxRecords}
 use Rattle.queue.specs.PlanLaws.{too-many, not-too-many}
+use Rattle.decisions.specs.declared.Contention.{Contention}
+use Rattle.decisions.specs.declared.ModeOption.{ModeOption}
+use Rattle.decisions.specs.declared.ModeOption.the-variants as mode
 use Rattle.decisions.specs.declared.Taken.{Taken}
 use Rattle.decisions.specs.declared.TurnAnswer.{TurnAnswer}
 use Rattle.decisions.specs.declared.TurnAnswer.the-variants as turn
 use Rattle.decisions.specs.declared.Turns.{Turns}
-use Rattle.runtime.specs.declared.Judgement.{Judgement}
-use Rattle.runtime.specs.declared.Judgement.the-variants as judgement
-use Rattle.runtime.specs.declared.Preparation.{Preparation}
-use Rattle.runtime.specs.declared.Preparing.{Preparing}
-use Rattle.runtime.specs.declared.Preparing.the-variants as preparing
-use Rattle.runtime.specs.declared.Accounting.{Accounting}
-use Rattle.runtime.specs.declared.AccountingAnswer.{AccountingAnswer}
-use Rattle.runtime.specs.declared.AccountingAnswer.the-variants as accounting
-use Rattle.runtime.specs.declared.Refreshed.{Refreshed}
-use Rattle.runtime.specs.declared.RefreshAnswer.{RefreshAnswer}
-use Rattle.runtime.specs.declared.RefreshAnswer.the-variants as refresh
-use Rattle.runtime.specs.declared.Due.{Due}
-use Rattle.runtime.specs.declared.DueAnswer.{DueAnswer}
-use Rattle.runtime.specs.declared.DueAnswer.the-variants as due
 use Rattle.decisions.specs.Answers.{turnAnswer}
-use Rattle.runtime.specs.Judging.{onWith, stored}
-use Rattle.runtime.specs.Prepare.{Counted, counted, prepared, storedPreparation}
-use Rattle.runtime.specs.Account.{settled, candidate}
-use Rattle.runtime.specs.Deadline.{armed}
-use Rattle.runtime.specs.Answers.{judgementAnswer, preparingAnswer, accountingAnswer, refreshAnswer, dueAnswer}
+use Rattle.decisions.specs.OwnDeadline.{onKeyMode, borrows, budgetExpiry}
+use Rattle.decisions.specs.Switch.{spent}
+use Rattle.decisions.specs.Turns.{turnFor}
+use Rattle.runtime.specs.Judging.{judgedAt, judged, judgedWith, stored}
+use Rattle.runtime.specs.Prepare.{Counted, counted, preparation, prepared, prepareEnqueue}
+use Rattle.runtime.specs.Account.{accounting, settled, accountCurrent, finishing, finishTurn, passOf, refreshing, refreshingAt, candidate, currentCandidate, expired}
+use Rattle.runtime.specs.Deadline.{dueAt, dueOf, armed, refreshDeadline}
+use Rattle.runtime.specs.Rows.{budgetRuntime, budgetParameters, finishedRow, chargedRow, refreshedRow, candidateRow, preparedRow, rowPrepared, accountedRow, accountAt, candidateAt, ownEnd, earlierOf, dueRow, keylessDue, deadlineAt}
+use Rattle.runtime.specs.RowLaws.{finished-so, candidate-so, idle-so, prepared-so, accounted-so, due-so, keyless-so, pass-by-tag, spent-by-tag}
 
--- Going on with an answer, or stopping with its refusal.
-module _ {B : Type 0} {y : Answer B} where
-  pub judged-on : {r : Judgement} {x : Answer ThreadRecord} {a : ThreadRecord} (f : ThreadRecord → Answer B) → judgementAnswer r ≡ x → r ≡ judgement.Thread a → y ≡ f a → y ≡ andThen x f
-  unfolding andThen
-  judged-on f e m h = rw (sym e, m) h
+-- The judgement of a record by its row.
+module _ (rows : List (List ℕ)) (i : ℕ) where
+  row-got : i < length rows → recordAt (table rows) i ≡ read.Got (decoded (getD rows i []))
+  row-got h = sym (record-inside rows i h refl)
 
-  pub judged-off : {r : Judgement} {x : Answer ThreadRecord} {n : Refusal} (f : ThreadRecord → Answer B) → judgementAnswer r ≡ x → r ≡ judgement.Refused n → y ≡ refused (numberOf n) → y ≡ andThen x f
-  unfolding andThen
-  judged-off f e m h = rw (sym e, m) h
+  none-at : length rows ≤ i → judgedAt (table rows) i ≡ refused 4
+  unfolding judgedAt onRecord
+  none-at h = rw (sym (record-outside rows i h))
 
-  pub turn-on : {r : TurnAnswer} {x : Answer Taken} {a : Taken} (f : Taken → Answer B) → turnAnswer r ≡ x → r ≡ turn.Taken a → y ≡ f a → y ≡ andThen x f
-  unfolding andThen
-  turn-on f e m h = rw (sym e, m) h
+  bad-at : {b : Bool} → i < length rows → b ≡ isBadRecord (decoded (getD rows i [])) → b ≡ true → judgedAt (table rows) i ≡ refused 11
+  unfolding judgedAt onRecord choose
+  bad-at h e m = rw (row-got h, sym e ∙ m)
 
-  pub turn-off : {r : TurnAnswer} {x : Answer Taken} {n : Refusal} (f : Taken → Answer B) → turnAnswer r ≡ x → r ≡ turn.Refused n → y ≡ refused (numberOf n) → y ≡ andThen x f
-  unfolding andThen
-  turn-off f e m h = rw (sym e, m) h
+  good-at : {b : Bool} → i < length rows → b ≡ isBadRecord (decoded (getD rows i [])) → b ≡ false → judgedAt (table rows) i ≡ value (decoded (getD rows i []))
+  unfolding judgedAt onRecord choose
+  good-at h e m = rw (row-got h, sym e ∙ m)
 
-  pub runtime-on : {r : RuntimeAnswer} {x : Answer PolicyRuntime} {a : PolicyRuntime} (f : PolicyRuntime → Answer B) → runtimeAnswer r ≡ x → r ≡ runtime.Runtime a → y ≡ f a → y ≡ andThen x f
-  unfolding andThen
-  runtime-on f e m h = rw (sym e, m) h
+  many : maxRecords < length rows → judged (table rows) i ≡ refused 10
+  unfolding judged
+  many p = sym (too-many (refused 10) (judgedAt (table rows) i) rows p refl)
 
-  pub runtime-off : {r : RuntimeAnswer} {x : Answer PolicyRuntime} {n : Refusal} (f : PolicyRuntime → Answer B) → runtimeAnswer r ≡ x → r ≡ runtime.Refused n → y ≡ refused (numberOf n) → y ≡ andThen x f
-  unfolding andThen
-  runtime-off f e m h = rw (sym e, m) h
+  few : length rows ≤ maxRecords → judged (table rows) i ≡ judgedAt (table rows) i
+  unfolding judged
+  few p = sym (not-too-many (refused 10) (judgedAt (table rows) i) rows p refl)
 
-  pub own-on : {r : RuntimeDeadline} {x : Answer (PolicyRuntime × Deadline)} {a : PolicyRuntime} {d : Deadline} (f : PolicyRuntime × Deadline → Answer B)
-      → runtimeDeadline r ≡ x → r ≡ own.Deadline a d → y ≡ f (a, d) → y ≡ andThen x f
-  unfolding andThen
-  own-on f e m h = rw (sym e, m) h
+  module _ (w : CpuWindow) where
+    many-with : maxRecords < length rows → judgedWith (table rows) i w ≡ refused 10
+    unfolding judgedWith
+    many-with p = sym (too-many (refused 10) (choose (soundConfig (w .config)) (judgedAt (table rows) i) (refused 5)) rows p refl)
 
-  pub own-off : {r : RuntimeDeadline} {x : Answer (PolicyRuntime × Deadline)} {n : Refusal} (f : PolicyRuntime × Deadline → Answer B)
-      → runtimeDeadline r ≡ x → r ≡ own.Refused n → y ≡ refused (numberOf n) → y ≡ andThen x f
-  unfolding andThen
-  own-off f e m h = rw (sym e, m) h
+    bad-with : {b : Bool} → length rows ≤ maxRecords → b ≡ soundConfig (w .config) → not b ≡ true → judgedWith (table rows) i w ≡ refused 5
+    unfolding judgedWith choose
+    bad-with {b} p e m =
+        sym (not-too-many (refused 10) (choose (soundConfig (w .config)) (judgedAt (table rows) i) (refused 5)) rows p refl) ∙ rw (sym e ∙ not-true b m)
 
-pub ruleset answers = (judged-on, judged-off, turn-on, turn-off, runtime-on, runtime-off, own-on, own-off, too-many, not-too-many)
+    few-with : {b : Bool} → length rows ≤ maxRecords → b ≡ soundConfig (w .config) → not b ≡ false → judgedWith (table rows) i w ≡ judgedAt (table rows) i
+    unfolding judgedWith choose
+    few-with {b} p e m =
+        sym (not-too-many (refused 10) (choose (soundConfig (w .config)) (judgedAt (table rows) i) (refused 5)) rows p refl) ∙ rw (sym e ∙ not-false b m)
 
--- Going by what a window's call answered.
-module _ {B : Type 0} {y : B} (g : ℕ → B) where
-  pub window-charged : {s : WindowStep} {x : With (Unit {0})} (f : Unit {0} → CpuWindow → B) → windowStep s ≡ x → s .answer ≡ verdict.Accepted → y ≡ f tt (s .window) → y ≡ onWith x g f
-  unfolding onWith
-  window-charged f e m h = rw (sym e, m) h
+pub sound-config : {b x : Bool} → b ≡ x → not b ≡ false → x ≡ true
+sound-config {b} e m = sym e ∙ not-false b m
 
-  pub window-not-charged : {s : WindowStep} {x : With (Unit {0})} {n : Refusal} (f : Unit {0} → CpuWindow → B) → windowStep s ≡ x → s .answer ≡ verdict.Refused n → y ≡ g (numberOf n) → y ≡ onWith x g f
-  unfolding onWith
-  window-not-charged f e m h = rw (sym e, m) h
+-- The end of a turn.
+module _ {y : Out (Answer (Unit {0}))} (rows : List (List ℕ)) (i : ℕ) where
+  pub finish-many : maxRecords < length rows → y ≡ out (refused 10) (table rows) → y ≡ finishTurn (table rows) i
+  unfolding finishTurn finishing stored andThen
+  finish-many p h = rw (many rows i p) h
 
-  pub window-due : {s : WindowDeadline} {x : With Deadline} {d : Deadline} (f : Deadline → CpuWindow → B) → windowDeadline s ≡ x → s .answer ≡ ended.Deadline d → y ≡ f d (s .window) → y ≡ onWith x g f
-  unfolding onWith
-  window-due f e m h = rw (sym e, m) h
+  module _ (p : length rows ≤ maxRecords) where
+    pub finish-none : length rows ≤ i → y ≡ out (refused 4) (table rows) → y ≡ finishTurn (table rows) i
+    unfolding finishTurn finishing stored andThen
+    finish-none q h = rw (few rows i p, none-at rows i q) h
 
-  pub window-not-due : {s : WindowDeadline} {x : With Deadline} {n : Refusal} (f : Deadline → CpuWindow → B) → windowDeadline s ≡ x → s .answer ≡ ended.Refused n → y ≡ g (numberOf n) → y ≡ onWith x g f
-  unfolding onWith
-  window-not-due f e m h = rw (sym e, m) h
+    pub finish-bad : {b : Bool} → i < length rows → b ≡ isBadRecord (decoded (getD rows i [])) → b ≡ true → y ≡ out (refused 11) (table rows) → y ≡ finishTurn (table rows) i
+    unfolding finishTurn finishing stored andThen
+    finish-bad q e m h = rw (few rows i p, bad-at rows i q e m) h
 
-pub ruleset windows = (window-charged, window-not-charged, window-due, window-not-due)
+    pub finish-on : {b : Bool} {t : List ThreadRecord} → i < length rows → b ≡ isBadRecord (decoded (getD rows i [])) → b ≡ false
+        → t ≡ finishedRow (table rows) i (getD rows i []) → y ≡ out (value tt) t → y ≡ finishTurn (table rows) i
+    unfolding finishTurn finishing andThen
+    finish-on q e m f h = rw (few rows i p, good-at rows i q e m) (h ∙ ap (out (value tt)) f ∙ finished-so (table rows) i (getD rows i []) (row-got rows i q) (sym e ∙ m))
 
--- What a call's plan makes of the table: stored, or a refusal with nothing changed.
-module _ (t : List ThreadRecord) (id : ℕ) where
-  pub prepared-on : {y : Out Counted} (c : Turns) {r : Preparing} {x : Answer Preparation} {p : Preparation}
-      → preparingAnswer r ≡ x → r ≡ preparing.Preparation p → y ≡ out (counted (value tt) (p .turns)) (storedPreparation t id p) → y ≡ prepared t id c x
-  unfolding prepared
-  prepared-on c e m h = rw (sym e, m) h
+-- Whether a turn is spent.
+module _ {y : Answer Bool} (rows : List (List ℕ)) (i : ℕ) where
+  pub expired-many : maxRecords < length rows → y ≡ refused 10 → y ≡ expired (table rows) i
+  unfolding expired andThen
+  expired-many p h = rw (many rows i p) h
 
-  pub prepared-off : {y : Out Counted} (c : Turns) {r : Preparing} {x : Answer Preparation} {n : Refusal}
-      → preparingAnswer r ≡ x → r ≡ preparing.Refused n → y ≡ out (counted (refused (numberOf n)) c) t → y ≡ prepared t id c x
-  unfolding prepared
-  prepared-off c e m h = rw (sym e, m) h
+  module _ (p : length rows ≤ maxRecords) where
+    pub expired-none : length rows ≤ i → y ≡ refused 4 → y ≡ expired (table rows) i
+    unfolding expired andThen
+    expired-none q h = rw (few rows i p, none-at rows i q) h
 
-  pub settled-on : {y : Out (With (Unit {0}))} (w : CpuWindow) {r : AccountingAnswer} {x : Answer Accounting} {a : Accounting}
-      → accountingAnswer r ≡ x → r ≡ accounting.Accounting a → y ≡ out (with (value tt) (a .window)) (after (setRuntime t id (a .runtime))) → y ≡ settled t id w x
-  unfolding settled
-  settled-on w e m h = rw (sym e, m) h
+    pub expired-bad : {b : Bool} → i < length rows → b ≡ isBadRecord (decoded (getD rows i [])) → b ≡ true → y ≡ refused 11 → y ≡ expired (table rows) i
+    unfolding expired andThen
+    expired-bad q e m h = rw (few rows i p, bad-at rows i q e m) h
 
-  pub settled-off : {y : Out (With (Unit {0}))} (w : CpuWindow) {r : AccountingAnswer} {x : Answer Accounting} {n : Refusal}
-      → accountingAnswer r ≡ x → r ≡ accounting.Refused n → y ≡ out (with (refused (numberOf n)) w) t → y ≡ settled t id w x
-  unfolding settled
-  settled-off w e m h = rw (sym e, m) h
+    pub expired-on : {b r : Bool} → i < length rows → b ≡ isBadRecord (decoded (getD rows i [])) → b ≡ false → r ≡ spent (decoded (getD rows i []) .runtime) → y ≡ value r → y ≡ expired (table rows) i
+    unfolding expired andThen given
+    expired-on q e m f h = rw (few rows i p, good-at rows i q e m) (h ∙ ap value f)
 
-  pub stored-on : {y : Out (Answer (Unit {0}))} {r : RuntimeAnswer} {x : Answer PolicyRuntime} {a : PolicyRuntime}
-      → runtimeAnswer r ≡ x → r ≡ runtime.Runtime a → y ≡ out (value tt) (after (setRuntime t id a)) → y ≡ stored t id x
-  unfolding stored
-  stored-on e m h = rw (sym e, m) h
+-- Preparing.
+module _ {y : Out Counted} (rows : List (List ℕ)) (i : ℕ) (front : Bool) (now : ℕ) (c : Turns) where
+  pub prepare-many : maxRecords < length rows → y ≡ out (counted (refused 10) c) (table rows) → y ≡ prepareEnqueue (table rows) i front now c
+  unfolding prepareEnqueue preparation prepared andThen
+  prepare-many p h = rw (many rows i p) h
 
-  pub stored-off : {y : Out (Answer (Unit {0}))} {r : RuntimeAnswer} {x : Answer PolicyRuntime} {n : Refusal}
-      → runtimeAnswer r ≡ x → r ≡ runtime.Refused n → y ≡ out (refused (numberOf n)) t → y ≡ stored t id x
-  unfolding stored
-  stored-off e m h = rw (sym e, m) h
+  module _ (p : length rows ≤ maxRecords) where
+    pub prepare-none : length rows ≤ i → y ≡ out (counted (refused 4) c) (table rows) → y ≡ prepareEnqueue (table rows) i front now c
+    unfolding prepareEnqueue preparation prepared andThen
+    prepare-none q h = rw (few rows i p, none-at rows i q) h
 
-  pub candidate-on : {y : Out (Answer (Option Candidate))} (running : Bool) {r : RefreshAnswer} {x : Answer Refreshed} {f : Refreshed}
-      → refreshAnswer r ≡ x → r ≡ refresh.Refreshed f
-      → y ≡ choose running (out (value (some (f .candidate))) (after (setRuntime t id (f .runtime)))) (out (value none) t) → y ≡ candidate t id running x
-  unfolding candidate
-  candidate-on running e m h = rw (sym e, m) h
+    pub prepare-bad : {b : Bool} → i < length rows → b ≡ isBadRecord (decoded (getD rows i [])) → b ≡ true → y ≡ out (counted (refused 11) c) (table rows)
+        → y ≡ prepareEnqueue (table rows) i front now c
+    unfolding prepareEnqueue preparation prepared andThen
+    prepare-bad q e m h = rw (few rows i p, bad-at rows i q e m) h
 
-  pub candidate-off : {y : Out (Answer (Option Candidate))} (running : Bool) {r : RefreshAnswer} {x : Answer Refreshed} {n : Refusal}
-      → refreshAnswer r ≡ x → r ≡ refresh.Refused n → y ≡ out (refused (numberOf n)) t → y ≡ candidate t id running x
-  unfolding candidate
-  candidate-off running e m h = rw (sym e, m) h
+    pub prepare-on : {b : Bool} → i < length rows → b ≡ isBadRecord (decoded (getD rows i [])) → b ≡ false → y ≡ rowPrepared (table rows) i (getD rows i []) front now c
+        → y ≡ prepareEnqueue (table rows) i front now c
+    unfolding prepareEnqueue preparation andThen
+    prepare-on q e m h = rw (few rows i p, good-at rows i q e m) (h ∙ prepared-so (table rows) i (getD rows i []) (row-got rows i q) (sym e ∙ m) front now c)
 
-  pub armed-on : {y : Out (With Deadline)} (w : CpuWindow) {r : DueAnswer} {x : Answer Due} {d : Due}
-      → dueAnswer r ≡ x → r ≡ due.Due d → y ≡ out (with (value (d .deadline)) (d .window)) (after (setRuntime t id (d .runtime))) → y ≡ armed t id w x
-  unfolding armed
-  armed-on w e m h = rw (sym e, m) h
+-- The current thread.
+module _ {y : Out (Answer (Option Candidate))} (rows : List (List ℕ)) (i : ℕ) (running : Bool) (now : ℕ) where
+  pub candidate-many : maxRecords < length rows → y ≡ out (refused 10) (table rows) → y ≡ currentCandidate (table rows) i running now
+  unfolding currentCandidate refreshingAt candidate andThen
+  candidate-many p h = rw (many rows i p) h
 
-  pub armed-off : {y : Out (With Deadline)} (w : CpuWindow) {r : DueAnswer} {x : Answer Due} {n : Refusal}
-      → dueAnswer r ≡ x → r ≡ due.Refused n → y ≡ out (with (refused (numberOf n)) w) t → y ≡ armed t id w x
-  unfolding armed
-  armed-off w e m h = rw (sym e, m) h
+  pub candidate-few : length rows ≤ maxRecords → y ≡ candidateAt (table rows) i running now → y ≡ currentCandidate (table rows) i running now
+  unfolding currentCandidate refreshingAt candidateAt
+  candidate-few p h = rw (few rows i p) h
 
-pub ruleset stores = (prepared-on, prepared-off, settled-on, settled-off, stored-on, stored-off, candidate-on, candidate-off, armed-on, armed-off, left-by, answered)
+  pub candidate-none : length rows ≤ i → y ≡ out (refused 4) (table rows) → y ≡ candidateAt (table rows) i running now
+  unfolding candidateAt candidate andThen
+  candidate-none q h = rw (none-at rows i q) h
+
+  module _ {b : Bool} (q : i < length rows) (e : b ≡ isBadRecord (decoded (getD rows i []))) where
+    pub candidate-bad : b ≡ true → y ≡ out (refused 11) (table rows) → y ≡ candidateAt (table rows) i running now
+    unfolding candidateAt candidate andThen
+    candidate-bad m h = rw (bad-at rows i q e m) h
+
+    pub candidate-idle : b ≡ false → not running ≡ true → y ≡ out (value none) (table rows) → y ≡ candidateAt (table rows) i running now
+    unfolding candidateAt andThen
+    candidate-idle m n h = rw (good-at rows i q e m, not-true running n) (h ∙ idle-so (table rows) i (getD rows i []) (row-got rows i q) (sym e ∙ m) now)
+
+    pub candidate-on : {a : Bool} {t : List ThreadRecord} {c : Candidate} → b ≡ false → not running ≡ false → out a t ≡ refreshedRow (table rows) i (getD rows i []) now → c ≡ candidateRow (getD rows i []) a
+        → y ≡ out (value (some c)) t → y ≡ candidateAt (table rows) i running now
+    unfolding candidateAt andThen
+    candidate-on {a} {t} m n f g h =
+        rw (good-at rows i q e m, not-false running n)
+        (h ∙ ap (λ x. out (value (some x)) t) g ∙ candidate-so (table rows) i (getD rows i []) (row-got rows i q) (sym e ∙ m) now f)
+
+-- Accounting.
+module _ {y : Out (With (Unit {0}))} (rows : List (List ℕ)) (i : ℕ) (w : CpuWindow) (m : DispatchMode) (start end : ℕ) where
+  pub account-many : maxRecords < length rows → y ≡ out (with (refused 10) w) (table rows) → y ≡ accountCurrent (table rows) i w m start end
+  unfolding accountCurrent accounting settled andThen
+  account-many p h = rw (many-with rows i w p) h
+
+  pub account-config : {b : Bool} → length rows ≤ maxRecords → b ≡ soundConfig (w .config) → not b ≡ true → y ≡ out (with (refused 5) w) (table rows) → y ≡ accountCurrent (table rows) i w m start end
+  unfolding accountCurrent accounting settled andThen
+  account-config p e n h = rw (bad-with rows i w p e n) h
+
+  pub account-few : {b : Bool} → length rows ≤ maxRecords → b ≡ soundConfig (w .config) → not b ≡ false → y ≡ accountAt (table rows) i w m start end → y ≡ accountCurrent (table rows) i w m start end
+  unfolding accountCurrent accounting accountAt
+  account-few p e n h = rw (few-with rows i w p e n) h
+
+  pub account-none : length rows ≤ i → y ≡ out (with (refused 4) w) (table rows) → y ≡ accountAt (table rows) i w m start end
+  unfolding accountAt settled andThen
+  account-none q h = rw (none-at rows i q) h
+
+  pub account-bad : {b : Bool} → i < length rows → b ≡ isBadRecord (decoded (getD rows i [])) → b ≡ true → y ≡ out (with (refused 11) w) (table rows) → y ≡ accountAt (table rows) i w m start end
+  unfolding accountAt settled andThen
+  account-bad q e n h = rw (bad-at rows i q e n) h
+
+  pub account-on : {b : Bool} → soundConfig (w .config) ≡ true → i < length rows → b ≡ isBadRecord (decoded (getD rows i [])) → b ≡ false
+      → y ≡ accountedRow (table rows) i (getD rows i []) w m start end → y ≡ accountAt (table rows) i w m start end
+  unfolding accountAt andThen
+  account-on s q e n h = rw (good-at rows i q e n) (h ∙ accounted-so (table rows) i (getD rows i []) (row-got rows i q) (sym e ∙ n) w m start end s)
+
+-- The choice of deadline.
+module _ {y : Out (With Deadline)} (rows : List (List ℕ)) (i now : ℕ) (k : ModeOption) (w : CpuWindow) (x : Contention) where
+  pub deadline-many : maxRecords < length rows → y ≡ out (with (refused 10) w) (table rows) → y ≡ refreshDeadline (table rows) i now k w x
+  unfolding refreshDeadline dueOf armed andThen
+  deadline-many p h = rw (many-with rows i w p) h
+
+  pub deadline-config : {b : Bool} → length rows ≤ maxRecords → b ≡ soundConfig (w .config) → not b ≡ true → y ≡ out (with (refused 5) w) (table rows) → y ≡ refreshDeadline (table rows) i now k w x
+  unfolding refreshDeadline dueOf armed andThen
+  deadline-config p e n h = rw (bad-with rows i w p e n) h
+
+  pub deadline-few : {b : Bool} → length rows ≤ maxRecords → b ≡ soundConfig (w .config) → not b ≡ false → y ≡ deadlineAt (table rows) i now k w x → y ≡ refreshDeadline (table rows) i now k w x
+  unfolding refreshDeadline dueOf deadlineAt
+  deadline-few p e n h = rw (few-with rows i w p e n) h
+
+  pub deadline-none : length rows ≤ i → y ≡ out (with (refused 4) w) (table rows) → y ≡ deadlineAt (table rows) i now k w x
+  unfolding deadlineAt armed andThen
+  deadline-none q h = rw (none-at rows i q) h
+
+  module _ {b : Bool} (q : i < length rows) (e : b ≡ isBadRecord (decoded (getD rows i []))) where
+    pub deadline-bad : b ≡ true → y ≡ out (with (refused 11) w) (table rows) → y ≡ deadlineAt (table rows) i now k w x
+    unfolding deadlineAt armed andThen
+    deadline-bad n h = rw (bad-at rows i q e n) h
+
+    pub deadline-keyless : {s : With Deadline} → b ≡ false → k ≡ mode.None → s ≡ keylessDue now w (x .competition) → y ≡ out s (table rows) → y ≡ deadlineAt (table rows) i now k w x
+    unfolding deadlineAt andThen
+    deadline-keyless n o f h =
+        rw (good-at rows i q e n, o) (h ∙ ap (λ z. out z (table rows)) f ∙ keyless-so (table rows) i (getD rows i []) (row-got rows i q) (sym e ∙ n) now x w)
+
+    pub deadline-keyed : {m : DispatchMode} → soundConfig (w .config) ≡ true → b ≡ false → k ≡ mode.Some m → y ≡ dueRow (table rows) i (getD rows i []) now m w x → y ≡ deadlineAt (table rows) i now k w x
+    unfolding deadlineAt andThen dueAt onKeyMode
+    deadline-keyed {m} s n o h = rw (good-at rows i q e n, o) (h ∙ due-so (table rows) i (getD rows i []) (row-got rows i q) (sym e ∙ n) now m x w s)
+
+pub ruleset ways = (
+  finish-many,
+  finish-none,
+  finish-bad,
+  finish-on,
+  expired-many,
+  expired-none,
+  expired-bad,
+  expired-on,
+  prepare-many,
+  prepare-none,
+  prepare-bad,
+  prepare-on,
+  candidate-many,
+  candidate-few,
+  candidate-none,
+  candidate-bad,
+  candidate-idle,
+  candidate-on,
+  account-many,
+  account-config,
+  account-few,
+  account-none,
+  account-bad,
+  account-on,
+  deadline-many,
+  deadline-config,
+  deadline-few,
+  deadline-none,
+  deadline-bad,
+  deadline-keyless,
+  deadline-keyed,
+)
+
+-- By what a budget's call answered.
+module _ {A : Type 0} {y : A} (g : ℕ → A) where
+  pub budget-left : {r : BudgetAnswer} {b : BudgetRuntime} (f : BudgetRuntime → A) → r ≡ answer.Runtime b → y ≡ f b → y ≡ onAnswer (budgetAnswer r) g f
+  unfolding onAnswer
+  budget-left f m h = rw m h
+
+  pub budget-refused : {r : BudgetAnswer} {n : Refusal} (f : BudgetRuntime → A) → r ≡ answer.Refused n → y ≡ g (numberOf n) → y ≡ onAnswer (budgetAnswer r) g f
+  unfolding onAnswer
+  budget-refused f m h = rw m h
+
+-- A call on the budget of a row.
+module _ {A : Type 0} {y : A} (w : List ℕ) {rt : BudgetRuntime} {ps : BudgetParameters} (e₁ : rt ≡ budgetRuntime w) (e₂ : ps ≡ budgetParameters w) where
+  pub row-charges : {a : Answer BudgetRuntime} (start end : ℕ) (f : Answer BudgetRuntime → A) → a ≡ budget.accountedInterval rt start end ps → y ≡ f a
+      → y ≡ given (budget.accountedInterval (budgetRuntime w) start end (budgetParameters w)) f
+  unfolding given
+  row-charges start end f e h = rw (sym e₁, sym e₂, sym e) h
+
+  pub row-finishes : {a : Answer BudgetRuntime} (f : Answer BudgetRuntime → A) → a ≡ budget.turnFinished rt ps → y ≡ f a
+      → y ≡ given (budget.turnFinished (budgetRuntime w) (budgetParameters w)) f
+  unfolding given
+  row-finishes f e h = rw (sym e₁, sym e₂, sym e) h
+
+  pub row-fresh : {r : BudgetAnswer} {b : BudgetRuntime} (now : ℕ) (g : ℕ → A) (f : BudgetRuntime → A) → budgetAnswer r ≡ budget.refreshedJudged rt now ps → r ≡ answer.Runtime b → y ≡ f b
+      → y ≡ onAnswer (budget.refreshedJudged (budgetRuntime w) now (budgetParameters w)) g f
+  unfolding onAnswer
+  row-fresh now g f e m h = rw (sym e₁, sym e₂, sym e, m) h
+
+  pub row-not-fresh : {r : BudgetAnswer} {n : Refusal} (now : ℕ) (g : ℕ → A) (f : BudgetRuntime → A) → budgetAnswer r ≡ budget.refreshedJudged rt now ps → r ≡ answer.Refused n → y ≡ g (numberOf n)
+      → y ≡ onAnswer (budget.refreshedJudged (budgetRuntime w) now (budgetParameters w)) g f
+  unfolding onAnswer
+  row-not-fresh now g f e m h = rw (sym e₁, sym e₂, sym e, m) h
+
+  pub row-ends : {r : BudgetDeadline} {b : BudgetRuntime} {d : Deadline} (now : ℕ) (borrow : Bool) (g : ℕ → A) (f : BudgetRuntime × Deadline → A)
+      → budgetDeadline r ≡ budget.deadlineJudged rt now ps borrow → r ≡ ends.Deadline b d → y ≡ f (b, d)
+      → y ≡ onAnswer (budget.deadlineJudged (budgetRuntime w) now (budgetParameters w) borrow) g f
+  unfolding onAnswer
+  row-ends now borrow g f e n h = rw (sym e₁, sym e₂, sym e, n) h
+
+  pub row-not-ends : {r : BudgetDeadline} {k : Refusal} (now : ℕ) (borrow : Bool) (g : ℕ → A) (f : BudgetRuntime × Deadline → A)
+      → budgetDeadline r ≡ budget.deadlineJudged rt now ps borrow → r ≡ ends.Refused k → y ≡ g (numberOf k)
+      → y ≡ onAnswer (budget.deadlineJudged (budgetRuntime w) now (budgetParameters w) borrow) g f
+  unfolding onAnswer
+  row-not-ends now borrow g f e n h = rw (sym e₁, sym e₂, sym e, n) h
+
+pub row-expires : {A : Type 0} {y : A} {d : Deadline} {ps : BudgetParameters} (w : List ℕ) (now n : ℕ) (f : Deadline → A) → ps ≡ budgetParameters w → d ≡ budgetExpiry now n ps → y ≡ f d
+    → y ≡ given (budgetExpiry now n (budgetParameters w)) f
+unfolding given
+row-expires w now n f e₁ e₂ h = rw (sym e₁, sym e₂) h
+
+-- The epoch by its words.
+pub runtime-read : (w : List ℕ) {e : Epoch} → e ≡ epochFrom (word w 12) (word w 13) → record { epoch = e; «remaining_ns» = word w 14; «burst_remaining_ns» = word w 15 } ≡ budgetRuntime w
+runtime-read w e = rw e
+
+-- The parts of a candidate.
+pub candidate-read : (w : List ℕ) (a : Bool) {p : SchedulingParameters} {f : Wide} → p ≡ parametersOf w → f ≡ passOf (decoded w .runtime)
+    → record { parameters = p; «fair_pass» = f; turn = word w 16; «budget_available» = a } ≡ candidateRow w a
+unfolding candidateRow given
+candidate-read w a e₁ e₂ = rw (e₁, e₂)
+
+-- The turn is stored in the table that the refresh leaves.
+pub row-stores : {a : Bool} {c : Change} {t₁ t₂ : List ThreadRecord} (t : List ThreadRecord) (id : ℕ) (w : List ℕ) (now turn : ℕ) → out a t₁ ≡ refreshedRow t id w now → out c t₂ ≡ setTurn t₁ id turn
+    → t₂ ≡ preparedRow t id w now turn
+unfolding preparedRow onOut
+row-stores t id w now turn e f = rw (sym e) (ap after f)
+
+-- By the turn, with the policy by its words.
+module _ {A : Type 0} {y : A} {r : TurnAnswer} {p : SchedulingPolicy} (front : Bool) (w : List ℕ) (n : ℕ) (c : Turns) (g : ℕ → A) (f : Taken → A) where
+  pub turn-taken : {a : Taken} → p ≡ policyFrom (word w 0) (word w 1) → turnAnswer r ≡ turnFor front p n c → r ≡ turn.Taken a → y ≡ f a
+      → y ≡ onAnswer (turnFor front (policyFrom (word w 0) (word w 1)) n c) g f
+  unfolding onAnswer
+  turn-taken e o m h = rw (sym e, sym o, m) h
+
+  pub turn-refused : {k : Refusal} → p ≡ policyFrom (word w 0) (word w 1) → turnAnswer r ≡ turnFor front p n c → r ≡ turn.Refused k → y ≡ g (numberOf k)
+      → y ≡ onAnswer (turnFor front (policyFrom (word w 0) (word w 1)) n c) g f
+  unfolding onAnswer
+  turn-refused e o m h = rw (sym e, sym o, m) h
+
+-- Charged, and the window accounted.
+pub row-accounts : {t₁ : List ThreadRecord} {p : SchedulingParameters} {x : With (Unit {0})} (t : List ThreadRecord) (id : ℕ) (w : List ℕ) (window : CpuWindow) (m : DispatchMode) (start end : ℕ)
+    → t₁ ≡ chargedRow t id w start end → p ≡ parametersOf w → x ≡ accountCall window start end p m → out x t₁ ≡ accountedRow t id w window m start end
+unfolding accountedRow
+row-accounts t id w window m start end e₁ e₂ e₃ = rw (e₃, e₂, e₁)
+
+-- The window's deadline, then the earlier of the two.
+pub row-dues : {own : Deadline} {t₁ : List ThreadRecord} {s v : With Deadline} (t : List ThreadRecord) (id : ℕ) (w : List ℕ) (now : ℕ) (m : DispatchMode) (window : CpuWindow) (x : Contention)
+    → out own t₁ ≡ ownEnd t id w now m x → s ≡ nextDeadlineCall window now m (x .competition) (x .demand) → v ≡ earlierOf s own → out v t₁ ≡ dueRow t id w now m window x
+unfolding dueRow onOut
+row-dues t id w now m window x e₁ e₂ e₃ = rw (sym e₁, e₃, e₂)
+
+module _ {y : With Deadline} {s : WindowDeadline} (own : Deadline) where
+  pub earlier-due : {d : Deadline} → s .answer ≡ ended.Deadline d → y ≡ with (value (earliestOf own d)) (s .window) → y ≡ earlierOf (windowDeadline s) own
+  unfolding earlierOf
+  earlier-due m h = rw m h
+
+  pub earlier-refused : {n : Refusal} → s .answer ≡ ended.Refused n → y ≡ windowDeadline s → y ≡ earlierOf (windowDeadline s) own
+  unfolding earlierOf
+  earlier-refused m h = rw m (h ∙ rw m)
+
+pub ruleset budgets = (
+  budget-left,
+  budget-refused,
+  turn-taken,
+  turn-refused,
+  row-charges,
+  row-finishes,
+  row-fresh,
+  row-not-fresh,
+  row-ends,
+  row-not-ends,
+  row-expires,
+  candidate-read,
+  row-stores,
+  row-accounts,
+  row-dues,
+  earlier-due,
+  earlier-refused,
+  left-by,
+  answered,
+  pass-by-tag,
+  spent-by-tag,
+)

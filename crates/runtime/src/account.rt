@@ -1,75 +1,89 @@
-// Accounting of one record and the window between two readings, the end of a turn, and the current thread as a candidate.
+// Accounting of one record and the window between two readings, the end of a turn, and the current thread as a candidate. The record is judged by its row's tags; a
+// record without a budget stays as it is, so that nothing of it is stored.
 ghost use mathlib.Core.Path.{_≡_};
+ghost use mathlib.Core.Bool.{true};
+ghost use Rattle.window_config.specs.Config.{soundConfig};
+ghost use Rattle.codec.specs.Codec.{decoded};
 ghost use Rattle.rows.specs.Table.{table, out};
 ghost use Rattle.arbitration.specs.Answers.{verdictOf, windowStep};
-ghost use Rattle.algorithms.specs.Answers.{runtimeAnswer};
-ghost use Rattle.runtime.specs.Account.{accountRecord, accounting, accountCurrent, finishing, finishTurn, passOf, hasTime, candidateOf, refreshing, refreshingAt, currentCandidate, expired};
-ghost use Rattle.runtime.specs.Answers.{accountingAnswer, refreshAnswer, candidateAnswer, expiredAnswer};
-use crate::Accounting;
-use crate::AccountingAnswer;
+ghost use Rattle.decisions.specs.Switch.{spent};
+ghost use Rattle.runtime.specs.Account.{accountCurrent, finishTurn, passOf, currentCandidate, expired};
+ghost use Rattle.runtime.specs.Rows.{chargedRow, accountedRow, accountAt, finishedRow, candidateRow, refreshedRow, candidateAt};
+ghost use Rattle.runtime.specs.Answers.{candidateAnswer, expiredAnswer};
 use crate::CandidateAnswer;
 use crate::ExpiredAnswer;
-use crate::Judgement;
-use crate::RefreshAnswer;
-use crate::Refreshed;
-use crate::judging::judge;
-use crate::judging::judge_with;
-use crate::judging::store_runtime;
+use crate::judging::budget_parameters;
+use crate::judging::budget_runtime;
+use crate::judging::store_budget;
 use algorithms::PolicyRuntime;
-use algorithms::RuntimeAnswer;
 use algorithms::Wide;
 use arbitration::Candidate;
 use arbitration::CpuWindow;
 use arbitration::DispatchMode;
 use arbitration::Verdict;
 use arbitration::WindowStep;
-use decisions::is_spent;
+use budget::BudgetAnswer;
+use codec::parameters_of;
+use queue::is_bad_row;
+use refusal::Refusal;
+use rows::set_runtime;
 use thread::ThreadId;
-use thread::ThreadRecord;
 
-// Of a judged record: its runtime, then the window.
-fn account_record(
-    thread: ThreadRecord,
+// The interval is charged to a budget.
+fn charge_row(t: &mut [[u64; 32]], id: u64, row: [u64; 32], start: u64, end: u64)
+    ensures { λ r. ⌜ table (now (t .exit)) ≡ chargedRow (table (now (t .entry))) id row start end ⌝ }
+{
+    if row[11] == 2 {
+        let runtime = budget_runtime(row);
+        let parameters = budget_parameters(row);
+        let charged = runtime.account_interval(start, end, parameters);
+        store_budget(t, id, charged);
+    }
+}
+
+// Of a judged record's row: its budget, then the window. A window that is sound refuses what the budget refuses.
+fn account_row(
+    t: &mut [[u64; 32]],
+    id: u64,
+    row: [u64; 32],
     window: CpuWindow,
     mode: DispatchMode,
     start: u64,
     end: u64,
-) -> AccountingAnswer
-    ensures { λ r. ⌜ accountingAnswer r ≡ accountRecord thread window mode start end ⌝ }
+) -> WindowStep
+    ensures { λ r. ⌜ out (windowStep r) (table (now (t .exit))) ≡ accountedRow (table (now (t .entry))) id row window mode start end ⌝ }
 {
-    let parameters = thread.parameters;
-    let runtime = thread.runtime;
-    let accounted = runtime.account(parameters, start, end);
-    match accounted {
-        RuntimeAnswer::Refused(refusal) => AccountingAnswer::Refused(refusal),
-        RuntimeAnswer::Runtime(runtime) => {
-            let step = window.account_dispatch(start, end, parameters, mode);
-            let verdict = step.answer;
-            match verdict {
-                Verdict::Refused(refusal) => AccountingAnswer::Refused(refusal),
-                Verdict::Accepted => {
-                    let window = step.window;
-                    AccountingAnswer::Accounting(Accounting { runtime, window })
-                }
-            }
-        }
-    }
+    charge_row(t, id, row, start, end);
+    let parameters = parameters_of(row);
+    window.account_dispatch(start, end, parameters, mode)
 }
 
-fn accounting(
-    t: &[[u64; 32]],
+// NoThread, then BadRecord.
+fn account_at(
+    t: &mut [[u64; 32]],
     id: u64,
     window: CpuWindow,
     mode: DispatchMode,
     start: u64,
     end: u64,
-) -> AccountingAnswer
-    ensures { λ r. ⌜ accountingAnswer r ≡ accounting (table (now (t .entry))) id window mode start end ⌝ }
+) -> WindowStep
+    requires { ⌜ soundConfig (window .config) ≡ true ⌝ }
+    ensures { λ r. ⌜ out (windowStep r) (table (now (t .exit))) ≡ accountAt (table (now (t .entry))) id window mode start end ⌝ }
 {
-    let judgement = judge_with(t, id, window);
-    match judgement {
-        Judgement::Refused(refusal) => AccountingAnswer::Refused(refusal),
-        Judgement::Thread(thread) => account_record(thread, window, mode, start, end),
+    let k = id as usize;
+    if k < t.len() {
+        let row = t[k];
+        if is_bad_row(row) {
+            return WindowStep {
+                answer: Verdict::Refused(Refusal::BadRecord),
+                window,
+            };
+        }
+        return account_row(t, id, row, window, mode, start, end);
+    }
+    WindowStep {
+        answer: Verdict::Refused(Refusal::NoThread),
+        window,
     }
 }
 
@@ -84,35 +98,31 @@ pub fn account_current(
 ) -> WindowStep
     ensures { λ r. ⌜ out (windowStep r) (table (now (t .exit))) ≡ accountCurrent (table (now (t .entry))) (id .0) window mode start end ⌝ }
 {
-    let accounted = accounting(t, id.0, window, mode, start, end);
-    match accounted {
-        AccountingAnswer::Refused(refusal) => WindowStep {
-            answer: Verdict::Refused(refusal),
+    let config = window.config;
+    if 4096 < t.len() {
+        return WindowStep {
+            answer: Verdict::Refused(Refusal::BadTable),
             window,
-        },
-        AccountingAnswer::Accounting(accounted) => {
-            let runtime = accounted.runtime;
-            store_runtime(t, id.0, runtime);
-            let window = accounted.window;
-            WindowStep {
-                answer: Verdict::Accepted,
-                window,
-            }
-        }
+        };
     }
+    if !config.is_sound() {
+        return WindowStep {
+            answer: Verdict::Refused(Refusal::BadConfig),
+            window,
+        };
+    }
+    account_at(t, id.0, window, mode, start, end)
 }
 
-fn finishing(t: &[[u64; 32]], id: u64) -> RuntimeAnswer
-    ensures { λ r. ⌜ runtimeAnswer r ≡ finishing (table (now (t .entry))) id ⌝ }
+// A budget's burst is whole again.
+fn finish_row(t: &mut [[u64; 32]], id: u64, row: [u64; 32])
+    ensures { λ r. ⌜ table (now (t .exit)) ≡ finishedRow (table (now (t .entry))) id row ⌝ }
 {
-    let judgement = judge(t, id);
-    match judgement {
-        Judgement::Refused(refusal) => RuntimeAnswer::Refused(refusal),
-        Judgement::Thread(thread) => {
-            let parameters = thread.parameters;
-            let runtime = thread.runtime;
-            runtime.finish_turn(parameters)
-        }
+    if row[11] == 2 {
+        let runtime = budget_runtime(row);
+        let parameters = budget_parameters(row);
+        let finished = runtime.finish_turn(parameters);
+        store_budget(t, id, finished);
     }
 }
 
@@ -120,83 +130,89 @@ fn finishing(t: &[[u64; 32]], id: u64) -> RuntimeAnswer
 pub fn finish_turn(t: &mut [[u64; 32]], id: ThreadId) -> Verdict
     ensures { λ r. ⌜ out (verdictOf r) (table (now (t .exit))) ≡ finishTurn (table (now (t .entry))) (id .0) ⌝ }
 {
-    let finished = finishing(t, id.0);
-    match finished {
-        RuntimeAnswer::Refused(refusal) => Verdict::Refused(refusal),
-        RuntimeAnswer::Runtime(runtime) => {
-            store_runtime(t, id.0, runtime);
-            Verdict::Accepted
-        }
+    let k = id.0 as usize;
+    if 4096 < t.len() {
+        return Verdict::Refused(Refusal::BadTable);
     }
+    if k < t.len() {
+        let row = t[k];
+        if is_bad_row(row) {
+            return Verdict::Refused(Refusal::BadRecord);
+        }
+        finish_row(t, id.0, row);
+        return Verdict::Accepted;
+    }
+    Verdict::Refused(Refusal::NoThread)
 }
 
 // A fair thread's pass, whatever its backend; else 0.
-fn pass_of(runtime: PolicyRuntime) -> Wide
-    ensures { λ r. ⌜ r ≡ passOf runtime ⌝ }
+fn pass_of_row(w: [u64; 32]) -> Wide
+    ensures { λ r. ⌜ r ≡ passOf (decoded w .runtime) ⌝ }
 {
-    let zero = Wide { high: 0, low: 0 };
-    match runtime {
-        PolicyRuntime::Fifo => zero,
-        PolicyRuntime::Fair(fair) => fair.pass,
-        PolicyRuntime::Budget(_) => zero,
-        PolicyRuntime::Idle => zero,
+    if w[11] == 1 {
+        return Wide {
+            high: w[12],
+            low: w[13],
+        };
     }
+    Wide { high: 0, low: 0 }
 }
 
-// Whether there is time left; so of every thread without a budget.
-fn has_time(runtime: PolicyRuntime) -> bool
-    ensures { λ r. ⌜ r ≡ hasTime runtime ⌝ }
+// The row's record as selection and keys take it.
+fn candidate_of_row(w: [u64; 32], available: bool) -> Candidate
+    ensures { λ r. ⌜ r ≡ candidateRow w available ⌝ }
 {
-    match runtime {
-        PolicyRuntime::Fifo => true,
-        PolicyRuntime::Fair(_) => true,
-        PolicyRuntime::Budget(budget) => {
-            if budget.remaining_ns == 0 {
-                return false;
-            }
-            true
-        }
-        PolicyRuntime::Idle => true,
-    }
-}
-
-fn candidate_of(thread: ThreadRecord, runtime: PolicyRuntime) -> Candidate
-    ensures { λ r. ⌜ r ≡ candidateOf thread runtime ⌝ }
-{
-    let parameters = thread.parameters;
-    let fair_pass = pass_of(runtime);
-    let budget_available = has_time(runtime);
+    let parameters = parameters_of(w);
+    let fair_pass = pass_of_row(w);
     Candidate {
         parameters,
         fair_pass,
-        turn: thread.ready_turn,
-        budget_available,
+        turn: w[16],
+        budget_available: available,
     }
 }
 
-fn refreshing(thread: ThreadRecord, reading: u64) -> RefreshAnswer
-    ensures { λ r. ⌜ refreshAnswer r ≡ refreshing thread reading ⌝ }
+// A budget is refreshed to the reading. Whether there is time left; so of every thread without a budget.
+pub fn refresh_row(t: &mut [[u64; 32]], id: u64, row: [u64; 32], reading: u64) -> bool
+    ensures { λ r. ⌜ out r (table (now (t .exit))) ≡ refreshedRow (table (now (t .entry))) id row reading ⌝ }
 {
-    let parameters = thread.parameters;
-    let runtime = thread.runtime;
-    let fresh = runtime.epoch_refresh(reading, parameters);
-    match fresh {
-        RuntimeAnswer::Refused(refusal) => RefreshAnswer::Refused(refusal),
-        RuntimeAnswer::Runtime(runtime) => {
-            let candidate = candidate_of(thread, runtime);
-            RefreshAnswer::Refreshed(Refreshed { runtime, candidate })
+    if row[11] == 2 {
+        let runtime = budget_runtime(row);
+        let parameters = budget_parameters(row);
+        let fresh = runtime.refresh(reading, parameters);
+        match fresh {
+            BudgetAnswer::Refused(_) => {
+                return true;
+            }
+            BudgetAnswer::Runtime(b) => {
+                set_runtime(t, id, PolicyRuntime::Budget(b));
+                if b.remaining_ns == 0 {
+                    return false;
+                }
+                return true;
+            }
         }
     }
+    true
 }
 
-fn refreshing_at(t: &[[u64; 32]], id: u64, reading: u64) -> RefreshAnswer
-    ensures { λ r. ⌜ refreshAnswer r ≡ refreshingAt (table (now (t .entry))) id reading ⌝ }
+// NoThread, then BadRecord.
+fn candidate_at(t: &mut [[u64; 32]], id: u64, running: bool, reading: u64) -> CandidateAnswer
+    ensures { λ r. ⌜ out (candidateAnswer r) (table (now (t .exit))) ≡ candidateAt (table (now (t .entry))) id running reading ⌝ }
 {
-    let judgement = judge(t, id);
-    match judgement {
-        Judgement::Refused(refusal) => RefreshAnswer::Refused(refusal),
-        Judgement::Thread(thread) => refreshing(thread, reading),
+    let k = id as usize;
+    if k < t.len() {
+        let row = t[k];
+        if is_bad_row(row) {
+            return CandidateAnswer::Refused(Refusal::BadRecord);
+        }
+        if !running {
+            return CandidateAnswer::NotRunning;
+        }
+        let available = refresh_row(t, id, row, reading);
+        return CandidateAnswer::Candidate(candidate_of_row(row, available));
     }
+    CandidateAnswer::Refused(Refusal::NoThread)
 }
 
 // The current thread as selection and keys take it, refreshed where it is Running: order 10, 4, 11.
@@ -208,31 +224,45 @@ pub fn current_candidate(
 ) -> CandidateAnswer
     ensures { λ r. ⌜ out (candidateAnswer r) (table (now (t .exit))) ≡ currentCandidate (table (now (t .entry))) (id .0) running reading ⌝ }
 {
-    let refreshed = refreshing_at(t, id.0, reading);
-    match refreshed {
-        RefreshAnswer::Refused(refusal) => CandidateAnswer::Refused(refusal),
-        RefreshAnswer::Refreshed(refreshed) => {
-            if !running {
-                return CandidateAnswer::NotRunning;
-            }
-            let runtime = refreshed.runtime;
-            store_runtime(t, id.0, runtime);
-            let candidate = refreshed.candidate;
-            CandidateAnswer::Candidate(candidate)
-        }
+    if 4096 < t.len() {
+        return CandidateAnswer::Refused(Refusal::BadTable);
     }
+    candidate_at(t, id.0, running, reading)
+}
+
+// `is_spent` of the row's runtime.
+fn is_spent_row(w: [u64; 32]) -> bool
+    ensures { λ r. ⌜ r ≡ spent (decoded w .runtime) ⌝ }
+{
+    if w[11] == 1 {
+        if w[14] == 0 {
+            return true;
+        }
+        return false;
+    }
+    if w[11] == 2 {
+        if w[15] == 0 {
+            return true;
+        }
+        return false;
+    }
+    false
 }
 
 // `expired` of the current thread: order 10, 4, 11.
 pub fn expired(t: &[[u64; 32]], id: ThreadId) -> ExpiredAnswer
     ensures { λ r. ⌜ expiredAnswer r ≡ expired (table (now (t .entry))) (id .0) ⌝ }
 {
-    let judgement = judge(t, id.0);
-    match judgement {
-        Judgement::Refused(refusal) => ExpiredAnswer::Refused(refusal),
-        Judgement::Thread(thread) => {
-            let runtime = thread.runtime;
-            ExpiredAnswer::Expired(is_spent(runtime))
-        }
+    let k = id.0 as usize;
+    if 4096 < t.len() {
+        return ExpiredAnswer::Refused(Refusal::BadTable);
     }
+    if k < t.len() {
+        let row = t[k];
+        if is_bad_row(row) {
+            return ExpiredAnswer::Refused(Refusal::BadRecord);
+        }
+        return ExpiredAnswer::Expired(is_spent_row(row));
+    }
+    ExpiredAnswer::Refused(Refusal::NoThread)
 }

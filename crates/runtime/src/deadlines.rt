@@ -1,111 +1,199 @@
 // The choice of deadline. After `refresh_deadline`: competition, budget peer, ready thread, demand and the current key's mode come as arguments.
 ghost use mathlib.Core.Path.{_≡_};
+ghost use mathlib.Core.Bool.{true};
+ghost use Rattle.window_config.specs.Config.{soundConfig};
 ghost use Rattle.rows.specs.Table.{table, out};
 ghost use Rattle.arbitration.specs.Answers.{windowDeadline};
-ghost use Rattle.runtime.specs.Deadline.{dueWith, dueWithout, dueAt, dueOf, refreshDeadline};
-ghost use Rattle.runtime.specs.Answers.{dueAnswer};
-use crate::Due;
-use crate::DueAnswer;
-use crate::Judgement;
-use crate::judging::judge_with;
-use crate::judging::store_runtime;
-use algorithms::RuntimeDeadline;
+ghost use Rattle.runtime.specs.Deadline.{refreshDeadline};
+ghost use Rattle.runtime.specs.Rows.{sliceEnd, refreshedEnd, budgetEnd, ownEnd, earlierOf, dueRow, keylessDue, deadlineAt};
+use crate::judging::budget_parameters;
+use crate::judging::budget_runtime;
+use algorithms::PolicyRuntime;
 use arbitration::CpuWindow;
 use arbitration::DispatchMode;
 use arbitration::WindowDeadline;
+use budget::BudgetDeadline;
 use budget::DeadlineAnswer;
 use decisions::Contention;
 use decisions::ModeOption;
-use decisions::own_deadline;
+use decisions::borrows;
+use decisions::budget_expiry;
+use queue::is_bad_row;
+use refusal::Refusal;
+use rows::set_runtime;
 use thread::ThreadId;
-use thread::ThreadRecord;
 use time::Deadline;
+use time::checked_add;
 use time::earliest;
 
-// With a key of this mode: the earlier of the thread's own deadline and the window's.
-fn due_with(
-    reading: u64,
-    thread: ThreadRecord,
-    mode: DispatchMode,
-    window: CpuWindow,
-    contention: Contention,
-) -> DueAnswer
-    ensures { λ r. ⌜ dueAnswer r ≡ dueWith reading thread mode window contention ⌝ }
+// Of a record without a budget: the end of a fair slice, where a thread is ready to take it.
+fn slice_end(row: [u64; 32], reading: u64, competition: bool, ready: bool) -> Deadline
+    ensures { λ r. ⌜ r ≡ sliceEnd row reading competition ready ⌝ }
 {
-    let parameters = thread.parameters;
-    let runtime = thread.runtime;
-    let demand = contention.demand;
-    let own = own_deadline(reading, runtime, parameters, mode, contention);
-    match own {
-        RuntimeDeadline::Refused(refusal) => DueAnswer::Refused(refusal),
-        RuntimeDeadline::Deadline(runtime, own) => {
-            let step = window.next_deadline(reading, mode, contention.competition, demand);
-            let answer = step.answer;
-            match answer {
-                DeadlineAnswer::Refused(refusal) => DueAnswer::Refused(refusal),
-                DeadlineAnswer::Deadline(end) => {
-                    let window = step.window;
-                    let deadline = earliest(own, end);
-                    DueAnswer::Due(Due {
-                        runtime,
-                        window,
-                        deadline,
-                    })
-                }
-            }
+    if row[11] == 1 {
+        if !competition {
+            return Deadline::None;
+        }
+        if ready {
+            return checked_add(reading, row[14]);
+        }
+        return Deadline::None;
+    }
+    Deadline::None
+}
+
+// A budget's own deadline, for which it is refreshed.
+fn refreshed_end(
+    t: &mut [[u64; 32]],
+    id: u64,
+    row: [u64; 32],
+    reading: u64,
+    mode: DispatchMode,
+) -> Deadline
+    ensures { λ r. ⌜ out r (table (now (t .exit))) ≡ refreshedEnd (table (now (t .entry))) id row reading mode ⌝ }
+{
+    let runtime = budget_runtime(row);
+    let parameters = budget_parameters(row);
+    let borrow = borrows(mode);
+    let due = runtime.deadline(reading, parameters, borrow);
+    match due {
+        BudgetDeadline::Refused(_) => Deadline::None,
+        BudgetDeadline::Deadline(fresh, end) => {
+            set_runtime(t, id, PolicyRuntime::Budget(fresh));
+            end
         }
     }
 }
 
-// Without a key: now where anybody competes.
-fn due_without(reading: u64, thread: ThreadRecord, window: CpuWindow, contention: Contention) -> Due
-    ensures { λ r. ⌜ r ≡ dueWithout reading thread window contention ⌝ }
+// A budget's: by its time alone where no budget competes.
+fn budget_end(
+    t: &mut [[u64; 32]],
+    id: u64,
+    row: [u64; 32],
+    reading: u64,
+    mode: DispatchMode,
+    competition: bool,
+    budget_peer: bool,
+) -> Deadline
+    ensures { λ r. ⌜ out r (table (now (t .exit))) ≡ budgetEnd (table (now (t .entry))) id row reading mode competition «budget_peer» ⌝ }
 {
-    let runtime = thread.runtime;
-    if contention.competition {
-        return Due {
-            runtime,
-            window,
-            deadline: Deadline::Some(reading),
-        };
+    if !competition {
+        return Deadline::None;
     }
-    Due {
-        runtime,
-        window,
-        deadline: Deadline::None,
+    if !budget_peer {
+        let parameters = budget_parameters(row);
+        return budget_expiry(reading, row[14], parameters);
+    }
+    refreshed_end(t, id, row, reading, mode)
+}
+
+// The thread's own deadline.
+fn own_end(
+    t: &mut [[u64; 32]],
+    id: u64,
+    row: [u64; 32],
+    reading: u64,
+    mode: DispatchMode,
+    contention: Contention,
+) -> Deadline
+    ensures { λ r. ⌜ out r (table (now (t .exit))) ≡ ownEnd (table (now (t .entry))) id row reading mode contention ⌝ }
+{
+    if row[11] == 2 {
+        return budget_end(
+            t,
+            id,
+            row,
+            reading,
+            mode,
+            contention.competition,
+            contention.budget_peer,
+        );
+    }
+    slice_end(row, reading, contention.competition, contention.ready)
+}
+
+// The earlier of the window's deadline and the thread's own.
+fn earlier_of(step: WindowDeadline, own: Deadline) -> WindowDeadline
+    ensures { λ r. ⌜ windowDeadline r ≡ earlierOf (windowDeadline step) own ⌝ }
+{
+    let answer = step.answer;
+    let window = step.window;
+    match answer {
+        DeadlineAnswer::Refused(_) => step,
+        DeadlineAnswer::Deadline(end) => WindowDeadline {
+            answer: DeadlineAnswer::Deadline(earliest(own, end)),
+            window,
+        },
     }
 }
 
-// Of a judged record.
-fn due_at(
+// With a key of this mode.
+fn due_with(
+    t: &mut [[u64; 32]],
+    id: u64,
+    row: [u64; 32],
     reading: u64,
-    thread: ThreadRecord,
-    mode: ModeOption,
+    mode: DispatchMode,
     window: CpuWindow,
     contention: Contention,
-) -> DueAnswer
-    ensures { λ r. ⌜ dueAnswer r ≡ dueAt reading thread mode window contention ⌝ }
+) -> WindowDeadline
+    ensures { λ r. ⌜ out (windowDeadline r) (table (now (t .exit))) ≡ dueRow (table (now (t .entry))) id row reading mode window contention ⌝ }
 {
-    match mode {
-        ModeOption::None => DueAnswer::Due(due_without(reading, thread, window, contention)),
-        ModeOption::Some(mode) => due_with(reading, thread, mode, window, contention),
+    let demand = contention.demand;
+    let own = own_end(t, id, row, reading, mode, contention);
+    let step = window.next_deadline(reading, mode, contention.competition, demand);
+    earlier_of(step, own)
+}
+
+// Without a key: now where anybody competes.
+fn due_without(reading: u64, window: CpuWindow, competition: bool) -> WindowDeadline
+    ensures { λ r. ⌜ windowDeadline r ≡ keylessDue reading window competition ⌝ }
+{
+    if competition {
+        return WindowDeadline {
+            answer: DeadlineAnswer::Deadline(Deadline::Some(reading)),
+            window,
+        };
+    }
+    WindowDeadline {
+        answer: DeadlineAnswer::Deadline(Deadline::None),
+        window,
     }
 }
 
-fn due_of(
-    t: &[[u64; 32]],
+// NoThread, then BadRecord.
+fn due_at(
+    t: &mut [[u64; 32]],
     id: u64,
     reading: u64,
     mode: ModeOption,
     window: CpuWindow,
     contention: Contention,
-) -> DueAnswer
-    ensures { λ r. ⌜ dueAnswer r ≡ dueOf (table (now (t .entry))) id reading mode window contention ⌝ }
+) -> WindowDeadline
+    requires { ⌜ soundConfig (window .config) ≡ true ⌝ }
+    ensures { λ r. ⌜ out (windowDeadline r) (table (now (t .exit))) ≡ deadlineAt (table (now (t .entry))) id reading mode window contention ⌝ }
 {
-    let judgement = judge_with(t, id, window);
-    match judgement {
-        Judgement::Refused(refusal) => DueAnswer::Refused(refusal),
-        Judgement::Thread(thread) => due_at(reading, thread, mode, window, contention),
+    let k = id as usize;
+    if k < t.len() {
+        let row = t[k];
+        if is_bad_row(row) {
+            return WindowDeadline {
+                answer: DeadlineAnswer::Refused(Refusal::BadRecord),
+                window,
+            };
+        }
+        match mode {
+            ModeOption::None => {
+                return due_without(reading, window, contention.competition);
+            }
+            ModeOption::Some(mode) => {
+                return due_with(t, id, row, reading, mode, window, contention);
+            }
+        }
+    }
+    WindowDeadline {
+        answer: DeadlineAnswer::Refused(Refusal::NoThread),
+        window,
     }
 }
 
@@ -120,21 +208,18 @@ pub fn refresh_deadline(
 ) -> WindowDeadline
     ensures { λ r. ⌜ out (windowDeadline r) (table (now (t .exit))) ≡ refreshDeadline (table (now (t .entry))) (id .0) reading mode window contention ⌝ }
 {
-    let due = due_of(t, id.0, reading, mode, window, contention);
-    match due {
-        DueAnswer::Refused(refusal) => WindowDeadline {
-            answer: DeadlineAnswer::Refused(refusal),
+    let config = window.config;
+    if 4096 < t.len() {
+        return WindowDeadline {
+            answer: DeadlineAnswer::Refused(Refusal::BadTable),
             window,
-        },
-        DueAnswer::Due(due) => {
-            let runtime = due.runtime;
-            store_runtime(t, id.0, runtime);
-            let window = due.window;
-            let deadline = due.deadline;
-            WindowDeadline {
-                answer: DeadlineAnswer::Deadline(deadline),
-                window,
-            }
-        }
+        };
     }
+    if !config.is_sound() {
+        return WindowDeadline {
+            answer: DeadlineAnswer::Refused(Refusal::BadConfig),
+            window,
+        };
+    }
+    due_at(t, id.0, reading, mode, window, contention)
 }

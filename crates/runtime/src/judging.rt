@@ -1,56 +1,44 @@
-// The judgement of the named record, and the store of its runtime.
+// What the calls read of the row of a judged record with a budget, and the store of its runtime: no record is made only to be taken apart again.
 ghost use mathlib.Core.Path.{_≡_};
-ghost use Rattle.rows.specs.Table.{table, after, setRuntime};
-ghost use Rattle.runtime.specs.Judging.{judgedAt, judged, judgedWith};
-ghost use Rattle.runtime.specs.Answers.{judgementAnswer};
-use crate::Judgement;
+ghost use Rattle.rows.specs.Table.{table};
+ghost use Rattle.budget.specs.Answers.{budgetAnswer};
+ghost use Rattle.runtime.specs.Rows.{budgetRuntime, budgetParameters, budgetStored};
 use algorithms::PolicyRuntime;
-use arbitration::CpuWindow;
-use refusal::Refusal;
-use rows::RecordRead;
-use rows::record_at;
+use budget::BudgetAnswer;
+use budget::BudgetRuntime;
+use codec::epoch_from;
+use policy::BudgetParameters;
 use rows::set_runtime;
-use thread::is_bad_record;
 
-// NoThread, then BadRecord.
-pub fn judge_record(t: &[[u64; 32]], id: u64) -> Judgement
-    ensures { λ r. ⌜ judgementAnswer r ≡ judgedAt (table (now (t .entry))) id ⌝ }
+pub fn budget_runtime(w: [u64; 32]) -> BudgetRuntime
+    ensures { λ r. ⌜ r ≡ budgetRuntime w ⌝ }
 {
-    let RecordRead::Got(thread) = record_at(t, id) else {
-        return Judgement::Refused(Refusal::NoThread);
-    };
-    if is_bad_record(thread) {
-        return Judgement::Refused(Refusal::BadRecord);
+    let epoch = epoch_from(w[12], w[13]);
+    BudgetRuntime {
+        epoch,
+        remaining_ns: w[14],
+        burst_remaining_ns: w[15],
     }
-    Judgement::Thread(thread)
 }
 
-// BadTable before them.
-pub fn judge(t: &[[u64; 32]], id: u64) -> Judgement
-    ensures { λ r. ⌜ judgementAnswer r ≡ judged (table (now (t .entry))) id ⌝ }
+pub fn budget_parameters(w: [u64; 32]) -> BudgetParameters
+    ensures { λ r. ⌜ r ≡ budgetParameters w ⌝ }
 {
-    if 4096 < t.len() {
-        return Judgement::Refused(Refusal::BadTable);
+    BudgetParameters {
+        budget_ns: w[8],
+        period_ns: w[9],
+        burst_ns: w[10],
     }
-    judge_record(t, id)
 }
 
-// BadTable, BadConfig, NoThread, BadRecord, in this order.
-pub fn judge_with(t: &[[u64; 32]], id: u64, window: CpuWindow) -> Judgement
-    ensures { λ r. ⌜ judgementAnswer r ≡ judgedWith (table (now (t .entry))) id window ⌝ }
+// A budget's runtime as a call leaves it; a refusal stores nothing.
+pub fn store_budget(t: &mut [[u64; 32]], id: u64, answer: BudgetAnswer)
+    ensures { λ r. ⌜ table (now (t .exit)) ≡ budgetStored (table (now (t .entry))) id (budgetAnswer answer) ⌝ }
 {
-    let config = window.config;
-    if 4096 < t.len() {
-        return Judgement::Refused(Refusal::BadTable);
+    match answer {
+        BudgetAnswer::Refused(_) => {}
+        BudgetAnswer::Runtime(runtime) => {
+            set_runtime(t, id, PolicyRuntime::Budget(runtime));
+        }
     }
-    if !config.is_sound() {
-        return Judgement::Refused(Refusal::BadConfig);
-    }
-    judge_record(t, id)
-}
-
-pub fn store_runtime(t: &mut [[u64; 32]], id: u64, runtime: PolicyRuntime)
-    ensures { λ r. ⌜ table (now (t .exit)) ≡ after (setRuntime (table (now (t .entry))) id runtime) ⌝ }
-{
-    set_runtime(t, id, runtime);
 }

@@ -16,25 +16,13 @@ pub use deadlines::refresh_deadline;
 use decisions::Turns;
 pub use prepare::prepare_enqueue;
 use refusal::Refusal;
-use thread::ThreadRecord;
 use time::Deadline;
-
-// A record that is judged.
-pub enum Judgement {
-    Thread(ThreadRecord),
-    Refused(Refusal),
-}
 
 // What preparing stores: the refreshed runtime and the turn; and the counters afterwards.
 pub struct Preparation {
     pub runtime: PolicyRuntime,
     pub turn: u64,
     pub turns: Turns,
-}
-
-pub enum Preparing {
-    Preparation(Preparation),
-    Refused(Refusal),
 }
 
 // Whether a thread was prepared, and the counters as they are left.
@@ -47,11 +35,6 @@ pub struct Prepared {
 pub struct Accounting {
     pub runtime: PolicyRuntime,
     pub window: CpuWindow,
-}
-
-pub enum AccountingAnswer {
-    Accounting(Accounting),
-    Refused(Refusal),
 }
 
 // The current thread, refreshed to now; none where it is not Running.
@@ -67,11 +50,6 @@ pub struct Refreshed {
     pub candidate: Candidate,
 }
 
-pub enum RefreshAnswer {
-    Refreshed(Refreshed),
-    Refused(Refusal),
-}
-
 // Whether the current thread's slice or burst is spent.
 pub enum ExpiredAnswer {
     Expired(bool),
@@ -83,9 +61,4 @@ pub struct Due {
     pub runtime: PolicyRuntime,
     pub window: CpuWindow,
     pub deadline: Deadline,
-}
-
-pub enum DueAnswer {
-    Due(Due),
-    Refused(Refusal),
 }

@@ -35,7 +35,7 @@ use Rattle.runtime.specs.Judging as judging
 use Rattle.runtime.specs.Prepare.{Counted, counted, prepareRecord, preparation, prepared, prepareEnqueue}
 use Rattle.runtime.specs.Account.{accountRecord, accounting, settled, accountCurrent}
 use Rattle.runtime.specs.Deadline.{armed, dueOf, refreshDeadline}
-use Rattle.sound_runtime.specs.Judged.{freshOf, refreshes, chargedOf, accounts}
+use Rattle.runtime.specs.Judged.{freshOf, refreshes, chargedOf, accounts}
 
 -- A judged record goes on.
 abbrev goesOn : {A : Type 0} → List ThreadRecord → ℕ → (ThreadRecord → Answer A) → Answer A

@@ -8,8 +8,6 @@ pub mod Order
 pub mod Keys
 -- Budgets and windows under refresh and charge.
 pub mod Budgets
--- What a judged record is, and what refreshing and accounting give of it.
-pub mod Judged
 -- Preparing and accounting, their refusals in order, and that a refusal changes nothing.
 pub mod Calls
 -- The theorems about turns, budgets and windows.

@@ -45,7 +45,7 @@ use Rattle.sound_runtime.specs.Outcome.{stored-record}
 use Rattle.sound_runtime.specs.Order.{in-order, no-repeat, between}
 use Rattle.sound_runtime.specs.Keys.{Alike, tree-key-less, Ahead, dispatch-key-less}
 use Rattle.sound_runtime.specs.Budgets.{refreshed-within, Charged, charged-less, WindowCharged, window-charged-less}
-use Rattle.sound_runtime.specs.Judged.{freshOf, chargedOf}
+use Rattle.runtime.specs.Judged.{freshOf, chargedOf}
 use Rattle.sound_runtime.specs.Calls.{preparation-is, accounting-is}
 
 -- Of the turns that any list of calls hands out from new counters, back turns rise, front turns fall, and every front turn is less than every back turn.

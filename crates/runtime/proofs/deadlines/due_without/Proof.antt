@@ -1,11 +1,11 @@
--- By whether anybody competes.
+-- Whether anybody competes.
 use Rattle.refusal.specs.Cases.{cases}
-use Rattle.runtime.specs.Deadline.{dueWithout}
+use Rattle.runtime.specs.Rows.{keylessDue}
 use Rattle.runtime.proofs.deadlines.due_without.Statement.{statement}
 use Rattle.runtime.proofs.deadlines.due_without.Tie as tie
 
 pub due-without-spec : {M : Type 1} → statement M
-unfolding dueWithout
+unfolding keylessDue
 due-without-spec =
     tie.close
     (tie.spec

@@ -1,0 +1,18 @@
+-- One law for each way through the judgement.
+use Rattle.runtime.specs.RuntimeLaws.{ways}
+use borrow.Author.Needs.{needs}
+use Rattle.runtime.proofs.account.account_at.Statement.{statement}
+use Rattle.runtime.proofs.account.account_at.Tie as tie
+
+pub account-at-spec : {M : Type 1} → statement M
+account-at-spec =
+    tie.close
+    (tie.spec
+    (λ c. search needs)
+    (λ c. search needs)
+    (λ c κs. search needs)
+    (λ c. search ways depth 8)
+    (λ c κs. search needs)
+    (λ c. search needs)
+    (λ c. search ways depth 8)
+    (λ c. search ways depth 8))

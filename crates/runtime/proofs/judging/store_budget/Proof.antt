@@ -1,0 +1,18 @@
+-- A runtime is stored, a refusal is not.
+use Rattle.runtime.specs.Rows.{budgetStored}
+use Rattle.runtime.specs.RuntimeLaws.{budgets}
+use borrow.Author.Needs.{needs}
+use Rattle.runtime.proofs.judging.store_budget.Statement.{statement}
+use Rattle.runtime.proofs.judging.store_budget.Tie as tie
+
+pub store-budget-spec : {M : Type 1} → statement M
+unfolding budgetStored
+store-budget-spec =
+    tie.close
+    (tie.spec
+    (λ c. search needs)
+    (λ c. search needs)
+    (λ c κs. search needs)
+    (λ c. search budgets depth 8)
+    (λ c. search needs)
+    (λ c. search budgets depth 8))
