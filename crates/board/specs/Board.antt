@@ -31,6 +31,15 @@ unfoldable pub fitting : {A : Type 0} → List (List ℕ × ℕ) → A → Left 
 fitting [] before after = after
 fitting ((w, size) ∷ rest) before after = ifEqual (length w) size (fitting rest before after) (left 10 before)
 
+-- Words that are lent: those of slices, of a queue and of a table.
+pub data Words : Type 0 where
+  words : List (List ℕ) → List (List ℕ) → List (List ℕ) → Words
+
+-- What is lent where a slice has another length; nothing where each fits.
+unfoldable pub unfit : List (List ℕ × ℕ) → Words → Option Words
+unfit [] lent = none
+unfit ((w, size) ∷ rest) lent = ifEqual (length w) size (unfit rest lent) (some lent)
+
 -- 0, or the number of a refusal.
 abbrev pub numbered : {A : Type 0} → Answer A → ℕ
 numbered (value a) = 0

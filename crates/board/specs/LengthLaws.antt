@@ -6,8 +6,9 @@ use native.Mathlib.Numerals.{add-one}
 use native.Mathlib.Omega.{arith}
 use lib.ListN.{length, take, set, getD}
 use lib.Seq.{take-suc, take-suc-set, take-all}
-use Rattle.refusal.specs.Cases.{ifEqual, equal, not-equal}
-use Rattle.board.specs.Board.{Left, left, fitting}
+use borrow.Author.Tests.{eq-eqb}
+use Rattle.refusal.specs.Cases.{choose, ifEqual, equal, not-equal}
+use Rattle.board.specs.Board.{Left, left, fitting, Words, unfit}
 
 module _ {A : Type 0} {y : Left A} (before : A) (after : Left A) where
   -- No slice is left to judge.
@@ -24,7 +25,17 @@ module _ {A : Type 0} {y : Left A} (before : A) (after : Left A) where
     unfolding fitting
     misfits e h = not-equal (fitting rest before after) (left 10 before) (length w) size e h
 
-pub ruleset length-laws = (all-fit, fits, misfits)
+-- Where each fits nothing is asked of what is lent.
+module _ (x y : Words) where
+  pub none-unfit : unfit [] x ≡ unfit [] y
+  unfolding unfit
+  none-unfit = refl
+
+  pub fits-too : (w : List ℕ) (size : ℕ) (rest : List (List ℕ × ℕ)) → length w ≡ size → unfit rest x ≡ unfit rest y → unfit ((w, size) ∷ rest) x ≡ unfit ((w, size) ∷ rest) y
+  unfolding unfit ifEqual choose
+  fits-too w size rest e h = rw (eq-eqb (length w) size e) h
+
+pub ruleset length-laws = (all-fit, fits, misfits, none-unfit, fits-too)
 
 -- One word more is copied.
 pub word-copied : (to from : List ℕ) (i : ℕ) → i < length to → i < length from → take i to ≡ take i from → take (i + 1) (set to i (getD from i 0)) ≡ take (i + 1) from

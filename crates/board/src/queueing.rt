@@ -6,7 +6,7 @@ ghost use Rattle.rows.specs.Table.{table};
 ghost use Rattle.queue.specs.Queue as calls;
 ghost use Rattle.queue.specs.Answers.{verdictAnswer};
 ghost use Rattle.lent_queue.specs.LentQueue.{queueOf};
-ghost use Rattle.board.specs.Board.{left, fitting, numbered, processor, queueLeft, lengthsOf, lengths};
+ghost use Rattle.board.specs.Board.{left, fitting, words, unfit, numbered, processor, queueLeft, lengthsOf, lengths};
 use crate::words::BAD_TABLE;
 use crate::words::copy;
 use lent_queue::enqueue_lent;
@@ -80,6 +80,7 @@ pub extern "C" fn board_remove(
 #[no_mangle]
 pub extern "C" fn board_lengths(q: &[[u64; 5]; 270], answer: &mut [u64]) -> u64
     ensures { λ r. ⌜ left r (lengthsOf (now (answer .exit))) ≡ fitting ((now (answer .entry), 3) ∷ []) (lengthsOf (now (answer .entry))) (left 0 (lengths (queueOf (now (q .entry))))) ⌝ }
+    ensures { λ r. ⌜ unfit ((now (answer .entry), 3) ∷ []) (words (now (answer .exit) ∷ []) [] []) ≡ unfit ((now (answer .entry), 3) ∷ []) (words (now (answer .entry) ∷ []) [] []) ⌝ }
 {
     if answer.len() != 3 {
         return BAD_TABLE;

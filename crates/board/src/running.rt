@@ -14,7 +14,7 @@ ghost use Rattle.runtime.specs.Account.{accountCurrent, finishTurn, currentCand
 ghost use Rattle.runtime.specs.Answers.{candidateAnswer, expiredAnswer};
 ghost use Rattle.runtime.specs.Deadline.{refreshDeadline};
 ghost use Rattle.board_words.specs.BoardWords.{turnsOf, readyKeyOf, choiceOf, contention};
-ghost use Rattle.board.specs.Board.{left, fitting, numbered, answered, prepareLeft, accountLeft, candidateOver, candidateLeft, finishLeft, flagOf, deadlineLeft};
+ghost use Rattle.board.specs.Board.{left, fitting, words, unfit, numbered, answered, prepareLeft, accountLeft, candidateOver, candidateLeft, finishLeft, flagOf, deadlineLeft};
 use crate::words::BAD_TABLE;
 use crate::words::contention_in;
 use crate::words::copy;
@@ -76,6 +76,7 @@ pub extern "C" fn board_prepare(
     turns: &mut [u64],
 ) -> u64
     ensures { λ r. ⌜ left r (turnsOf (now (turns .exit)), table (now (t .exit))) ≡ fitting ((now (turns .entry), 2) ∷ []) (turnsOf (now (turns .entry)), table (now (t .entry))) (prepareLeft (prepareEnqueue (table (now (t .entry))) id (flagFrom front) «now_ns» (turnsOf (now (turns .entry))))) ⌝ }
+    ensures { λ r. ⌜ unfit ((now (turns .entry), 2) ∷ []) (words (now (turns .exit) ∷ []) [] (now (t .exit))) ≡ unfit ((now (turns .entry), 2) ∷ []) (words (now (turns .entry) ∷ []) [] (now (t .entry))) ⌝ }
 {
     if turns.len() != 2 {
         return BAD_TABLE;
@@ -99,6 +100,7 @@ pub extern "C" fn board_account(
     end: u64,
 ) -> u64
     ensures { λ r. ⌜ left r (windowOf (now (window .exit)), table (now (t .exit))) ≡ fitting ((now (window .entry), 12) ∷ []) (windowOf (now (window .entry)), table (now (t .entry))) (accountLeft (accountCurrent (table (now (t .entry))) id (windowOf (now (window .entry))) (modeFrom mode) start end)) ⌝ }
+    ensures { λ r. ⌜ unfit ((now (window .entry), 12) ∷ []) (words (now (window .exit) ∷ []) [] (now (t .exit))) ≡ unfit ((now (window .entry), 12) ∷ []) (words (now (window .entry) ∷ []) [] (now (t .entry))) ⌝ }
 {
     if window.len() != 12 {
         return BAD_TABLE;
@@ -137,6 +139,7 @@ pub extern "C" fn board_candidate(
     current: &mut [u64],
 ) -> u64
     ensures { λ r. ⌜ left r (candidateOf (now (current .exit)), table (now (t .exit))) ≡ fitting ((now (current .entry), 32) ∷ []) (candidateOf (now (current .entry)), table (now (t .entry))) (candidateLeft (candidateOf (now (current .entry))) (currentCandidate (table (now (t .entry))) id (flagFrom running) «now_ns»)) ⌝ }
+    ensures { λ r. ⌜ unfit ((now (current .entry), 32) ∷ []) (words (now (current .exit) ∷ []) [] (now (t .exit))) ≡ unfit ((now (current .entry), 32) ∷ []) (words (now (current .entry) ∷ []) [] (now (t .entry))) ⌝ }
 {
     if current.len() != 32 {
         return BAD_TABLE;
@@ -163,6 +166,7 @@ fn store_expired(s: &mut [u64], given: ExpiredAnswer) -> u64
 #[no_mangle]
 pub extern "C" fn board_expired(t: &[[u64; 32]], id: u64, answer: &mut [u64]) -> u64
     ensures { λ r. ⌜ left r (flagOf (now (answer .exit))) ≡ fitting ((now (answer .entry), 1) ∷ []) (flagOf (now (answer .entry))) (answered (flagOf (now (answer .entry))) (expired (table (now (t .entry))) id)) ⌝ }
+    ensures { λ r. ⌜ unfit ((now (answer .entry), 1) ∷ []) (words (now (answer .exit) ∷ []) [] []) ≡ unfit ((now (answer .entry), 1) ∷ []) (words (now (answer .entry) ∷ []) [] []) ⌝ }
 {
     if answer.len() != 1 {
         return BAD_TABLE;
@@ -199,6 +203,7 @@ pub extern "C" fn board_switch(
     answer: &mut [u64],
 ) -> u64
     ensures { λ r. ⌜ left r (choiceOf (now (answer .exit))) ≡ fitting ((now (ready .entry), 9) ∷ (now (key .entry), 9) ∷ (now (current .entry), 32) ∷ (now (answer .entry), 2) ∷ []) (choiceOf (now (answer .entry))) (left 0 (chooseReady (readyKeyOf (now (ready .entry))) (keyOptionOf (now (key .entry))) (parametersOf (now (current .entry))) (flagFrom expired) (flagFrom yielding) (flagFrom tail))) ⌝ }
+    ensures { λ r. ⌜ unfit ((now (ready .entry), 9) ∷ (now (key .entry), 9) ∷ (now (current .entry), 32) ∷ (now (answer .entry), 2) ∷ []) (words (now (answer .exit) ∷ []) [] []) ≡ unfit ((now (ready .entry), 9) ∷ (now (key .entry), 9) ∷ (now (current .entry), 32) ∷ (now (answer .entry), 2) ∷ []) (words (now (answer .entry) ∷ []) [] []) ⌝ }
 {
     if ready.len() != 9 {
         return BAD_TABLE;
@@ -278,6 +283,7 @@ pub extern "C" fn board_deadline(
     answer: &mut [u64],
 ) -> u64
     ensures { λ r. ⌜ left r (deadlineOf (now (answer .exit)), (windowOf (now (window .exit)), table (now (t .exit)))) ≡ fitting ((now (key .entry), 9) ∷ (now (window .entry), 12) ∷ (now (demand .entry), 5) ∷ (now (answer .entry), 2) ∷ []) (deadlineOf (now (answer .entry)), (windowOf (now (window .entry)), table (now (t .entry)))) (deadlineLeft (deadlineOf (now (answer .entry))) (refreshDeadline (table (now (t .entry))) id «now_ns» (modeOf (keyOptionOf (now (key .entry)))) (windowOf (now (window .entry))) (contention (flagFrom competition) (flagFrom «budget_peer») (flagFrom ready) (demandOf (now (demand .entry)))))) ⌝ }
+    ensures { λ r. ⌜ unfit ((now (key .entry), 9) ∷ (now (window .entry), 12) ∷ (now (demand .entry), 5) ∷ (now (answer .entry), 2) ∷ []) (words (now (window .exit) ∷ now (answer .exit) ∷ []) [] (now (t .exit))) ≡ unfit ((now (key .entry), 9) ∷ (now (window .entry), 12) ∷ (now (demand .entry), 5) ∷ (now (answer .entry), 2) ∷ []) (words (now (window .entry) ∷ now (answer .entry) ∷ []) [] (now (t .entry))) ⌝ }
 {
     if key.len() != 9 {
         return BAD_TABLE;

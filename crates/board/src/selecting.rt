@@ -8,7 +8,7 @@ ghost use Rattle.selection.specs.Peek.{peekNext};
 ghost use Rattle.selection.specs.Answers.{peekAnswer};
 ghost use Rattle.window_words.specs.WindowWords.{flagFrom, windowOf, progressed};
 ghost use Rattle.board_words.specs.BoardWords.{selectionFrom, currentOf};
-ghost use Rattle.board.specs.Board.{left, fitting, answered, processor, selectionLeft};
+ghost use Rattle.board.specs.Board.{left, fitting, words, unfit, answered, processor, selectionLeft};
 use crate::words::BAD_TABLE;
 use crate::words::copy;
 use crate::words::current_in;
@@ -64,6 +64,7 @@ pub extern "C" fn board_select(
     answer: &mut [u64],
 ) -> u64
     ensures { λ r. ⌜ left r (selectionFrom (now (answer .exit)), (windowOf (now (window .exit)), queueOf (now (q .exit)), table (now (t .exit)))) ≡ fitting ((now (window .entry), 12) ∷ (now (current .entry), 32) ∷ (now (answer .entry), 19) ∷ []) (selectionFrom (now (answer .entry)), (windowOf (now (window .entry)), queueOf (now (q .entry)), table (now (t .entry)))) (selectionLeft (selectionFrom (now (answer .entry))) (peekNext (table (now (t .entry))) (queueOf (now (q .entry))) (processor cpu) «now_ns» (windowOf (now (window .entry))) (currentOf (flagFrom running) (now (current .entry))))) ⌝ }
+    ensures { λ r. ⌜ unfit ((now (window .entry), 12) ∷ (now (current .entry), 32) ∷ (now (answer .entry), 19) ∷ []) (words (now (window .exit) ∷ now (answer .exit) ∷ []) (now (q .exit)) (now (t .exit))) ≡ unfit ((now (window .entry), 12) ∷ (now (current .entry), 32) ∷ (now (answer .entry), 19) ∷ []) (words (now (window .entry) ∷ now (answer .entry) ∷ []) (now (q .entry)) (now (t .entry))) ⌝ }
 {
     if window.len() != 12 {
         return BAD_TABLE;

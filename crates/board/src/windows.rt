@@ -6,7 +6,7 @@ ghost use Rattle.arbitration.specs.Answers.{windowMade};
 ghost use Rattle.arbitration.specs.Calls.{keyCall};
 ghost use Rattle.window_words.specs.WindowWords.{configOf, windowOf, demandOf, candidateOf, keyOptionOf};
 ghost use Rattle.board_words.specs.BoardWords.{madeWindow};
-ghost use Rattle.board.specs.Board.{left, fitting, answered, keyLeft};
+ghost use Rattle.board.specs.Board.{left, fitting, words, unfit, answered, keyLeft};
 use crate::words::BAD_TABLE;
 use crate::words::copy;
 use crate::words::five;
@@ -61,6 +61,7 @@ fn store_made(window: &mut [u64], made: WindowMade) -> u64
 #[no_mangle]
 pub extern "C" fn board_window(window: &mut [u64], config: &[u64]) -> u64
     ensures { λ r. ⌜ left r (windowOf (now (window .exit))) ≡ fitting ((now (window .entry), 12) ∷ (now (config .entry), 8) ∷ []) (windowOf (now (window .entry))) (answered (windowOf (now (window .entry))) (madeWindow (configOf (now (config .entry))))) ⌝ }
+    ensures { λ r. ⌜ unfit ((now (window .entry), 12) ∷ (now (config .entry), 8) ∷ []) (words (now (window .exit) ∷ []) [] []) ≡ unfit ((now (window .entry), 12) ∷ (now (config .entry), 8) ∷ []) (words (now (window .entry) ∷ []) [] []) ⌝ }
 {
     if window.len() != 12 {
         return BAD_TABLE;
@@ -81,6 +82,7 @@ pub extern "C" fn board_key(
     key: &mut [u64],
 ) -> u64
     ensures { λ r. ⌜ left r (keyOptionOf (now (key .exit)), windowOf (now (window .exit))) ≡ fitting ((now (window .entry), 12) ∷ (now (current .entry), 32) ∷ (now (demand .entry), 5) ∷ (now (key .entry), 9) ∷ []) (keyOptionOf (now (key .entry)), windowOf (now (window .entry))) (keyLeft (keyOptionOf (now (key .entry))) (keyCall (windowOf (now (window .entry))) «now_ns» (candidateOf (now (current .entry))) (demandOf (now (demand .entry))))) ⌝ }
+    ensures { λ r. ⌜ unfit ((now (window .entry), 12) ∷ (now (current .entry), 32) ∷ (now (demand .entry), 5) ∷ (now (key .entry), 9) ∷ []) (words (now (window .exit) ∷ now (key .exit) ∷ []) [] []) ≡ unfit ((now (window .entry), 12) ∷ (now (current .entry), 32) ∷ (now (demand .entry), 5) ∷ (now (key .entry), 9) ∷ []) (words (now (window .entry) ∷ now (key .entry) ∷ []) [] []) ⌝ }
 {
     if window.len() != 12 {
         return BAD_TABLE;

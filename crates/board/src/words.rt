@@ -24,10 +24,10 @@ use window_words::window_of;
 use window_words::with_window;
 
 // What is answered where a slice has another length than it is to have.
-pub const BAD_TABLE: u64 = 10;
+pub(crate) const BAD_TABLE: u64 = 10;
 
-// Two slices of one length.
-pub fn copy(to: &mut [u64], from: &[u64])
+// The words of one slice into another of the same length.
+pub(crate) fn copy(to: &mut [u64], from: &[u64])
     requires { ⌜ length (now to) ≡ length (now from) ⌝ }
     ensures { λ r. ⌜ now (to .exit) ≡ now (from .entry) ⌝ }
 {
@@ -38,7 +38,7 @@ pub fn copy(to: &mut [u64], from: &[u64])
     }
 }
 
-pub fn two(s: &[u64]) -> [u64; 2]
+pub(crate) fn two(s: &[u64]) -> [u64; 2]
     requires { ⌜ length (now s) ≡ 2 ⌝ }
     ensures { λ r. ⌜ r ≡ now (s .entry) ⌝ }
 {
@@ -47,7 +47,7 @@ pub fn two(s: &[u64]) -> [u64; 2]
     w
 }
 
-pub fn five(s: &[u64]) -> [u64; 5]
+pub(crate) fn five(s: &[u64]) -> [u64; 5]
     requires { ⌜ length (now s) ≡ 5 ⌝ }
     ensures { λ r. ⌜ r ≡ now (s .entry) ⌝ }
 {
@@ -56,7 +56,7 @@ pub fn five(s: &[u64]) -> [u64; 5]
     w
 }
 
-pub fn nine(s: &[u64]) -> [u64; 9]
+pub(crate) fn nine(s: &[u64]) -> [u64; 9]
     requires { ⌜ length (now s) ≡ 9 ⌝ }
     ensures { λ r. ⌜ r ≡ now (s .entry) ⌝ }
 {
@@ -65,7 +65,7 @@ pub fn nine(s: &[u64]) -> [u64; 9]
     w
 }
 
-pub fn twelve(s: &[u64]) -> [u64; 12]
+pub(crate) fn twelve(s: &[u64]) -> [u64; 12]
     requires { ⌜ length (now s) ≡ 12 ⌝ }
     ensures { λ r. ⌜ r ≡ now (s .entry) ⌝ }
 {
@@ -74,7 +74,7 @@ pub fn twelve(s: &[u64]) -> [u64; 12]
     w
 }
 
-pub fn row_of(s: &[u64]) -> [u64; 32]
+pub(crate) fn row_of(s: &[u64]) -> [u64; 32]
     requires { ⌜ length (now s) ≡ 32 ⌝ }
     ensures { λ r. ⌜ r ≡ now (s .entry) ⌝ }
 {
@@ -83,28 +83,28 @@ pub fn row_of(s: &[u64]) -> [u64; 32]
     w
 }
 
-pub fn store_nine(s: &mut [u64], words: &[u64; 9])
+pub(crate) fn store_nine(s: &mut [u64], words: &[u64; 9])
     requires { ⌜ length (now s) ≡ 9 ⌝ }
     ensures { λ r. ⌜ now (s .exit) ≡ now (words .entry) ⌝ }
 {
     copy(s, words);
 }
 
-pub fn store_twelve(s: &mut [u64], words: &[u64; 12])
+pub(crate) fn store_twelve(s: &mut [u64], words: &[u64; 12])
     requires { ⌜ length (now s) ≡ 12 ⌝ }
     ensures { λ r. ⌜ now (s .exit) ≡ now (words .entry) ⌝ }
 {
     copy(s, words);
 }
 
-pub fn window_in(s: &[u64]) -> CpuWindow
+pub(crate) fn window_in(s: &[u64]) -> CpuWindow
     requires { ⌜ length (now s) ≡ 12 ⌝ }
     ensures { λ r. ⌜ r ≡ windowOf (now (s .entry)) ⌝ }
 {
     window_of(twelve(s))
 }
 
-pub fn store_window(s: &mut [u64], window: CpuWindow)
+pub(crate) fn store_window(s: &mut [u64], window: CpuWindow)
     requires { ⌜ length (now s) ≡ 12 ⌝ }
     ensures { λ r. ⌜ windowOf (now (s .exit)) ≡ window ⌝ }
 {
@@ -112,49 +112,54 @@ pub fn store_window(s: &mut [u64], window: CpuWindow)
     copy(s, &words);
 }
 
-pub fn current_in(running: u64, s: &[u64]) -> CandidateOption
+pub(crate) fn current_in(running: u64, s: &[u64]) -> CandidateOption
     requires { ⌜ length (now s) ≡ 32 ⌝ }
     ensures { λ r. ⌜ r ≡ currentOf (flagFrom running) (now (s .entry)) ⌝ }
 {
     current_of(running, row_of(s))
 }
 
-pub fn parameters_in(s: &[u64]) -> SchedulingParameters
+pub(crate) fn parameters_in(s: &[u64]) -> SchedulingParameters
     requires { ⌜ length (now s) ≡ 32 ⌝ }
     ensures { λ r. ⌜ r ≡ parametersOf (now (s .entry)) ⌝ }
 {
     parameters_of(row_of(s))
 }
 
-pub fn turns_in(s: &[u64]) -> Turns
+pub(crate) fn turns_in(s: &[u64]) -> Turns
     requires { ⌜ length (now s) ≡ 2 ⌝ }
     ensures { λ r. ⌜ r ≡ turnsOf (now (s .entry)) ⌝ }
 {
     turns_of(two(s))
 }
 
-pub fn ready_in(s: &[u64]) -> ReadyKey
+pub(crate) fn ready_in(s: &[u64]) -> ReadyKey
     requires { ⌜ length (now s) ≡ 9 ⌝ }
     ensures { λ r. ⌜ r ≡ readyKeyOf (now (s .entry)) ⌝ }
 {
     ready_key_of(nine(s))
 }
 
-pub fn key_in(s: &[u64]) -> KeyOption
+pub(crate) fn key_in(s: &[u64]) -> KeyOption
     requires { ⌜ length (now s) ≡ 9 ⌝ }
     ensures { λ r. ⌜ r ≡ keyOptionOf (now (s .entry)) ⌝ }
 {
     key_option_of(nine(s))
 }
 
-pub fn mode_in(s: &[u64]) -> ModeOption
+pub(crate) fn mode_in(s: &[u64]) -> ModeOption
     requires { ⌜ length (now s) ≡ 9 ⌝ }
     ensures { λ r. ⌜ r ≡ modeOf (keyOptionOf (now (s .entry))) ⌝ }
 {
-    mode_of(key_option_of(nine(s)))
+    mode_of(key_in(s))
 }
 
-pub fn contention_in(competition: u64, budget_peer: u64, ready: u64, demand: &[u64]) -> Contention
+pub(crate) fn contention_in(
+    competition: u64,
+    budget_peer: u64,
+    ready: u64,
+    demand: &[u64],
+) -> Contention
     requires { ⌜ length (now demand) ≡ 5 ⌝ }
     ensures { λ r. ⌜ r ≡ contention (flagFrom competition) (flagFrom «budget_peer») (flagFrom ready) (demandOf (now (demand .entry))) ⌝ }
 {

@@ -9,7 +9,7 @@ pub board-account-spec : {M : Type 1} → statement M
 board-account-spec =
     tie.close
     (tie.spec
-    (λ c. search (length-laws, board-laws) depth 12)
+    (λ c. (search (length-laws, board-laws) depth 12, search length-laws depth 8))
     (λ c κs. search needs)
     (λ c κs. search needs)
     (λ c κs. search needs)
@@ -17,4 +17,4 @@ board-account-spec =
     (λ c κs. search needs)
     (λ c. search needs)
     (λ c. search needs)
-    (λ c. search (length-laws, board-laws) depth 12))
+    (λ c. (search (length-laws, board-laws) depth 12, search length-laws depth 8)))

@@ -9,8 +9,8 @@ pub board-expired-spec : {M : Type 1} → statement M
 board-expired-spec =
     tie.close
     (tie.spec
-    (λ c. search (length-laws, board-laws) depth 12)
+    (λ c. (search (length-laws, board-laws) depth 12, search length-laws depth 8))
     (λ c κs. search needs)
     (λ c κs. search needs)
     (λ c. search needs)
-    (λ c. search (length-laws, board-laws) depth 12))
+    (λ c. (search (length-laws, board-laws) depth 12, search length-laws depth 8)))

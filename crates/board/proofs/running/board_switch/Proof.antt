@@ -9,10 +9,10 @@ pub board-switch-spec : {M : Type 1} → statement M
 board-switch-spec =
     tie.close
     (tie.spec
-    (λ c. search (length-laws, board-laws) depth 12)
-    (λ c. search (length-laws, board-laws) depth 12)
-    (λ c. search (length-laws, board-laws) depth 12)
-    (λ c. search (length-laws, board-laws) depth 12)
+    (λ c. (search (length-laws, board-laws) depth 12, search length-laws depth 8))
+    (λ c. (search (length-laws, board-laws) depth 12, search length-laws depth 8))
+    (λ c. (search (length-laws, board-laws) depth 12, search length-laws depth 8))
+    (λ c. (search (length-laws, board-laws) depth 12, search length-laws depth 8))
     (λ c κs. search needs)
     (λ c κs. search needs)
     (λ c κs. search needs)
@@ -22,4 +22,4 @@ board-switch-spec =
     (λ c κs. search needs)
     (λ c κs. search needs)
     (λ c. search needs)
-    (λ c. search (length-laws, board-laws) depth 12))
+    (λ c. (search (length-laws, board-laws) depth 12, search length-laws depth 8)))

@@ -9,9 +9,9 @@ pub board-select-spec : {M : Type 1} → statement M
 board-select-spec =
     tie.close
     (tie.spec
-    (λ c. search (length-laws, board-laws) depth 12)
-    (λ c. search (length-laws, board-laws) depth 12)
-    (λ c. search (length-laws, board-laws) depth 12)
+    (λ c. (search (length-laws, board-laws) depth 12, search length-laws depth 8))
+    (λ c. (search (length-laws, board-laws) depth 12, search length-laws depth 8))
+    (λ c. (search (length-laws, board-laws) depth 12, search length-laws depth 8))
     (λ c κs. search needs)
     (λ c κs. search needs)
     (λ c κs. search needs)
@@ -20,4 +20,4 @@ board-select-spec =
     (λ c. search needs)
     (λ c. search needs)
     (λ c. search needs)
-    (λ c. search (length-laws, board-laws) depth 12))
+    (λ c. (search (length-laws, board-laws) depth 12, search length-laws depth 8)))
