@@ -1,13 +1,14 @@
 -- Laws by which the functions meet the definitions, one for each way through a call: r is what a call gave, x what its contract says of it.
-use Prim.Native.Nat.{ℕ, _<_, _≤_}
+use Prim.Native.Nat.{ℕ, zero, suc, _<_, _≤_}
+use native.Mathlib.Omega.{arith}
 use mathlib.Core.Path.{_≡_, refl, sym, ap, _∙_}
 use mathlib.Core.Bool.{Bool, true, false, not}
 use mathlib.Core.List.{List, []}
 use mathlib.Core.Option.{Option, none, some}
 use lib.ListN.{length, getD}
-use borrow.Author.Tests.{not-true, not-false}
+use borrow.Author.Tests.{eq-eqb, ne-eqb, not-true, not-false}
 use Rattle.refusal.specs.Answer.{Answer, value, refused, numberOf}
-use Rattle.refusal.specs.Cases.{choose, given, ifLess, andThen}
+use Rattle.refusal.specs.Cases.{choose, given, ifLess, ifEqual, andThen}
 use Rattle.refusal.specs.declared.Refusal.{Refusal}
 use Rattle.time.specs.declared.Deadline.{Deadline}
 use Rattle.time.specs.declared.Epoch.{Epoch}
@@ -45,6 +46,7 @@ use Rattle.lists.specs.Lists.{onAnswer, onOut}
 use Rattle.lists.specs.ListsLaws.{left-by, answered}
 use Rattle.queue.specs.Queue.{maxRecords}
 use Rattle.queue.specs.PlanLaws.{too-many, not-too-many}
+use Rattle.queue.specs.RowJudgement.{kindFrom, badRow, judged-by-tags}
 use Rattle.decisions.specs.declared.Contention.{Contention}
 use Rattle.decisions.specs.declared.ModeOption.{ModeOption}
 use Rattle.decisions.specs.declared.ModeOption.the-variants as mode
@@ -102,6 +104,19 @@ module _ (rows : List (List ℕ)) (i : ℕ) where
     unfolding judgedWith choose
     few-with {b} p e m =
         sym (not-too-many (refused 10) (choose (soundConfig (w .config)) (judgedAt (table rows) i) (refused 5)) rows p refl) ∙ rw (sym e ∙ not-false b m)
+
+-- A row of two equal tags below 2 and no budget.
+tag-kind : (n : ℕ) → n < 2 → kindFrom n ≡ n
+unfolding kindFrom ifEqual choose
+tag-kind zero h = refl
+tag-kind (suc zero) h = refl
+tag-kind (suc (suc n)) h = absurd (omega arith)
+
+pub good-by-tags : (w : List ℕ) → word w 11 ≡ word w 0 → word w 11 < 2 → word w 7 ≡ 0 → false ≡ isBadRecord (decoded w)
+unfolding badRow given ifEqual choose
+good-by-tags w e l n =
+    judged-by-tags w
+    (rw (sym e, tag-kind (word w 11) l, eq-eqb (word w 11) (word w 11) refl, ne-eqb (word w 11) 2 (λ q. absurd (omega arith)), eq-eqb (word w 7) 0 n))
 
 pub sound-config : {b x : Bool} → b ≡ x → not b ≡ false → x ≡ true
 sound-config {b} e m = sym e ∙ not-false b m

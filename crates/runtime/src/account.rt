@@ -2,6 +2,9 @@
 // record without a budget stays as it is, so that nothing of it is stored.
 ghost use mathlib.Core.Path.{_≡_};
 ghost use mathlib.Core.Bool.{true};
+ghost use mathlib.Core.List.{[]};
+ghost use Prim.Native.Nat.{_<_};
+ghost use lib.ListN.{length, getD};
 ghost use Rattle.window_config.specs.Config.{soundConfig};
 ghost use Rattle.codec.specs.Codec.{decoded};
 ghost use Rattle.rows.specs.Table.{table, out};
@@ -14,6 +17,7 @@ use crate::CandidateAnswer;
 use crate::ExpiredAnswer;
 use crate::judging::budget_parameters;
 use crate::judging::budget_runtime;
+use crate::judging::is_bad_at;
 use crate::judging::store_budget;
 use algorithms::PolicyRuntime;
 use algorithms::Wide;
@@ -24,16 +28,18 @@ use arbitration::Verdict;
 use arbitration::WindowStep;
 use budget::BudgetAnswer;
 use codec::parameters_of;
-use queue::is_bad_row;
 use refusal::Refusal;
 use rows::set_runtime;
 use thread::ThreadId;
 
 // The interval is charged to a budget.
-fn charge_row(t: &mut [[u64; 32]], id: u64, row: [u64; 32], start: u64, end: u64)
-    ensures { λ r. ⌜ table (now (t .exit)) ≡ chargedRow (table (now (t .entry))) id row start end ⌝ }
+fn charge_at(t: &mut [[u64; 32]], id: u64, start: u64, end: u64)
+    requires { ⌜ id < length (now t) ⌝ }
+    ensures { λ r. ⌜ table (now (t .exit)) ≡ chargedRow (table (now (t .entry))) id (getD (now (t .entry)) id []) start end ⌝ }
 {
-    if row[11] == 2 {
+    let k = id as usize;
+    if t[k][11] == 2 {
+        let row = t[k];
         let runtime = budget_runtime(row);
         let parameters = budget_parameters(row);
         let charged = runtime.account_interval(start, end, parameters);
@@ -41,20 +47,22 @@ fn charge_row(t: &mut [[u64; 32]], id: u64, row: [u64; 32], start: u64, end: u64
     }
 }
 
-// Of a judged record's row: its budget, then the window. A window that is sound refuses what the budget refuses.
+// Of a judged record: its budget, then the window. A window that is sound refuses what the budget refuses.
 fn account_row(
     t: &mut [[u64; 32]],
     id: u64,
-    row: [u64; 32],
     window: CpuWindow,
     mode: DispatchMode,
     start: u64,
     end: u64,
 ) -> WindowStep
-    ensures { λ r. ⌜ out (windowStep r) (table (now (t .exit))) ≡ accountedRow (table (now (t .entry))) id row window mode start end ⌝ }
+    requires { ⌜ id < length (now t) ⌝ }
+    ensures { λ r. ⌜ out (windowStep r) (table (now (t .exit))) ≡ accountedRow (table (now (t .entry))) id (getD (now (t .entry)) id []) window mode start end ⌝ }
 {
-    charge_row(t, id, row, start, end);
+    let k = id as usize;
+    let row = t[k];
     let parameters = parameters_of(row);
+    charge_at(t, id, start, end);
     window.account_dispatch(start, end, parameters, mode)
 }
 
@@ -72,14 +80,13 @@ fn account_at(
 {
     let k = id as usize;
     if k < t.len() {
-        let row = t[k];
-        if is_bad_row(row) {
+        if is_bad_at(t, k) {
             return WindowStep {
                 answer: Verdict::Refused(Refusal::BadRecord),
                 window,
             };
         }
-        return account_row(t, id, row, window, mode, start, end);
+        return account_row(t, id, window, mode, start, end);
     }
     WindowStep {
         answer: Verdict::Refused(Refusal::NoThread),
@@ -115,10 +122,13 @@ pub fn account_current(
 }
 
 // A budget's burst is whole again.
-fn finish_row(t: &mut [[u64; 32]], id: u64, row: [u64; 32])
-    ensures { λ r. ⌜ table (now (t .exit)) ≡ finishedRow (table (now (t .entry))) id row ⌝ }
+fn finish_at(t: &mut [[u64; 32]], id: u64)
+    requires { ⌜ id < length (now t) ⌝ }
+    ensures { λ r. ⌜ table (now (t .exit)) ≡ finishedRow (table (now (t .entry))) id (getD (now (t .entry)) id []) ⌝ }
 {
-    if row[11] == 2 {
+    let k = id as usize;
+    if t[k][11] == 2 {
+        let row = t[k];
         let runtime = budget_runtime(row);
         let parameters = budget_parameters(row);
         let finished = runtime.finish_turn(parameters);
@@ -135,11 +145,10 @@ pub fn finish_turn(t: &mut [[u64; 32]], id: ThreadId) -> Verdict
         return Verdict::Refused(Refusal::BadTable);
     }
     if k < t.len() {
-        let row = t[k];
-        if is_bad_row(row) {
+        if is_bad_at(t, k) {
             return Verdict::Refused(Refusal::BadRecord);
         }
-        finish_row(t, id.0, row);
+        finish_at(t, id.0);
         return Verdict::Accepted;
     }
     Verdict::Refused(Refusal::NoThread)
@@ -173,10 +182,13 @@ fn candidate_of_row(w: [u64; 32], available: bool) -> Candidate
 }
 
 // A budget is refreshed to the reading. Whether there is time left; so of every thread without a budget.
-pub fn refresh_row(t: &mut [[u64; 32]], id: u64, row: [u64; 32], reading: u64) -> bool
-    ensures { λ r. ⌜ out r (table (now (t .exit))) ≡ refreshedRow (table (now (t .entry))) id row reading ⌝ }
+pub fn refresh_at(t: &mut [[u64; 32]], id: u64, reading: u64) -> bool
+    requires { ⌜ id < length (now t) ⌝ }
+    ensures { λ r. ⌜ out r (table (now (t .exit))) ≡ refreshedRow (table (now (t .entry))) id (getD (now (t .entry)) id []) reading ⌝ }
 {
-    if row[11] == 2 {
+    let k = id as usize;
+    if t[k][11] == 2 {
+        let row = t[k];
         let runtime = budget_runtime(row);
         let parameters = budget_parameters(row);
         let fresh = runtime.refresh(reading, parameters);
@@ -202,14 +214,14 @@ fn candidate_at(t: &mut [[u64; 32]], id: u64, running: bool, reading: u64) -> Ca
 {
     let k = id as usize;
     if k < t.len() {
-        let row = t[k];
-        if is_bad_row(row) {
+        if is_bad_at(t, k) {
             return CandidateAnswer::Refused(Refusal::BadRecord);
         }
         if !running {
             return CandidateAnswer::NotRunning;
         }
-        let available = refresh_row(t, id, row, reading);
+        let row = t[k];
+        let available = refresh_at(t, id, reading);
         return CandidateAnswer::Candidate(candidate_of_row(row, available));
     }
     CandidateAnswer::Refused(Refusal::NoThread)
@@ -258,10 +270,10 @@ pub fn expired(t: &[[u64; 32]], id: ThreadId) -> ExpiredAnswer
         return ExpiredAnswer::Refused(Refusal::BadTable);
     }
     if k < t.len() {
-        let row = t[k];
-        if is_bad_row(row) {
+        if is_bad_at(t, k) {
             return ExpiredAnswer::Refused(Refusal::BadRecord);
         }
+        let row = t[k];
         return ExpiredAnswer::Expired(is_spent_row(row));
     }
     ExpiredAnswer::Refused(Refusal::NoThread)

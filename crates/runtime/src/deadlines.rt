@@ -1,6 +1,9 @@
 // The choice of deadline. After `refresh_deadline`: competition, budget peer, ready thread, demand and the current key's mode come as arguments.
 ghost use mathlib.Core.Path.{_≡_};
 ghost use mathlib.Core.Bool.{true};
+ghost use mathlib.Core.List.{[]};
+ghost use Prim.Native.Nat.{_<_};
+ghost use lib.ListN.{length, getD};
 ghost use Rattle.window_config.specs.Config.{soundConfig};
 ghost use Rattle.rows.specs.Table.{table, out};
 ghost use Rattle.arbitration.specs.Answers.{windowDeadline};
@@ -8,6 +11,7 @@ ghost use Rattle.runtime.specs.Deadline.{refreshDeadline};
 ghost use Rattle.runtime.specs.Rows.{sliceEnd, refreshedEnd, budgetEnd, ownEnd, earlierOf, dueRow, keylessDue, deadlineAt};
 use crate::judging::budget_parameters;
 use crate::judging::budget_runtime;
+use crate::judging::is_bad_at;
 use algorithms::PolicyRuntime;
 use arbitration::CpuWindow;
 use arbitration::DispatchMode;
@@ -18,7 +22,6 @@ use decisions::Contention;
 use decisions::ModeOption;
 use decisions::borrows;
 use decisions::budget_expiry;
-use queue::is_bad_row;
 use refusal::Refusal;
 use rows::set_runtime;
 use thread::ThreadId;
@@ -91,14 +94,16 @@ fn budget_end(
 fn own_end(
     t: &mut [[u64; 32]],
     id: u64,
-    row: [u64; 32],
     reading: u64,
     mode: DispatchMode,
     contention: Contention,
 ) -> Deadline
-    ensures { λ r. ⌜ out r (table (now (t .exit))) ≡ ownEnd (table (now (t .entry))) id row reading mode contention ⌝ }
+    requires { ⌜ id < length (now t) ⌝ }
+    ensures { λ r. ⌜ out r (table (now (t .exit))) ≡ ownEnd (table (now (t .entry))) id (getD (now (t .entry)) id []) reading mode contention ⌝ }
 {
-    if row[11] == 2 {
+    let k = id as usize;
+    if t[k][11] == 2 {
+        let row = t[k];
         return budget_end(
             t,
             id,
@@ -109,6 +114,7 @@ fn own_end(
             contention.budget_peer,
         );
     }
+    let row = t[k];
     slice_end(row, reading, contention.competition, contention.ready)
 }
 
@@ -131,16 +137,16 @@ fn earlier_of(step: WindowDeadline, own: Deadline) -> WindowDeadline
 fn due_with(
     t: &mut [[u64; 32]],
     id: u64,
-    row: [u64; 32],
     reading: u64,
     mode: DispatchMode,
     window: CpuWindow,
     contention: Contention,
 ) -> WindowDeadline
-    ensures { λ r. ⌜ out (windowDeadline r) (table (now (t .exit))) ≡ dueRow (table (now (t .entry))) id row reading mode window contention ⌝ }
+    requires { ⌜ id < length (now t) ⌝ }
+    ensures { λ r. ⌜ out (windowDeadline r) (table (now (t .exit))) ≡ dueRow (table (now (t .entry))) id (getD (now (t .entry)) id []) reading mode window contention ⌝ }
 {
     let demand = contention.demand;
-    let own = own_end(t, id, row, reading, mode, contention);
+    let own = own_end(t, id, reading, mode, contention);
     let step = window.next_deadline(reading, mode, contention.competition, demand);
     earlier_of(step, own)
 }
@@ -175,8 +181,7 @@ fn due_at(
 {
     let k = id as usize;
     if k < t.len() {
-        let row = t[k];
-        if is_bad_row(row) {
+        if is_bad_at(t, k) {
             return WindowDeadline {
                 answer: DeadlineAnswer::Refused(Refusal::BadRecord),
                 window,
@@ -187,7 +192,7 @@ fn due_at(
                 return due_without(reading, window, contention.competition);
             }
             ModeOption::Some(mode) => {
-                return due_with(t, id, row, reading, mode, window, contention);
+                return due_with(t, id, reading, mode, window, contention);
             }
         }
     }

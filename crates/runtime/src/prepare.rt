@@ -1,40 +1,40 @@
 // Preparing a thread to be queued: its budget refreshed, and its turn. After `prepare_enqueue`.
 ghost use mathlib.Core.Path.{_≡_};
+ghost use mathlib.Core.List.{[]};
+ghost use Prim.Native.Nat.{_<_};
+ghost use lib.ListN.{length, getD};
 ghost use Rattle.rows.specs.Table.{table, out};
 ghost use Rattle.runtime.specs.Prepare.{prepareEnqueue};
 ghost use Rattle.runtime.specs.Rows.{preparedRow, rowPrepared};
 ghost use Rattle.runtime.specs.Answers.{preparedAnswer};
 use crate::Prepared;
-use crate::account::refresh_row;
+use crate::account::refresh_at;
+use crate::judging::is_bad_at;
 use arbitration::Verdict;
 use decisions::TurnAnswer;
 use decisions::Turns;
 use decisions::turn_for;
 use policy_words::policy_from;
-use queue::is_bad_row;
 use refusal::Refusal;
 use rows::set_turn;
 use thread::ThreadId;
 
 // The budget refreshed, then the turn.
-fn store_prepared(t: &mut [[u64; 32]], id: u64, row: [u64; 32], reading: u64, turn: u64)
-    ensures { λ r. ⌜ table (now (t .exit)) ≡ preparedRow (table (now (t .entry))) id row reading turn ⌝ }
+fn store_prepared(t: &mut [[u64; 32]], id: u64, reading: u64, turn: u64)
+    requires { ⌜ id < length (now t) ⌝ }
+    ensures { λ r. ⌜ table (now (t .exit)) ≡ preparedRow (table (now (t .entry))) id (getD (now (t .entry)) id []) reading turn ⌝ }
 {
-    refresh_row(t, id, row, reading);
+    refresh_at(t, id, reading);
     set_turn(t, id, turn);
 }
 
-// Of a judged record's row: Already, then the turn, which may be TurnsSpent; only then is anything stored.
-fn prepare_row(
-    t: &mut [[u64; 32]],
-    id: u64,
-    row: [u64; 32],
-    front: bool,
-    reading: u64,
-    turns: Turns,
-) -> Prepared
-    ensures { λ r. ⌜ out (preparedAnswer r) (table (now (t .exit))) ≡ rowPrepared (table (now (t .entry))) id row front reading turns ⌝ }
+// Of a judged record: Already, then the turn, which may be TurnsSpent; only then is anything stored.
+fn prepare_row(t: &mut [[u64; 32]], id: u64, front: bool, reading: u64, turns: Turns) -> Prepared
+    requires { ⌜ id < length (now t) ⌝ }
+    ensures { λ r. ⌜ out (preparedAnswer r) (table (now (t .exit))) ≡ rowPrepared (table (now (t .entry))) id (getD (now (t .entry)) id []) front reading turns ⌝ }
 {
+    let k = id as usize;
+    let row = t[k];
     if row[26] == 0 {
         let policy = policy_from(row[0], row[1]);
         let taken = turn_for(front, policy, row[16], turns);
@@ -46,7 +46,7 @@ fn prepare_row(
                 };
             }
             TurnAnswer::Taken(taken) => {
-                store_prepared(t, id, row, reading, taken.turn);
+                store_prepared(t, id, reading, taken.turn);
                 let after = taken.turns;
                 return Prepared {
                     answer: Verdict::Accepted,
@@ -79,14 +79,13 @@ pub fn prepare_enqueue(
         };
     }
     if k < t.len() {
-        let row = t[k];
-        if is_bad_row(row) {
+        if is_bad_at(t, k) {
             return Prepared {
                 answer: Verdict::Refused(Refusal::BadRecord),
                 turns,
             };
         }
-        return prepare_row(t, id.0, row, front, reading, turns);
+        return prepare_row(t, id.0, front, reading, turns);
     }
     Prepared {
         answer: Verdict::Refused(Refusal::NoThread),

@@ -8,9 +8,8 @@ pub account-at-spec : {M : Type 1} → statement M
 account-at-spec =
     tie.close
     (tie.spec
-    (λ c. search needs)
-    (λ c. search needs)
     (λ c κs. search needs)
+    (λ c. search needs)
     (λ c. search ways depth 8)
     (λ c κs. search needs)
     (λ c. search needs)

@@ -8,6 +8,8 @@ pub account-row-spec : {M : Type 1} → statement M
 account-row-spec =
     tie.close
     (tie.spec
+    (λ c. search needs)
+    (λ c. search needs)
     (λ c κs. search needs)
     (λ c κs. search needs)
     (λ c κs. search needs)

@@ -8,11 +8,13 @@ pub candidate-at-spec : {M : Type 1} → statement M
 candidate-at-spec =
     tie.close
     (tie.spec
-    (λ c. search needs)
-    (λ c. search needs)
     (λ c κs. search needs)
+    (λ c. search needs)
     (λ c. search ways depth 8)
+    (λ c. search needs)
     (λ c. search ways depth 8)
+    (λ c. search needs)
+    (λ c. search needs)
     (λ c κs. search needs)
     (λ c κs. search needs)
     (λ c. search needs)

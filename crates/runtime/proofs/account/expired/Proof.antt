@@ -9,10 +9,10 @@ expired-spec =
     tie.close
     (tie.spec
     (λ c. search ways depth 8)
-    (λ c. search needs)
-    (λ c. search needs)
     (λ c κs. search needs)
     (λ c. search ways depth 8)
+    (λ c. search needs)
+    (λ c. search needs)
     (λ c κs. search needs)
     (λ c. search ways depth 8)
     (λ c. search ways depth 8))

@@ -8,12 +8,12 @@ pub due-at-spec : {M : Type 1} → statement M
 due-at-spec =
     tie.close
     (tie.spec
-    (λ c. search needs)
-    (λ c. search needs)
     (λ c κs. search needs)
+    (λ c. search needs)
     (λ c. search ways depth 8)
     (λ c. search needs)
     (λ c κs. search needs)
+    (λ c. search needs)
     (λ c. search ways depth 8)
     (λ c. search needs)
     (λ c κs. search needs)

@@ -3,14 +3,18 @@ use Rattle.refusal.specs.Cases.{cases}
 use Rattle.runtime.specs.Rows.{refreshedRow}
 use Rattle.runtime.specs.RuntimeLaws.{budgets}
 use borrow.Author.Needs.{needs}
-use Rattle.runtime.proofs.account.refresh_row.Statement.{statement}
-use Rattle.runtime.proofs.account.refresh_row.Tie as tie
+use Rattle.runtime.proofs.account.refresh_at.Statement.{statement}
+use Rattle.runtime.proofs.account.refresh_at.Tie as tie
 
-pub refresh-row-spec : {M : Type 1} → statement M
+pub refresh-at-spec : {M : Type 1} → statement M
 unfolding refreshedRow
-refresh-row-spec =
+refresh-at-spec =
     tie.close
     (tie.spec
+    (λ c. search needs)
+    (λ c. search needs)
+    (λ c. search needs)
+    (λ c. search needs)
     (λ c. search needs)
     (λ c κs. search needs)
     (λ c κs. search needs)

@@ -3,14 +3,18 @@ use Rattle.refusal.specs.Cases.{cases}
 use Rattle.runtime.specs.Rows.{chargedRow}
 use Rattle.runtime.specs.RuntimeLaws.{budgets}
 use borrow.Author.Needs.{needs}
-use Rattle.runtime.proofs.account.charge_row.Statement.{statement}
-use Rattle.runtime.proofs.account.charge_row.Tie as tie
+use Rattle.runtime.proofs.account.charge_at.Statement.{statement}
+use Rattle.runtime.proofs.account.charge_at.Tie as tie
 
-pub charge-row-spec : {M : Type 1} → statement M
+pub charge-at-spec : {M : Type 1} → statement M
 unfolding chargedRow
-charge-row-spec =
+charge-at-spec =
     tie.close
     (tie.spec
+    (λ c. search needs)
+    (λ c. search needs)
+    (λ c. search needs)
+    (λ c. search needs)
     (λ c. search needs)
     (λ c κs. search needs)
     (λ c κs. search needs)

@@ -3,14 +3,18 @@ use Rattle.refusal.specs.Cases.{cases}
 use Rattle.runtime.specs.Rows.{finishedRow}
 use Rattle.runtime.specs.RuntimeLaws.{budgets}
 use borrow.Author.Needs.{needs}
-use Rattle.runtime.proofs.account.finish_row.Statement.{statement}
-use Rattle.runtime.proofs.account.finish_row.Tie as tie
+use Rattle.runtime.proofs.account.finish_at.Statement.{statement}
+use Rattle.runtime.proofs.account.finish_at.Tie as tie
 
-pub finish-row-spec : {M : Type 1} → statement M
+pub finish-at-spec : {M : Type 1} → statement M
 unfolding finishedRow
-finish-row-spec =
+finish-at-spec =
     tie.close
     (tie.spec
+    (λ c. search needs)
+    (λ c. search needs)
+    (λ c. search needs)
+    (λ c. search needs)
     (λ c. search needs)
     (λ c κs. search needs)
     (λ c κs. search needs)
