@@ -142,8 +142,10 @@ def put_in(crate, changes):
 
 def tried(crate, one):
     """One round on the copy: how many are refused, and those that are not."""
-    shutil.rmtree(f'{COPY}/crates/{crate}/src')
-    shutil.copytree(f'crates/{crate}/src', f'{COPY}/crates/{crate}/src')
+    for part in ['src', 'specs']:
+        shutil.rmtree(f'{COPY}/crates/{crate}/{part}', ignore_errors=True)
+        if os.path.exists(f'crates/{crate}/{part}'):
+            shutil.copytree(f'crates/{crate}/{part}', f'{COPY}/crates/{crate}/{part}')
     bad = {answer[0]: put_in(crate, answer[2]) for answer in one}
     ran = subprocess.run(['rt', 'dev', crate], cwd=COPY, capture_output=True, text=True)
     said = ran.stdout + ran.stderr
