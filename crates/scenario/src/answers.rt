@@ -21,39 +21,39 @@ use crate::words::show;
 
 pub fn expiry(x: &mut [u64; 864]) {
     x[CHOICE] = x[EXPIRED];
-    say(x, b" $o\n");
+    say(x, b": $o\n");
 }
 
 pub fn choice(x: &[u64; 864]) {
     if x[SWITCHES] == 0 {
-        say(x, b" stay\n");
+        say(x, b": stay\n");
         return;
     }
     if x[TO_FRONT] == 0 {
-        say(x, b" switch, the running thread to the back\n");
+        say(x, b": switch, the running thread to the back\n");
         return;
     }
-    say(x, b" switch, the running thread to the front\n");
+    say(x, b": switch, the running thread to the front\n");
 }
 
 pub fn deadline(x: &[u64; 864]) {
     if x[SWITCHES] == 0 {
-        say(x, b" none\n");
+        say(x, b": none\n");
         return;
     }
-    say(x, b" %k\n");
+    say(x, b": %k\n");
 }
 
 pub fn lengths(x: &mut [u64; 864]) {
     show(x, LENGTHS);
-    say(x, b" real time %p, fair %q, budget %r\n");
+    say(x, b": real time %p, fair %q, budget %r\n");
 }
 
 // A wake is kept for the next run; there is room for 32.
 pub fn note(x: &mut [u64; 864]) {
     let at = x[WAKES];
     if 31 < at {
-        say(x, b" no room\n");
+        say(x, b": no room\n");
         return;
     }
     let reading = x[READING];
@@ -63,7 +63,7 @@ pub fn note(x: &mut [u64; 864]) {
     store(x, WAKE_WHO, at, id);
     store(x, WAKE_WORK, at, work);
     x[WAKES] = more(at);
-    say(x, b" noted\n");
+    say(x, b": noted\n");
 }
 
 pub fn records(x: &mut [u64; 864]) {

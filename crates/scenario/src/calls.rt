@@ -1,6 +1,5 @@
 // The calls of crate board, on the letters' words and the rows of a run. Each answers document 01's number.
 use crate::state::BACK;
-use crate::state::DEMAND;
 use crate::state::END;
 use crate::state::EXPIRED;
 use crate::state::FRONT;
@@ -17,10 +16,10 @@ use crate::state::STOP;
 use crate::state::SWITCHES;
 use crate::state::TAIL;
 use crate::state::THREAD;
-use crate::state::TO_FRONT;
 use crate::state::WINDOW;
 use crate::state::WORD;
 use crate::state::YIELDING;
+use crate::state::plus;
 use crate::words::copy;
 use crate::words::keep;
 use board::board_account;
@@ -37,9 +36,6 @@ use board::board_remove;
 use board::board_select;
 use board::board_switch;
 use board::board_window;
-
-// Numbers of a line from its second word on.
-const CONFIG: usize = 577;
 
 const FAIR_LENGTH: usize = 61;
 
@@ -59,24 +55,35 @@ pub fn remove(q: &mut [[u64; 5]; 270], t: &mut [[u64; 32]], x: &[u64; 864]) -> u
     board_remove(q, t, &mut path, x[THREAD], 0)
 }
 
-pub fn select(q: &mut [[u64; 5]; 270], t: &mut [[u64; 32]], x: &mut [u64; 864]) -> u64 {
+fn select_in(
+    q: &mut [[u64; 5]; 270],
+    t: &mut [[u64; 32]],
+    s: &[u64],
+    window: &mut [u64; 12],
+    answer: &mut [u64; 19],
+) -> u64 {
     let mut path = [[0u64; 2]; 40];
-    let mut window = [0u64; 12];
-    copy(&mut window, x, WINDOW);
-    let mut answer = [0u64; 19];
-    let mut row = [0u64; 32];
-    copy(&mut row, x, ROW);
-    let number = board_select(
+    if s.len() != 864 {
+        return 10;
+    }
+    board_select(
         q,
         t,
         &mut path,
         0,
-        x[READING],
-        &mut window,
-        x[RUNS],
-        &row,
-        &mut answer,
-    );
+        s[READING],
+        window,
+        s[RUNS],
+        &s[64..96],
+        answer,
+    )
+}
+
+pub fn select(q: &mut [[u64; 5]; 270], t: &mut [[u64; 32]], x: &mut [u64; 864]) -> u64 {
+    let mut window = [0u64; 12];
+    let mut answer = [0u64; 19];
+    copy(&mut window, x, WINDOW);
+    let number = select_in(q, t, x, &mut window, &mut answer);
     keep(x, WINDOW, &window);
     keep(x, SELECTED, &answer);
     number
@@ -117,41 +124,44 @@ pub fn candidate(t: &mut [[u64; 32]], x: &mut [u64; 864]) -> u64 {
     number
 }
 
+fn key_in(s: &[u64], window: &mut [u64; 12], answer: &mut [u64; 9]) -> u64 {
+    if s.len() != 864 {
+        return 10;
+    }
+    board_key(window, s[READING], &s[64..96], &s[139..144], answer)
+}
+
 // The row's key under the demand of the last selection.
 pub fn key(x: &mut [u64; 864]) -> u64 {
     let mut window = [0u64; 12];
-    copy(&mut window, x, WINDOW);
     let mut answer = [0u64; 9];
-    let mut demand = [0u64; 5];
-    copy(&mut demand, x, DEMAND);
-    let mut row = [0u64; 32];
-    copy(&mut row, x, ROW);
-    let number = board_key(&mut window, x[READING], &row, &demand, &mut answer);
+    copy(&mut window, x, WINDOW);
+    let number = key_in(x, &mut window, &mut answer);
     keep(x, WINDOW, &window);
     keep(x, KEY, &answer);
     number
 }
 
+fn switch_in(s: &[u64], answer: &mut [u64; 2]) -> u64 {
+    if s.len() != 864 {
+        return 10;
+    }
+    board_switch(
+        &s[128..137],
+        &s[160..169],
+        &s[64..96],
+        s[EXPIRED],
+        s[YIELDING],
+        s[TAIL],
+        answer,
+    )
+}
+
 // The switch rule between the last selection and the running thread.
 pub fn switch(x: &mut [u64; 864]) -> u64 {
-    let mut row = [0u64; 32];
-    copy(&mut row, x, ROW);
-    let mut ready = [0u64; 9];
-    copy(&mut ready, x, SELECTED);
-    let mut its_key = [0u64; 9];
-    copy(&mut its_key, x, KEY);
     let mut answer = [0u64; 2];
-    let number = board_switch(
-        &ready,
-        &its_key,
-        &row,
-        x[EXPIRED],
-        x[YIELDING],
-        x[TAIL],
-        &mut answer,
-    );
-    x[SWITCHES] = answer[0];
-    x[TO_FRONT] = answer[1];
+    let number = switch_in(x, &mut answer);
+    keep(x, SWITCHES, &answer);
     number
 }
 
@@ -162,48 +172,53 @@ pub fn lengths(q: &[[u64; 5]; 270], x: &mut [u64; 864]) -> u64 {
     number
 }
 
-// Whether anybody is queued.
-fn competition(x: &[u64; 864]) -> u64 {
-    if x[LENGTHS] != 0 {
-        return 1;
+fn deadline_in(
+    t: &mut [[u64; 32]],
+    s: &[u64],
+    window: &mut [u64; 12],
+    answer: &mut [u64; 2],
+) -> u64 {
+    if s.len() != 864 {
+        return 10;
     }
-    x[FAIR_LENGTH]
+    board_deadline(
+        t,
+        s[THREAD],
+        s[READING],
+        &s[160..169],
+        window,
+        plus(s[LENGTHS], s[FAIR_LENGTH]),
+        s[BUDGET_LENGTH],
+        s[SELECTED],
+        &s[139..144],
+        answer,
+    )
 }
 
+// There is competition where anybody is queued.
 pub fn deadline(t: &mut [[u64; 32]], x: &mut [u64; 864]) -> u64 {
     let mut window = [0u64; 12];
-    copy(&mut window, x, WINDOW);
-    let mut its_key = [0u64; 9];
-    copy(&mut its_key, x, KEY);
-    let mut demand = [0u64; 5];
-    copy(&mut demand, x, DEMAND);
     let mut answer = [0u64; 2];
-    let number = board_deadline(
-        t,
-        x[THREAD],
-        x[READING],
-        &its_key,
-        &mut window,
-        competition(x),
-        x[BUDGET_LENGTH],
-        x[SELECTED],
-        &demand,
-        &mut answer,
-    );
+    copy(&mut window, x, WINDOW);
+    let number = deadline_in(t, x, &mut window, &mut answer);
     keep(x, WINDOW, &window);
     x[SWITCHES] = answer[0];
     x[WORD] = answer[1];
     number
 }
 
-// A new window, by the numbers of its line.
+fn window_in(s: &[u64], fresh: &mut [u64; 12]) -> u64 {
+    if s.len() != 864 {
+        return 10;
+    }
+    board_window(fresh, &s[577..585])
+}
+
+// A new window, by the numbers of its line from the second word on.
 pub fn window(x: &mut [u64; 864]) -> u64 {
     let mut fresh = [0u64; 12];
-    let mut config = [0u64; 8];
-    copy(&mut config, x, CONFIG);
-    let number = board_window(&mut fresh, &config);
-    if number == 0 {
-        keep(x, WINDOW, &fresh);
-    }
+    copy(&mut fresh, x, WINDOW);
+    let number = window_in(x, &mut fresh);
+    keep(x, WINDOW, &fresh);
     number
 }

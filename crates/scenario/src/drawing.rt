@@ -65,7 +65,7 @@ fn period_end(x: &[u64; 864], reading: u64) -> u64 {
     if period == 0 {
         return reading;
     }
-    plus(reading - reading % period, period)
+    plus(minus(reading, reading % period), period)
 }
 
 // Where protection is due, from now to the period's end, once in a period.
@@ -77,7 +77,8 @@ fn shade(x: &mut [u64; 864]) {
     }
     x[SHADED] = end;
     let stop = least(end, x[SPAN]);
-    placed(x, now, stop, down(x[LANES]));
+    let at = down(x[LANES]);
+    placed(x, now, stop, at);
     x[ROLE] = minus(x[ROLE], 48);
     x[SLICE] = now;
     draw(
@@ -178,7 +179,8 @@ fn edge(x: &mut [u64; 864], reading: u64) {
     if x[SPAN] < reading {
         return;
     }
-    placed(x, reading, reading, down(x[LANES]));
+    let at = down(x[LANES]);
+    placed(x, reading, reading, at);
     x[SLICE] = reading;
     x[QUEUE_ROW] = plus(x[ROLE], 14);
     draw(

@@ -18,6 +18,7 @@ use crate::state::SELECTED_ID;
 use crate::state::STACK;
 use crate::state::TREE;
 use crate::state::WINDOW_EPOCH;
+use crate::state::WINDOW_RANKS;
 use crate::state::WORD;
 use crate::state::minus;
 use crate::state::more;
@@ -51,7 +52,7 @@ pub fn begin(x: &mut [u64; 864]) {
 // In a run, where that is asked for.
 pub fn begin_in_run(x: &mut [u64; 864]) {
     if x[EXPLAINS] != 0 {
-        say(x, b"at %n:");
+        say(x, b"at %n");
         begin(x);
     }
 }
@@ -60,7 +61,7 @@ pub fn begin_in_run(x: &mut [u64; 864]) {
 pub fn named(x: &mut [u64; 864]) {
     x[MEMBER] = x[SELECTED_ID];
     if x[SELECTED] == 0 {
-        say(x, b" nobody\n");
+        say(x, b": nobody\n");
         x[PLACE] = ASKED;
     }
 }
@@ -79,34 +80,34 @@ fn key(x: &mut [u64; 864]) {
 }
 
 pub fn chosen(x: &mut [u64; 864]) {
-    say(x, b" %G, ");
+    say(x, b": %G, ");
     key(x);
     say(x, b"\n");
 }
 
-fn pass(x: &[u64; 864]) {
-    if x[LEAST_PASS] == 0 {
-        say(x, b"; no fair pass\n");
-        return;
-    }
-    say(x, b"; lowest fair pass %v:%w\n");
-}
-
-// Demand, lowest pass and window.
-pub fn asked(x: &mut [u64; 864]) {
+// Demand and lowest pass.
+fn asked(x: &mut [u64; 864]) {
     show(x, DEMAND);
     say(
         x,
-        b"  demand: protected %p, fair %q, window sensitive %r, eligible budget %s, any budget %t",
+        b"  demand: protected %p, fair %q, window sensitive %r, eligible budget %s, any budget %t; ",
     );
-    pass(x);
-    show(x, 100);
-    if x[WINDOW_EPOCH] == 0 {
-        say(x, b"  window: no epoch");
-    } else {
-        say(x, b"  window: epoch %u");
+    if x[LEAST_PASS] == 0 {
+        say(x, b"no fair pass\n");
+        return;
     }
-    say(x, b", allowance left %v, floor left %w\n");
+    say(x, b"lowest fair pass %v:%w\n");
+}
+
+// Demand, lowest pass and window.
+pub fn circumstances(x: &mut [u64; 864]) {
+    asked(x);
+    show(x, WINDOW_RANKS);
+    if x[WINDOW_EPOCH] == 0 {
+        say(x, b"  window: no epoch, allowance left %v, floor left %w\n");
+        return;
+    }
+    say(x, b"  window: epoch %u, allowance left %v, floor left %w\n");
 }
 
 // The root of a tree; after the last tree the explanation ends.
@@ -178,11 +179,14 @@ pub fn walk(t: &[[u64; 32]], x: &mut [u64; 864]) {
     turn(t, x, id);
 }
 
+fn keep_row(x: &mut [u64; 864], row: [u64; 32]) {
+    keep(x, ROW, &row);
+}
+
 pub fn load(t: &[[u64; 32]], x: &mut [u64; 864]) {
     let i = x[MEMBER] as usize;
     if i < t.len() {
-        let row = t[i];
-        keep(x, ROW, &row);
+        keep_row(x, t[i]);
     }
 }
 

@@ -4,8 +4,6 @@ use crate::calls;
 use crate::explaining;
 use crate::matching::is_matched;
 use crate::reading::COUNT;
-use crate::reading::FIRST;
-use crate::reading::LAST;
 use crate::reading::words_of;
 use crate::running;
 use crate::state::CYCLE;
@@ -64,9 +62,9 @@ fn apart(x: &mut [u64; 864], letter: u8) -> u64 {
 
 fn told(x: &mut [u64; 864], letter: u8) {
     match letter {
-        b'.' => say(x, b" made\n"),
-        b',' => say(x, b" thread %t\n"),
-        b'=' => say(x, b" was %v\n"),
+        b'.' => say(x, b": made\n"),
+        b',' => say(x, b": thread %t\n"),
+        b'=' => say(x, b": was %v\n"),
         b'?' => answers::expiry(x),
         b'!' => answers::choice(x),
         b':' => answers::deadline(x),
@@ -98,7 +96,7 @@ fn explained(x: &mut [u64; 864], letter: u8) {
     match letter {
         b'g' => explaining::named(x),
         b'H' => explaining::chosen(x),
-        b'M' => explaining::asked(x),
+        b'M' => explaining::circumstances(x),
         b'i' => explaining::if_any(x),
         b'G' => explaining::head(x),
         b'z' => explaining::if_more(x),
@@ -219,14 +217,14 @@ fn end(x: &mut [u64; 864], number: u64) {
         return;
     }
     if x[PLAYED] == CYCLE as u64 {
-        say(x, b"line %l:");
+        say(x, b"line %l");
     }
     x[SLICE] = number;
     if number == 0 {
-        say(x, b" stopped\n");
+        say(x, b": stopped\n");
         return;
     }
-    say(x, b" refused, $s (%s)\n");
+    say(x, b": refused, $s (%s)\n");
 }
 
 fn play(q: &mut [[u64; 5]; 270], t: &mut [[u64; 32]], x: &mut [u64; 864]) {
@@ -243,23 +241,17 @@ fn play(q: &mut [[u64; 5]; 270], t: &mut [[u64; 32]], x: &mut [u64; 864]) {
     end(x, number);
 }
 
-// Whether a line is a statement; it is quoted either way.
+// A line is quoted, with its number; whether it is a statement.
 fn is_understood(x: &mut [u64; 864], line: &[u8]) -> bool {
     clear(x, LETTERS, ROW);
     x[NUMBER] = x[LINES];
-    say(x, b"line %l: ");
     let understood = is_matched(x);
-    if !understood {
-        say(x, b"not understood: ");
-    }
-    let first = x[FIRST];
-    let last = x[LAST];
-    quote(x, line, first, last);
     if understood {
-        say(x, b":");
+        say(x, b"line %l: ");
     } else {
-        say(x, b"\n");
+        say(x, b"line %l: not understood: ");
     }
+    quote(x, line);
     understood
 }
 
@@ -271,5 +263,7 @@ pub fn line(q: &mut [[u64; 5]; 270], t: &mut [[u64; 32]], x: &mut [u64; 864], li
     }
     if is_understood(x, line) {
         play(q, t, x);
+        return;
     }
+    say(x, b"\n");
 }

@@ -50,6 +50,20 @@ fn line_end(text: &[u8], start: usize) -> usize {
     i
 }
 
+// A last line may have no end.
+fn last_line(
+    q: &mut [[u64; 5]; 270],
+    t: &mut [[u64; 32]],
+    x: &mut [u64; 864],
+    text: &[u8],
+    start: usize,
+) {
+    if start < text.len() {
+        machine::line(q, t, x, &text[start..]);
+    }
+}
+
+// A line, and where the next one starts.
 fn line_at(
     q: &mut [[u64; 5]; 270],
     t: &mut [[u64; 32]],
@@ -59,9 +73,10 @@ fn line_at(
 ) -> usize {
     let end = line_end(text, start);
     if end < start {
-        return text.len();
+        return start;
     }
-    if text.len() < end {
+    if text.len() <= end {
+        last_line(q, t, x, text, start);
         return text.len();
     }
     machine::line(q, t, x, &text[start..end]);
@@ -85,8 +100,10 @@ fn lines(x: &mut [u64; 864], text: &[u8]) {
     let mut t = [[0u64; 32]; 4097];
     board_new(&mut q);
     let mut at: usize = 0;
-    while at < text.len() {
+    let mut left: usize = text.len();
+    while 0 < left {
         at = line_at(&mut q, &mut t, x, text, at);
+        left -= 1;
     }
 }
 

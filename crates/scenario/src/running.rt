@@ -56,7 +56,7 @@ pub fn run(x: &mut [u64; 864]) {
     x[PLACE] = 0;
     say(
         x,
-        b"\n  reading  thread          why             urgency rank       for  deadline\n",
+        b":\n  reading  thread          why             urgency rank       for  deadline\n",
     );
 }
 

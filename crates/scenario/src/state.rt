@@ -117,6 +117,8 @@ pub const ROW: usize = 64;
 
 pub const WINDOW: usize = 96;
 
+pub const WINDOW_RANKS: usize = 100;
+
 pub const WINDOW_EPOCH: usize = 104;
 
 pub const WINDOW_FLOOR: usize = 107;

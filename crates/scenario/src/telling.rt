@@ -1,4 +1,6 @@
 // Templates. %a is the number of the letter a, %A the name of the thread whose number that is, $a the letter's word in a list; a number before the letter is the width.
+use crate::reading::FIRST;
+use crate::reading::LAST;
 use crate::state::LETTERS;
 use crate::state::NAMES;
 use crate::state::NAMES_END;
@@ -194,13 +196,9 @@ pub fn draw(x: &[u64; 864], template: &[u8]) {
     }
 }
 
-// The statement of a line.
-pub fn quote(x: &[u64; 864], line: &[u8], first: u64, last: u64) {
+fn part(line: &[u8], first: u64, last: u64) {
     let start = first as usize;
     let end = last as usize;
-    if x[OUTPUT] != TEXT {
-        return;
-    }
     if end < start {
         return;
     }
@@ -208,4 +206,11 @@ pub fn quote(x: &[u64; 864], line: &[u8], first: u64, last: u64) {
         return;
     }
     io::write_all(STDOUT, &line[start..end]);
+}
+
+// The statement of a line.
+pub fn quote(x: &[u64; 864], line: &[u8]) {
+    if x[OUTPUT] == TEXT {
+        part(line, x[FIRST], x[LAST]);
+    }
 }

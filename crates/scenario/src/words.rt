@@ -84,11 +84,17 @@ pub fn keep(x: &mut [u64; 864], at: usize, words: &[u64]) {
     }
 }
 
+fn put(to: &mut [u64], i: usize, value: u64) {
+    if i < to.len() {
+        to[i] = value;
+    }
+}
+
 // The words from a place on become a list's, 32 at most.
 pub fn copy(to: &mut [u64], x: &[u64; 864], at: usize) {
     let mut i: usize = 0;
     while i < to.len() {
-        to[i] = word(x, at, i as u64);
+        put(to, i, word(x, at, i as u64));
         i += 1;
     }
 }
