@@ -11,10 +11,7 @@ fn main() {
     };
     let libraries: &[&str] = match env::var("CARGO_PKG_NAME").as_deref() {
         Ok("compare") => &["record_entries", "window_entries"],
-        Ok("compare_rows") => &["row_entries"],
-        Ok("compare_runtime" | "bench_runtime") => &["runtime_entries", "window_entries"],
-        Ok("compare_selection" | "bench_queue") => &["queue_entries", "selection_entries"],
-        _ => &["queue_entries"],
+        _ => &["row_entries"],
     };
     println!("cargo::rerun-if-env-changed=STATICLIB_DIR");
     println!("cargo::rustc-link-search=native={}", place.display());

@@ -10,9 +10,7 @@ use std::env;
 use std::hint::black_box;
 use std::process::ExitCode;
 
-use compare_queue::calls::{
-    SelectionWords, queue_enqueue, queue_new, queue_peek_next, queue_remove,
-};
+use board::SelectionWords;
 use kernel::oracle::*;
 use tables::generator::Random;
 use tables::make;
@@ -50,8 +48,7 @@ struct Port {
 impl Side for Port {
     fn of(records: &[Record]) -> Self {
         let mut words = [[0; 5]; 270];
-        // SAFETY: the address is that of the words.
-        unsafe { queue_new(&mut words) };
+        board::new(&mut words);
         Self {
             words,
             rows: records.iter().map(rows::row_of).collect(),
@@ -62,36 +59,27 @@ impl Side for Port {
     }
 
     fn enqueue(&mut self, id: u64) {
-        let (t, count) = (self.rows.as_mut_ptr(), self.rows.len());
-        // SAFETY: the addresses are those of the words, the rows and the path, and the count is that of the rows.
-        let number = unsafe { queue_enqueue(&mut self.words, t, count, &mut self.path, id, 0) };
+        let number = board::enqueue(&mut self.words, &mut self.rows, &mut self.path, id, 0);
         assert_eq!(number, 0);
     }
 
     fn remove(&mut self, id: u64) {
-        let (t, count) = (self.rows.as_mut_ptr(), self.rows.len());
-        // SAFETY: the addresses are those of the words, the rows and the path, and the count is that of the rows.
-        let number = unsafe { queue_remove(&mut self.words, t, count, &mut self.path, id, 0) };
+        let number = board::remove(&mut self.words, &mut self.rows, &mut self.path, id, 0);
         assert_eq!(number, 0);
     }
 
     fn select(&mut self, now: u64) -> u64 {
-        let (t, count) = (self.rows.as_mut_ptr(), self.rows.len());
-        // SAFETY: the addresses are those of what the board lends, and the count is that of the rows.
-        let number = unsafe {
-            queue_peek_next(
-                &mut self.words,
-                t,
-                count,
-                &mut self.path,
-                0,
-                now,
-                &mut self.window,
-                false,
-                &[0; 32],
-                &mut self.answer,
-            )
-        };
+        let number = board::select(
+            &mut self.words,
+            &mut self.rows,
+            &mut self.path,
+            0,
+            now,
+            &mut self.window,
+            0,
+            &[0; 32],
+            &mut self.answer,
+        );
         assert_eq!((number, self.answer[0]), (0, 1));
         self.answer[1]
     }

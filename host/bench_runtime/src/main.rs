@@ -4,19 +4,11 @@
 //! switch (`choose_ready` for a given selection, so with the current candidate, its key and whether its turn expired), deadline (`refresh_deadline` for a given selection, so
 //! with the current candidate and its key) or finish (`finish_turn`). KIND is the running thread's policy: fifo, fair or budget. `instructions` counts what `bench_call` takes.
 
-#[path = "../../compare_runtime/src/calls.rs"]
-#[allow(dead_code)]
-mod calls;
-
 use std::env;
 use std::hint::black_box;
 use std::process::ExitCode;
 
-use calls::{
-    DemandWords, KeyWords, Row, WindowWords, keys_choose_ready, rows_account_current,
-    rows_current_candidate, rows_expired, rows_finish_turn, rows_prepare_enqueue,
-    rows_refresh_deadline, window_candidate_key,
-};
+use board::{DemandWords, KeyWords, Row, WindowWords};
 use kernel::oracle::{
     Backend, BudgetRt, DEFAULT_ORDER, Demand, KeptScheduler, Key, Policy, Ready, Record, Role,
     Runtime, Window, budget_new, config_new, params_budget, params_fair, params_fifo, window_new,
@@ -119,49 +111,31 @@ struct Port {
 }
 
 impl Port {
-    fn parts(&mut self) -> (*mut Row, usize) {
-        (self.rows.as_mut_ptr(), self.rows.len())
-    }
-
     /// The current candidate and its key, as a board asks for them.
     fn key(&mut self, reading: u64) -> KeyWords {
-        let mut point = [0; 5];
-        let (rows, count) = self.parts();
-        // SAFETY: the address and the count are those of a slice of rows.
-        unsafe { rows_current_candidate(rows, count, 0, true, reading, &mut point) };
-        let mut row = self.rows[0];
-        [row[12], row[13], row[16], row[14]] = [point[1], point[2], point[3], point[4]];
-        let mut key = [0; 9];
-        window_candidate_key(&mut self.window, reading, &row, &self.demand, &mut key);
+        let (mut row, mut key) = ([0; 32], [0; 9]);
+        board::candidate(&mut self.rows, 0, 1, reading, &mut row);
+        board::key(&mut self.window, reading, &row, &self.demand, &mut key);
         key
     }
 
     fn switch(&mut self, reading: u64) -> u64 {
         let key = self.key(reading);
-        let mut expired = [0; 1];
-        let (rows, count) = self.parts();
-        // SAFETY: the address and the count are those of a slice of rows.
-        unsafe { rows_expired(rows, count, 0, &mut expired) };
-        let spent = expired[0] != 0;
-        let choice = keys_choose_ready(&self.ready, &key, &self.rows[0], spent, false, false);
-        if spent {
-            // SAFETY: as above.
-            unsafe { rows_finish_turn(rows, count, 0) };
+        let (mut expired, mut choice) = ([0; 1], [0; 2]);
+        board::expired(&self.rows, 0, &mut expired);
+        let row = &self.rows[0];
+        board::switch(&self.ready, &key, row, expired[0], 0, 0, &mut choice);
+        if expired[0] != 0 {
+            board::finish(&mut self.rows, 0);
         }
-        choice & 1
+        choice[0]
     }
 
     fn deadline(&mut self, reading: u64) -> u64 {
         let key = self.key(reading);
         let mut due = [0; 2];
-        let (rows, count) = self.parts();
-        let (window, demand) = (&mut self.window, &self.demand);
-        // SAFETY: the address and the count are those of a slice of rows.
-        unsafe {
-            rows_refresh_deadline(
-                rows, count, 0, reading, &key, window, true, true, true, demand, &mut due,
-            )
-        };
+        let (rows, window, demand) = (&mut self.rows, &mut self.window, &self.demand);
+        board::deadline(rows, 0, reading, &key, window, 1, 1, 1, demand, &mut due);
         due[1]
     }
 }
@@ -183,20 +157,15 @@ impl Side for Port {
     fn set_reading(&mut self, _: u64) {}
 
     fn call(&mut self, call: Call, reading: u64) -> u64 {
-        let (rows, count) = self.parts();
-        // SAFETY: the address and the count are those of a slice of rows.
         match call {
-            Call::Prepare => unsafe {
-                rows_prepare_enqueue(rows, count, 0, false, reading, &mut self.turns)
-            },
+            Call::Prepare => board::prepare(&mut self.rows, 0, 0, reading, &mut self.turns),
             Call::Account => {
                 let start = std::mem::replace(&mut self.last, reading);
-                let window = &mut self.window;
-                unsafe { rows_account_current(rows, count, 0, window, 3, start, reading) }
+                board::account(&mut self.rows, 0, &mut self.window, 3, start, reading)
             }
             Call::Switch => self.switch(reading),
             Call::Deadline => self.deadline(reading),
-            Call::Finish => unsafe { rows_finish_turn(rows, count, 0) },
+            Call::Finish => board::finish(&mut self.rows, 0),
         }
     }
 }

@@ -8,7 +8,8 @@ use tables::rows::{Path, Row};
 use tables::table::{Table, expected};
 use tables::tally::Tally;
 
-use crate::calls::*;
+/// Queue, table, path, the thread's number, the processor; the answer is document 01's number.
+type QueueCall = fn(&mut QueueWords, &mut [Row], &mut Path, u64, u8) -> u64;
 
 /// A record's place is 0 to 4,095.
 pub const MOST_RECORDS: usize = 4096;
@@ -50,9 +51,9 @@ impl Call {
 
     fn of_port(self) -> QueueCall {
         match self {
-            Self::Enqueue => queue_enqueue,
-            Self::EnqueueFront => queue_enqueue_front,
-            Self::Remove => queue_remove,
+            Self::Enqueue => ::board::enqueue,
+            Self::EnqueueFront => ::board::enqueue_front,
+            Self::Remove => ::board::remove,
         }
     }
 
@@ -78,9 +79,8 @@ impl Board {
     /// A new queue, made by the port over words of any kind.
     pub fn new(tally: &mut Tally, records: Vec<Record>) -> Self {
         let mut words = [[u64::MAX; 5]; 270];
-        // SAFETY: the address is that of the words.
-        unsafe { queue_new(&mut words) };
-        tally.compare("new", (), queue_of(&words), MarkedQueue::NEW);
+        let number = ::board::new(&mut words);
+        tally.compare("new", (), (number, queue_of(&words)), (0, MarkedQueue::NEW));
         Self::of(MarkedQueue::NEW, records)
     }
 
@@ -170,21 +170,14 @@ impl Board {
     }
 
     fn by_port(&mut self, call: Call, id: u64, cpu: u8) -> u64 {
-        let rows = &mut self.table.rows;
-        let (t, count) = (rows.as_mut_ptr(), rows.len());
-        // SAFETY: the addresses are those of the words, the rows and the path, and the count is that of the rows.
-        unsafe { call.of_port()(&mut self.words, t, count, &mut self.path, id, cpu) }
+        let (q, t, path) = self.lent();
+        call.of_port()(q, t, path, id, cpu)
     }
 
     fn lengths(&self) -> [u64; 3] {
-        // SAFETY: the address is that of the words.
-        unsafe {
-            [
-                queue_real_time_len(&self.words),
-                queue_fair_len(&self.words),
-                queue_budget_len(&self.words),
-            ]
-        }
+        let mut answer = [u64::MAX; 3];
+        assert_eq!(::board::lengths(&self.words, &mut answer), 0);
+        answer
     }
 
     /// Makes the call on both sides and goes on from the source's queue and table.

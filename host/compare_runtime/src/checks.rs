@@ -3,7 +3,7 @@
 use kernel::oracle::*;
 
 use crate::expected;
-use crate::port::{Answer, Others, Rows, mode_of};
+use crate::port::{self, Answer, Others, Rows, mode_of};
 use core::fmt::Debug;
 
 use tables::tally::Tally;
@@ -47,6 +47,19 @@ pub trait Checks {
         port: T,
         expected: T,
     );
+
+    /// A new window over the words of another, which a refusal leaves.
+    fn new_window(&mut self, config: Config, window: Window) {
+        let (mut after, mut other) = (window, window);
+        let answer = port::new_window(config, &mut after);
+        let wanted = expected::new_window(config, &mut other);
+        self.compare(
+            "new window",
+            (config, window),
+            (answer, after),
+            (wanted, other),
+        );
+    }
 
     fn prepare_enqueue(&mut self, named: &Named, front: bool, now: u64, turns: Turns) {
         let mut rows = Rows::of(&named.records);

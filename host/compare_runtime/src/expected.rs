@@ -49,6 +49,13 @@ pub fn judged(records: &[Record], id: u64, window: Option<&Window>) -> Answer<us
     }
 }
 
+pub fn new_window(config: Config, window: &mut Window) -> Answer<()> {
+    let made = config_new(config.period, config.allowance, config.floor, config.order);
+    let made = made.ok_or(BAD_CONFIG)?;
+    *window = window_new(config_with_prefer_fair(made, config.prefer_fair));
+    Ok(())
+}
+
 pub fn prepare_enqueue(
     records: &mut [Record],
     id: u64,
@@ -114,7 +121,7 @@ pub fn current_candidate(
     id: u64,
     now: u64,
     window: Window,
-) -> Answer<Option<(u128, u64, bool)>> {
+) -> Answer<Option<Candidate>> {
     let place = judged(records, id, None)?;
     let mut processor = Processor {
         cpu: records[place].cpu,
@@ -128,10 +135,7 @@ pub fn current_candidate(
         fair_floor: 0,
     };
     let record = core::slice::from_mut(&mut records[place]);
-    match kernel::oracle::current_candidate(&mut processor, record) {
-        Ok(candidate) => Ok(candidate.map(|c| (c.fair_pass, c.turn, c.budget_available))),
-        Err(_) => Err(UNEXPECTED),
-    }
+    kernel::oracle::current_candidate(&mut processor, record).map_err(|_| UNEXPECTED)
 }
 
 /// `choose_ready` for a given selection: the front flag where it switches.

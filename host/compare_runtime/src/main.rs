@@ -1,6 +1,6 @@
 //! Compares the port's preparing, accounting, switch rule and deadlines with the kernel's own Rust: `compare_runtime [--seed N] [--seconds S]`.
 //!
-//! First every pair of policies for the switch rule, all small values, and boundary values in combination, then seeded random runs for S
+//! First slices of another length, every pair of policies for the switch rule, all small values, and boundary values in combination, then seeded random runs for S
 //! seconds. After each call the answer, the counters or the window, and every record are compared. The last line is
 //! `differs 0`, or `differs N` with the first differing inputs above it and exit code 1.
 
@@ -8,6 +8,7 @@ mod calls;
 mod checks;
 mod expected;
 mod inputs;
+mod lengths;
 mod port;
 mod runs;
 #[path = "../../compare/src/words.rs"]
@@ -47,6 +48,7 @@ fn main() -> ExitCode {
     };
     let mut tally = Tally::default();
     let mut random = Random::new(seed);
+    lengths::others(&mut tally, &mut random);
     runs::large(&mut tally, &mut random);
     runs::every_pair(&mut tally);
     runs::small(&mut tally);

@@ -1,10 +1,11 @@
 //! The port's calls on plain values. A refusal is its number in document 01.
 
-use kernel::oracle::{Candidate, Demand, Key, Mode, Record, Turns, Window};
+use kernel::oracle::{Candidate, Config, Demand, Key, Mode, Record, Turns, Window};
 
 use crate::calls::*;
 use crate::words::*;
 use tables::rows::{record_of, row_of};
+use tables::windows::candidate_of;
 
 /// What a call gives, or the number of a refusal.
 pub type Answer<T> = Result<T, u64>;
@@ -12,8 +13,20 @@ pub type Answer<T> = Result<T, u64>;
 /// No key.
 const NO_KEY: KeyWords = [0; 9];
 
+/// What a candidate's words hold before a call.
+const UNTOUCHED: Row = [0x5555_5555; 32];
+
 fn answer<T>(number: u64, value: T) -> Answer<T> {
     if number == 0 { Ok(value) } else { Err(number) }
+}
+
+/// A new window over another's words.
+pub fn new_window(config: Config, window: &mut Window) -> Answer<()> {
+    let mut words = window_words(*window);
+    let given = window_words(Window { config, ..*window });
+    let number = board::window(&mut words, &given[..8]);
+    *window = window_of(words);
+    answer(number, ())
 }
 
 /// The port's table: rows of words.
@@ -36,9 +49,7 @@ impl Rows {
         turns: &mut Turns,
     ) -> Answer<()> {
         let mut words = [turns.back, turns.front];
-        let (rows, count) = (self.0.as_mut_ptr(), self.0.len());
-        // SAFETY: the address and the count are those of a slice of rows.
-        let number = unsafe { rows_prepare_enqueue(rows, count, id, front, now, &mut words) };
+        let number = board::prepare(&mut self.0, id, front.into(), now, &mut words);
         [turns.back, turns.front] = words;
         answer(number, ())
     }
@@ -52,42 +63,34 @@ impl Rows {
         end: u64,
     ) -> Answer<()> {
         let mut words = window_words(*window);
-        let (rows, count) = (self.0.as_mut_ptr(), self.0.len());
         let mode = mode_word(mode);
-        // SAFETY: the address and the count are those of a slice of rows.
-        let number = unsafe { rows_account_current(rows, count, id, &mut words, mode, start, end) };
+        let number = board::account(&mut self.0, id, &mut words, mode, start, end);
         *window = window_of(words);
         answer(number, ())
     }
 
     pub fn finish_turn(&mut self, id: u64) -> Answer<()> {
-        // SAFETY: the address and the count are those of a slice of rows.
-        let number = unsafe { rows_finish_turn(self.0.as_mut_ptr(), self.0.len(), id) };
-        answer(number, ())
+        answer(board::finish(&mut self.0, id), ())
     }
 
-    /// Pass, turn and whether time is left; none where the thread is not Running.
+    /// The candidate; none where the thread is not Running. Then, and at a refusal, its words must stay.
     pub fn current_candidate(
         &mut self,
         id: u64,
         running: bool,
         now: u64,
-    ) -> Answer<Option<(u128, u64, bool)>> {
-        let mut words = [0; 5];
-        let (rows, count) = (self.0.as_mut_ptr(), self.0.len());
-        // SAFETY: the address and the count are those of a slice of rows.
-        let number = unsafe { rows_current_candidate(rows, count, id, running, now, &mut words) };
-        let [some, high, low, turn, available] = words;
-        answer(
-            number,
-            flag_of(some).then(|| (whole(high, low), turn, flag_of(available))),
-        )
+    ) -> Answer<Option<Candidate>> {
+        let mut row = UNTOUCHED;
+        let number = board::candidate(&mut self.0, id, running.into(), now, &mut row);
+        if number != 0 || !running {
+            assert_eq!(row, UNTOUCHED, "a candidate of a thread that has none");
+        }
+        answer(number, running.then(|| candidate_of(&row)))
     }
 
     pub fn expired(&self, id: u64) -> Answer<bool> {
         let mut words = [0; 1];
-        // SAFETY: the address and the count are those of a slice of rows.
-        let number = unsafe { rows_expired(self.0.as_ptr(), self.0.len(), id, &mut words) };
+        let number = board::expired(&self.0, id, &mut words);
         answer(number, flag_of(words[0]))
     }
 
@@ -100,20 +103,15 @@ impl Rows {
         window: &mut Window,
         demand: Demand,
     ) -> Answer<KeyWords> {
-        let Some((fair_pass, turn, budget_available)) = self.current_candidate(id, running, now)?
-        else {
+        let (mut row, mut key) = (UNTOUCHED, NO_KEY);
+        let number = board::candidate(&mut self.0, id, running.into(), now, &mut row);
+        answer(number, ())?;
+        if !running {
             return Ok(NO_KEY);
-        };
-        let candidate = Candidate {
-            params: record_of(&self.0[id as usize]).params,
-            fair_pass,
-            turn,
-            budget_available,
-        };
+        }
         let mut words = window_words(*window);
-        let mut key = NO_KEY;
-        let (row, demand) = (candidate_words(candidate), demand_words(demand));
-        let number = window_candidate_key(&mut words, now, &row, &demand, &mut key);
+        let demand = demand_words(demand);
+        let number = board::key(&mut words, now, &row, &demand, &mut key);
         *window = window_of(words);
         answer(number, key)
     }
@@ -130,8 +128,11 @@ impl Rows {
     ) -> (bool, bool) {
         let ready = ready.map_or(NO_KEY, key_words);
         let row = &self.0[id as usize];
-        let number = keys_choose_ready(&ready, current, row, expired, yielding, tail);
-        (number & 1 != 0, number & 2 != 0)
+        let [expired, yielding, tail] = [expired, yielding, tail].map(u64::from);
+        let mut choice = [u64::MAX; 2];
+        let number = board::switch(&ready, current, row, expired, yielding, tail, &mut choice);
+        assert_eq!(number, 0, "the switch rule refuses nothing");
+        (flag_of(choice[0]), flag_of(choice[1]))
     }
 
     pub fn refresh_deadline(
@@ -144,30 +145,19 @@ impl Rows {
     ) -> Answer<Option<u64>> {
         let mut words = window_words(*window);
         let mut due = [0; 2];
-        let (rows, count) = (self.0.as_mut_ptr(), self.0.len());
-        let Others {
-            competition,
-            budget_peer,
-            ready,
-            demand,
-        } = others;
-        let demand = demand_words(demand);
-        // SAFETY: the address and the count are those of a slice of rows.
-        let number = unsafe {
-            rows_refresh_deadline(
-                rows,
-                count,
-                id,
-                now,
-                current,
-                &mut words,
-                competition,
-                budget_peer,
-                ready,
-                &demand,
-                &mut due,
-            )
-        };
+        let demand = demand_words(others.demand);
+        let number = board::deadline(
+            &mut self.0,
+            id,
+            now,
+            current,
+            &mut words,
+            others.competition.into(),
+            others.budget_peer.into(),
+            others.ready.into(),
+            &demand,
+            &mut due,
+        );
         *window = window_of(words);
         answer(number, option_of(due))
     }

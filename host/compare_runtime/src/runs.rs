@@ -26,6 +26,7 @@ fn account(tally: &mut Tally, picks: &mut impl Picks, count: u64) {
     let end = picks.reading(config.period);
     let start = picks.start(end, config.period);
     let window = picks.window(config, end);
+    tally.new_window(config, window);
     let named = inputs::named(picks, count, config.period, end);
     tally.account_current(&named, window, picks.mode(), start, end);
 }

@@ -1,6 +1,6 @@
-//! The port's selection on the oracle's plain values, over the C call of crates/selection_entries.
+//! The port's selection on the oracle's plain values.
 
-use compare_queue::calls::{SelectionWords, queue_peek_next};
+use board::SelectionWords;
 use kernel::oracle::*;
 use tables::queues::QueueWords;
 use tables::rows::{Path, Row};
@@ -46,21 +46,8 @@ pub fn peek_next(
 ) -> Answer<Selection> {
     let mut answer = UNTOUCHED;
     let row = current.unwrap_or(&[u64::MAX; 32]);
-    // SAFETY: the addresses are those of what is lent, and the count is that of the rows.
-    let number = unsafe {
-        queue_peek_next(
-            q,
-            t.as_mut_ptr(),
-            t.len(),
-            path,
-            cpu,
-            now,
-            window,
-            current.is_some(),
-            row,
-            &mut answer,
-        )
-    };
+    let running = current.is_some().into();
+    let number = board::select(q, t, path, cpu, now, window, running, row, &mut answer);
     match number {
         0 => Ok(selection_of(&answer)),
         number => {

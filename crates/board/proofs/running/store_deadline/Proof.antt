@@ -1,0 +1,19 @@
+-- The deadline's words are copied, a refusal's number is told.
+use Rattle.board.specs.BoardLaws.{storing}
+use borrow.Author.Needs.{needs}
+use Rattle.board.proofs.running.store_deadline.Statement.{statement}
+use Rattle.board.proofs.running.store_deadline.Tie as tie
+
+pub store-deadline-spec : {M : Type 1} → statement M
+store-deadline-spec =
+    tie.close
+    (tie.spec
+    (λ c. search needs)
+    (λ c κs. search needs)
+    (λ c. search needs)
+    (λ c κs. search needs)
+    (λ c. search needs)
+    (λ c κs. search needs)
+    (λ c. search needs)
+    (λ c. search storing depth 8)
+    (λ c. search storing depth 8))

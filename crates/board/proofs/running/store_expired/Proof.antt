@@ -1,0 +1,19 @@
+-- The flag's word is copied, a refusal's number is told.
+use Rattle.board.specs.BoardLaws.{storing}
+use borrow.Author.Needs.{needs}
+use Rattle.board.proofs.running.store_expired.Statement.{statement}
+use Rattle.board.proofs.running.store_expired.Tie as tie
+
+pub store-expired-spec : {M : Type 1} → statement M
+store-expired-spec =
+    tie.close
+    (tie.spec
+    (λ c. search needs)
+    (λ c κs. search needs)
+    (λ c. search needs)
+    (λ c κs. search needs)
+    (λ c. search needs)
+    (λ c κs. search needs)
+    (λ c. search needs)
+    (λ c. search storing depth 8)
+    (λ c. search storing depth 8))

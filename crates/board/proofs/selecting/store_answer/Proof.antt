@@ -1,0 +1,19 @@
+-- The selection's words are copied, a refusal's number is told.
+use Rattle.board.specs.BoardLaws.{storing}
+use borrow.Author.Needs.{needs}
+use Rattle.board.proofs.selecting.store_answer.Statement.{statement}
+use Rattle.board.proofs.selecting.store_answer.Tie as tie
+
+pub store-answer-spec : {M : Type 1} → statement M
+store-answer-spec =
+    tie.close
+    (tie.spec
+    (λ c. search needs)
+    (λ c κs. search needs)
+    (λ c. search needs)
+    (λ c κs. search needs)
+    (λ c. search needs)
+    (λ c κs. search needs)
+    (λ c. search needs)
+    (λ c. search storing depth 8)
+    (λ c. search storing depth 8))

@@ -1,0 +1,14 @@
+-- Every part is the one given.
+use borrow.Author.Needs.{needs}
+use Rattle.board_words.proofs.contention_of.Statement.{statement}
+use Rattle.board_words.proofs.contention_of.Tie as tie
+
+pub contention-of-spec : {M : Type 1} → statement M
+contention-of-spec =
+    tie.close
+    (tie.spec
+    (λ c κs. search needs)
+    (λ c κs. search needs)
+    (λ c κs. search needs)
+    (λ c κs. search needs)
+    (λ c. cc))

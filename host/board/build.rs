@@ -1,0 +1,19 @@
+//! Links the static library of crates/board, from STATICLIB_DIR or the repository's target/staticlib.
+
+use std::env;
+use std::path::PathBuf;
+
+fn main() {
+    let package = PathBuf::from(env::var_os("CARGO_MANIFEST_DIR").expect("the package directory"));
+    let place = match env::var_os("STATICLIB_DIR") {
+        Some(place) => PathBuf::from(place),
+        None => package.join("../../target/staticlib"),
+    };
+    println!("cargo::rerun-if-env-changed=STATICLIB_DIR");
+    println!(
+        "cargo::rerun-if-changed={}",
+        place.join("libboard.a").display()
+    );
+    println!("cargo::rustc-link-search=native={}", place.display());
+    println!("cargo::rustc-link-lib=static=board");
+}
