@@ -59,8 +59,8 @@ fn select_in(
     q: &mut [[u64; 5]; 270],
     t: &mut [[u64; 32]],
     s: &[u64],
-    window: &mut [u64; 12],
-    answer: &mut [u64; 19],
+    window: &mut [u64],
+    answer: &mut [u64],
 ) -> u64 {
     let mut path = [[0u64; 2]; 40];
     if s.len() != 864 {
@@ -124,7 +124,7 @@ pub fn candidate(t: &mut [[u64; 32]], x: &mut [u64; 864]) -> u64 {
     number
 }
 
-fn key_in(s: &[u64], window: &mut [u64; 12], answer: &mut [u64; 9]) -> u64 {
+fn key_in(s: &[u64], window: &mut [u64], answer: &mut [u64]) -> u64 {
     if s.len() != 864 {
         return 10;
     }
@@ -142,7 +142,7 @@ pub fn key(x: &mut [u64; 864]) -> u64 {
     number
 }
 
-fn switch_in(s: &[u64], answer: &mut [u64; 2]) -> u64 {
+fn switch_in(s: &[u64], answer: &mut [u64]) -> u64 {
     if s.len() != 864 {
         return 10;
     }
@@ -172,12 +172,7 @@ pub fn lengths(q: &[[u64; 5]; 270], x: &mut [u64; 864]) -> u64 {
     number
 }
 
-fn deadline_in(
-    t: &mut [[u64; 32]],
-    s: &[u64],
-    window: &mut [u64; 12],
-    answer: &mut [u64; 2],
-) -> u64 {
+fn deadline_in(t: &mut [[u64; 32]], s: &[u64], window: &mut [u64], answer: &mut [u64]) -> u64 {
     if s.len() != 864 {
         return 10;
     }
@@ -207,7 +202,7 @@ pub fn deadline(t: &mut [[u64; 32]], x: &mut [u64; 864]) -> u64 {
     number
 }
 
-fn window_in(s: &[u64], fresh: &mut [u64; 12]) -> u64 {
+fn window_in(s: &[u64], fresh: &mut [u64]) -> u64 {
     if s.len() != 864 {
         return 10;
     }

@@ -198,8 +198,11 @@ fn next(x: &mut [u64; 864]) -> u8 {
     (letter % 256) as u8
 }
 
-// A letter is played on as many records as there are.
-fn step(q: &mut [[u64; 5]; 270], t: &mut [[u64; 32]], x: &mut [u64; 864]) -> u64 {
+// A letter is played on as many records as there are, unless a call was refused before.
+fn step(q: &mut [[u64; 5]; 270], t: &mut [[u64; 32]], x: &mut [u64; 864], refused: u64) -> u64 {
+    if refused != 0 {
+        return refused;
+    }
     let letter = next(x);
     let n = x[RECORDS] as usize;
     if letter == 0 {
@@ -230,12 +233,8 @@ fn end(x: &mut [u64; 864], number: u64) {
 fn play(q: &mut [[u64; 5]; 270], t: &mut [[u64; 32]], x: &mut [u64; 864]) {
     let mut number: u64 = 0;
     let mut left: u64 = 65_536;
-    x[PLAYED] = SCRIPT as u64;
-    x[PLACE] = 0;
     while 0 < left {
-        if number == 0 {
-            number = step(q, t, x);
-        }
+        number = step(q, t, x, number);
         left -= 1;
     }
     end(x, number);
@@ -262,6 +261,8 @@ pub fn line(q: &mut [[u64; 5]; 270], t: &mut [[u64; 32]], x: &mut [u64; 864], li
         return;
     }
     if is_understood(x, line) {
+        x[PLAYED] = SCRIPT as u64;
+        x[PLACE] = 0;
         play(q, t, x);
         return;
     }

@@ -128,28 +128,27 @@ fn picture(name: &[u8], text: &[u8]) {
     drawing::end(&mut x);
 }
 
-fn opened(name: &[u8], text: &mut [u8; 65536]) -> usize {
-    let fd = os::open_read(name);
-    if fd < 0 {
-        os::fail(name);
-        return 0;
-    }
-    let n = io::read_full(fd, text);
-    libc::close(fd);
-    n
-}
-
-// A file is printed under its name, or drawn.
-fn file(name: &[u8], drawn: bool) {
-    let mut text = io::large_buffer();
-    let n = opened(name, &mut text);
+// A file's text is printed under its name, or drawn.
+fn shown(name: &[u8], text: &[u8], drawn: bool) {
     if drawn {
-        picture(name, &text[..n]);
+        picture(name, text);
         return;
     }
     io::write_all(STDOUT, name);
     io::write_all(STDOUT, b"\n");
-    print(&text[..n]);
+    print(text);
+}
+
+fn file(name: &[u8], drawn: bool) {
+    let mut text = io::large_buffer();
+    let fd = os::open_read(name);
+    if fd < 0 {
+        os::fail(name);
+        return;
+    }
+    let n = io::read_full(fd, &mut text);
+    libc::close(fd);
+    shown(name, &text[..n], drawn);
 }
 
 fn input() {
