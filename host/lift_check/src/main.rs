@@ -1,4 +1,4 @@
-//! lift_check [PLACE]: the scenarios of the program crates/lift on the kernel's own Rust, their lines compared with those stored at PLACE, else crates/lift/stdout.
+//! lift_check [PLACE]: the lifts of the program crates/scenario on the kernel's own Rust, their stretches compared with those stored at PLACE, else crates/scenario/stdout.
 //! The last line is 'differs N'.
 
 mod board;
@@ -18,7 +18,7 @@ const fn wake(at: u64, thread: u64, work: u64) -> Wake {
 
 /// Two protected loops of two hooks wait in one tree while the drive runs on its allowance.
 const ONE_PERIOD: (&str, &[Wake], u64) = (
-    "A lift within one period",
+    "twin-hook.txt",
     &[
         wake(0, 6, ALWAYS),
         wake(1_000_000, 4, 500_000),
@@ -31,7 +31,7 @@ const ONE_PERIOD: (&str, &[Wake], u64) = (
 
 /// All four sway loops want more than their budgets, and the period changes while the brake runs.
 const CHANGE_OF_PERIOD: (&str, &[Wake], u64) = (
-    "A change of period within a lift",
+    "change-of-period.txt",
     &[
         wake(1_000_000, 0, 2_500_000),
         wake(1_000_000, 2, 2_500_000),
@@ -42,8 +42,6 @@ const CHANGE_OF_PERIOD: (&str, &[Wake], u64) = (
     ],
     13_000_000,
 );
-
-const HEADER: &str = "  reading  thread          why             urgency rank       for  deadline";
 
 fn why(mode: Mode) -> &'static str {
     match mode {
@@ -87,38 +85,56 @@ fn lift(lines: &mut Vec<String>, wakes: &[Wake], end: u64) -> Answer<()> {
     Ok(())
 }
 
-fn run() -> Answer<Vec<String>> {
+/// The lines of a lift on the Rust.
+fn run(wakes: &[Wake], end: u64) -> Answer<Vec<String>> {
     let mut lines = Vec::new();
-    for (title, wakes, end) in [ONE_PERIOD, CHANGE_OF_PERIOD] {
-        lines.push(title.to_string());
-        lines.push(HEADER.to_string());
-        lift(&mut lines, wakes, end)?;
-    }
+    lift(&mut lines, wakes, end)?;
     Ok(lines)
 }
 
-fn main() -> ExitCode {
-    let stored = PathBuf::from(env!("CARGO_MANIFEST_DIR")).join("../../crates/lift/stdout");
-    let place = env::args_os().nth(1).map_or(stored, PathBuf::from);
-    let lines = match run() {
-        Ok(lines) => lines,
-        Err(refusal) => {
-            eprintln!("the Rust refuses: {refusal:?}");
-            return ExitCode::FAILURE;
-        }
-    };
-    let text = fs::read_to_string(&place).unwrap_or_default();
-    let port: Vec<&str> = text.lines().collect();
+/// A stretch's line starts with its reading, in nine columns.
+fn is_stretch(line: &str) -> bool {
+    let reading = line.get(..9).map_or("", str::trim_start);
+    !reading.is_empty() && reading.bytes().all(|byte| byte.is_ascii_digit())
+}
+
+/// What is stored of a scenario's stretches, below its file's name.
+fn stretches<'a>(text: &'a str, file: &str) -> Vec<&'a str> {
+    let below = text.lines().skip_while(|line| *line != file).skip(1);
+    let own = below.take_while(|line| !line.ends_with(".txt"));
+    own.filter(|line| is_stretch(line)).collect()
+}
+
+fn compare(file: &str, rust: &[String], port: &[&str]) -> usize {
     let mut differs = 0;
-    for at in 0..lines.len().max(port.len()) {
-        let rust = lines.get(at).map_or("", String::as_str);
+    for at in 0..rust.len().max(port.len()) {
+        let theirs = rust.get(at).map_or("", String::as_str);
         let ours = port.get(at).copied().unwrap_or("");
-        if rust != ours {
+        if theirs != ours {
             differs += 1;
-            println!("line {}: port {ours:?}, Rust {rust:?}", at + 1);
+            println!("{file}, stretch {}: port {ours:?}, Rust {theirs:?}", at + 1);
         }
     }
-    println!("lines of the lift: {}", lines.len());
+    differs
+}
+
+fn main() -> ExitCode {
+    let stored = PathBuf::from(env!("CARGO_MANIFEST_DIR")).join("../../crates/scenario/stdout");
+    let place = env::args_os().nth(1).map_or(stored, PathBuf::from);
+    let text = fs::read_to_string(&place).unwrap_or_default();
+    let (mut lines, mut differs) = (0, 0);
+    for (file, wakes, end) in [ONE_PERIOD, CHANGE_OF_PERIOD] {
+        let rust = match run(wakes, end) {
+            Ok(rust) => rust,
+            Err(refusal) => {
+                eprintln!("the Rust refuses: {refusal:?}");
+                return ExitCode::FAILURE;
+            }
+        };
+        differs += compare(file, &rust, &stretches(&text, file));
+        lines += rust.len();
+    }
+    println!("stretches of the lifts: {lines}");
     println!("differs {differs}");
     match differs {
         0 => ExitCode::SUCCESS,

@@ -1,0 +1,24 @@
+-- The loop ends: the edges that are left fall.
+use borrow.Author.Needs.{needs}
+use Rattle.scenario.proofs.drawing.edges.Statement.{statement}
+use Rattle.scenario.proofs.drawing.edges.Tie as tie
+
+abbrev Inv-loop : tie.InvT-loop
+Inv-loop x₀ reading₀ left₀ x reading left = Unit {0}
+
+abbrev μ-loop : tie.MeasureT-loop
+μ-loop x₀ reading₀ left₀ x reading left = left
+
+pub edges-spec : {M : Type 1} → statement M
+edges-spec =
+    tie.close
+    (tie.spec
+    Inv-loop
+    μ-loop
+    (λ c. search needs)
+    (λ c κs. search needs)
+    (λ c κs. search needs)
+    (λ c. search needs)
+    (λ c. search needs)
+    (λ c. search needs)
+    (λ c. search needs))

@@ -1,0 +1,24 @@
+-- The loop ends: the lanes that are left fall.
+use borrow.Author.Needs.{needs}
+use Rattle.scenario.proofs.drawing.lanes.Statement.{statement}
+use Rattle.scenario.proofs.drawing.lanes.Tie as tie
+
+abbrev Inv-loop : tie.InvT-loop
+Inv-loop x₀ left₀ x left = Unit {0}
+
+abbrev μ-loop : tie.MeasureT-loop
+μ-loop x₀ left₀ x left = left
+
+pub lanes-spec : {M : Type 1} → statement M
+lanes-spec =
+    tie.close
+    (tie.spec
+    Inv-loop
+    μ-loop
+    (λ c. search needs)
+    (λ c. search needs)
+    (λ c. search needs)
+    (λ c κs. search needs)
+    (λ c. search needs)
+    (λ c. search needs)
+    (λ c. search needs))

@@ -1,0 +1,27 @@
+-- The loop ends: the letters that are left fall; the table keeps its length.
+use mathlib.Core.Path.{_≡_}
+use lib.ListN.{length}
+use borrow.Author.Needs.{needs}
+use Rattle.scenario.proofs.machine.play.Statement.{statement}
+use Rattle.scenario.proofs.machine.play.Tie as tie
+
+abbrev Inv-loop : tie.InvT-loop
+Inv-loop q₀ t₀ x₀ number₀ left₀ q t x number left = length t ≡ length t₀
+
+abbrev μ-loop : tie.MeasureT-loop
+μ-loop q₀ t₀ x₀ number₀ left₀ q t x number left = left
+
+pub play-spec : {M : Type 1} → statement M
+play-spec =
+    tie.close
+    (tie.spec
+    Inv-loop
+    μ-loop
+    (λ c. search needs)
+    (λ c κs. search needs)
+    (λ c. search needs)
+    (λ c. search needs)
+    (λ c. search needs)
+    (λ c κs. search needs)
+    (λ c. search needs)
+    (λ c. search needs))
