@@ -2,7 +2,7 @@
 //!
 //! SIDE is port (the port's exported entries, on lent words and rows) or rust (the kernel's Rust on its own queue and records, through its own access). CALL is turns (one thread is removed and enqueued again), front (the same at
 //! the front), select (selections within one period, a thread removed and enqueued between), period (each selection in another period, no thread exhausted), renewal (a selection at a change of period with every
-//! budget thread exhausted, each on a queue of its own) or cycle (a whole cycle of a board within one period, every thread prepared and enqueued before). KIND is stride (every thread in one tree), mixed (every policy and role) or budget. Threads and order of
+//! budget thread exhausted, each on a queue of its own) or cycle (a whole cycle of a board within one period, every thread but the running one prepared and enqueued before). KIND is stride (every thread in one tree), mixed (every policy and role) or budget. Threads and order of
 //! calls are the same for both sides, and so is what is printed: all numbers of named threads and deadlines together. `instructions` counts what the functions `bench_..` take. With --times each row is run on both sides, one after the
 //! other, N times; the median of the ratios is printed with the least and the greatest.
 
@@ -48,20 +48,20 @@ fn bench_cycle(side: &mut impl Side, now: u64) -> (u64, u64) {
     side.cycle(now)
 }
 
-/// A board of which all threads but the last are queued.
+/// A board of which all threads are queued.
 fn filled<S: Side>(records: &[Record]) -> S {
     let mut side = S::of(records);
-    (0..records.len() as u64 - 1).for_each(|id| side.enqueue(id));
+    (0..records.len() as u64).for_each(|id| side.enqueue(id));
     side
 }
 
 /// What the calls named, all together, and how long they took with all that is between them.
 fn run<S: Side>(call: &str, records: &[Record], calls: u64) -> Option<(u64, u128)> {
-    let (mut random, queued) = (Random::new(7), records.len() as u64 - 1);
+    let (mut random, queued) = (Random::new(7), records.len() as u64);
     let mut side: S = match call {
         "cycle" => {
             let mut side = S::of(records);
-            side.wake(queued);
+            side.wake(queued - 1);
             side
         }
         _ => filled(records),
@@ -124,11 +124,11 @@ fn record(random: &mut Random, kind: &str, exhausted: bool) -> Option<Record> {
     Some(record)
 }
 
-/// So many threads to queue, and one that runs.
+/// So many threads.
 fn records(call: &str, kind: &str, queued: u64) -> Option<Vec<Record>> {
     let mut random = Random::new(1);
     let exhausted = call == "renewal";
-    (0..=queued)
+    (0..queued)
         .map(|_| record(&mut random, kind, exhausted))
         .collect()
 }
