@@ -4,21 +4,11 @@
 //! seconds. After each call the answer, the counters or the window, and every record are compared. The last line is
 //! `differs 0`, or `differs N` with the first differing inputs above it and exit code 1.
 
-mod calls;
-mod checks;
-mod expected;
-mod inputs;
-mod lengths;
-mod port;
-mod runs;
-#[path = "../../compare/src/words.rs"]
-#[allow(dead_code, unused_imports)]
-mod words;
-
 use std::env;
 use std::process::ExitCode;
 use std::time::{Duration, Instant};
 
+use compare_runtime::{lengths, runs};
 use tables::generator::Random;
 use tables::tally::Tally;
 

@@ -5,16 +5,10 @@
 //! where demand 3's premises hold. What was noted beside the comparisons stands in brackets. The last line is `differs 0`, or `differs N` with the
 //! first differing inputs above it and exit code 1.
 
-mod damaged;
-mod history;
-mod port;
-mod scan;
-mod selecting;
-mod sound;
-
 use std::process::ExitCode;
 
-use sound::Course;
+use compare_selection::sound::Course;
+use compare_selection::{damaged, sound};
 use tables::generator::Random;
 use tables::run;
 use tables::tally::Tally;

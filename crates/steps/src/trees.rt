@@ -42,24 +42,25 @@ fn least(answer: Least) -> u64 {
     }
 }
 
-fn inserted(t: &mut [[u64; 32]], root: u64, id: u64) -> u64 {
-    let mut path = [[0u64; 2]; 40];
-    rooted(insert(t, &mut path, Link::Some(root), id))
-}
-
-fn leftmost(t: &mut [[u64; 32]], given: u64, root: u64) -> u64 {
+fn root(given: u64, n: u64) -> Link {
     if given == 0 {
-        return least(first(t, Link::None));
+        return Link::None;
     }
-    least(first(t, Link::Some(root)))
+    Link::Some(n)
 }
 
-pub fn tree(t: &mut [[u64; 32]], letter: u64, a: [u64; 6]) -> u64 {
-    if letter == INSERT {
-        return inserted(t, a[0], a[1]);
+fn called(t: &mut [[u64; 32]], letter: u64, a: [u64; 6]) -> u64 {
+    let mut path = [[0u64; 2]; 40];
+    match letter {
+        INSERT => rooted(insert(t, &mut path, Link::Some(a[0]), a[1])),
+        CONTAINS => held(contains(t, Link::Some(a[0]), a[1])),
+        _ => least(first(t, root(a[0], a[1]))),
     }
-    if letter == CONTAINS {
-        return held(contains(t, Link::Some(a[0]), a[1]));
+}
+
+pub fn tree(t: &mut [[u64; 32]], n: usize, letter: u64, a: [u64; 6]) -> u64 {
+    if t.len() < n {
+        return NONE;
     }
-    leftmost(t, a[0], a[1])
+    called(&mut t[0..n], letter, a)
 }

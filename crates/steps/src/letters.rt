@@ -73,10 +73,14 @@ pub const CONTAINS: u64 = 72;
 
 pub const LEAST: u64 = 71;
 
+pub const PEEK: u64 = 80;
+
+pub const SUM: u64 = 67;
+
 // 0 where the letter is no step's.
 pub fn arity(letter: u64) -> u64 {
     match letter {
-        SIZE | BY_VALUE | CONFIG | COMPARE => 1,
+        SIZE | BY_VALUE | CONFIG | COMPARE | SUM => 1,
         SET_WINDOW | WINDOW | SHOW_WINDOW | FINISH | END | KEY => 2,
         SET_QUEUE
         | QUEUE
@@ -96,7 +100,7 @@ pub fn arity(letter: u64) -> u64 {
         | INSERT
         | CONTAINS
         | LEAST => 3,
-        PREPARE | BUDGET | CHARGE => 4,
+        PREPARE | BUDGET | CHARGE | PEEK => 4,
         ACCOUNT | CHOOSE | RUNTIME | EXPIRY | INTERVAL => 5,
         DEADLINE => 6,
         _ => 0,
@@ -106,7 +110,23 @@ pub fn arity(letter: u64) -> u64 {
 // Words are compared in silence.
 pub fn is_silent(letter: u64) -> bool {
     match letter {
-        SET_WINDOW | WINDOW | SET_QUEUE | QUEUE | SET_RECORD | RECORD | SET_SCRATCH | SCRATCH =>
+        SET_WINDOW
+        | WINDOW
+        | SET_QUEUE
+        | QUEUE
+        | SET_RECORD
+        | RECORD
+        | SET_SCRATCH
+        | SCRATCH
+        | SUM => true,
+        _ => false,
+    }
+}
+
+// Calls that answer 0 or document 01's number.
+pub fn is_call(letter: u64) -> bool {
+    match letter {
+        ENQUEUE | FRONT | REMOVE | PEEK | PREPARE | ACCOUNT | FINISH | KEY | DEADLINE | BUDGET =>
             true,
         _ => false,
     }

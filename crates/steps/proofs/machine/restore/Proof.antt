@@ -1,17 +1,17 @@
--- The loop ends: what is left of the nine falls, and a store keeps the table's length.
+-- The loop ends: what is left of the rows falls, and a store keeps the table's length.
 use Prim.Native.Nat.{_≤_, _-_}
 use mathlib.Core.Path.{_≡_, refl}
 use native.Mathlib.Omega.{arith}
 use lib.ListN.{length, length-set}
 use borrow.Author.Needs.{needs}
-use Rattle.cases.proofs.machine.restore.Statement.{statement}
-use Rattle.cases.proofs.machine.restore.Tie as tie
+use Rattle.steps.proofs.machine.restore.Statement.{statement}
+use Rattle.steps.proofs.machine.restore.Tie as tie
 
 abbrev Inv-loop : tie.InvT-loop
-Inv-loop t₀ i₀ t i = (i ≤ 9) × (length t ≡ length t₀)
+Inv-loop t₀ i₀ t i = (i ≤ 97) × (length t ≡ length t₀)
 
 abbrev μ-loop : tie.MeasureT-loop
-μ-loop t₀ i₀ t i = 9 - i
+μ-loop t₀ i₀ t i = 97 - i
 
 pub restore-spec : {M : Type 1} → statement M
 restore-spec =
