@@ -9,4 +9,4 @@ pub mod port;
 pub mod runs;
 #[path = "../../compare/src/words.rs"]
 #[allow(dead_code, unused_imports)]
-mod words;
+pub mod words;

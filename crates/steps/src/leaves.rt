@@ -1,0 +1,61 @@
+// Calls on one record's parameters and runtime, with the refusal's number for an answer.
+use crate::letters::CHARGE;
+use crate::letters::END;
+use crate::letters::REFRESH;
+use crate::places;
+use crate::places::DUE;
+use crate::places::row_at;
+use crate::places::set_two;
+use crate::places::store;
+use record_entries::budget_parameters_new;
+use record_entries::runtime_account;
+use record_entries::runtime_epoch_refresh;
+use record_entries::runtime_finish_turn;
+use record_entries::runtime_new;
+use record_entries::runtime_next_deadline;
+
+pub fn budget(a: [u64; 6]) -> u64 {
+    let mut answer = [0u64; 3];
+    budget_parameters_new(a[0], a[1], a[2], &mut answer)
+}
+
+pub fn expiry(t: &mut [[u64; 32]], a: [u64; 6]) -> u64 {
+    let mut after = [0u64; 5];
+    let mut due = [0u64; 2];
+    let row = row_at(t, places::record(a[0]));
+    let n = runtime_next_deadline(&row, a[1], a[2] != 0, a[3] != 0, &mut after, &mut due);
+    set_two(t, DUE, &due);
+    n
+}
+
+fn changed(row: &[u64; 32], after: &mut [u64; 5], letter: u64, a: [u64; 6]) -> u64 {
+    if letter == REFRESH {
+        return runtime_epoch_refresh(row, a[1], after);
+    }
+    if letter == CHARGE {
+        return runtime_account(row, a[1], a[2], after);
+    }
+    if letter == END {
+        return runtime_finish_turn(row, after);
+    }
+    runtime_new(row, a[1], a[2], a[3], after)
+}
+
+// The words of a record's runtime.
+fn set_runtime(t: &mut [[u64; 32]], at: usize, words: [u64; 5]) {
+    let mut k: usize = 0;
+    while k < 5 {
+        store(t, at, 11 + k, words[k]);
+        k += 1;
+    }
+}
+
+// The runtime's words alone change; a refusal leaves them.
+pub fn leaf(t: &mut [[u64; 32]], letter: u64, a: [u64; 6]) -> u64 {
+    let at = places::record(a[0]);
+    let row = row_at(t, at);
+    let mut after = [row[11], row[12], row[13], row[14], row[15]];
+    let n = changed(&row, &mut after, letter, a);
+    set_runtime(t, at, after);
+    n
+}

@@ -1,0 +1,17 @@
+// Cases as lines of text: calls with the answers that document 01 or the Rust gives, run on the code and compared.
+mod calls;
+mod leaves;
+mod letters;
+mod machine;
+mod places;
+mod queues;
+mod reading;
+mod report;
+mod runtimes;
+mod sums;
+mod trees;
+mod values;
+mod windows;
+mod words;
+
+pub use machine::run;

@@ -1,0 +1,241 @@
+// The cases of the text. Each starts with its label, on a new queue, nine records and a window; its steps are calls with the answer that document 01 or the Rust gives, words that are
+// overwritten, and words that must then stand there. A malformed line counts as a difference.
+ghost use Prim.Native.Nat.{_+_, _<_, _≤_};
+ghost use lib.ListN.{length};
+use crate::calls::called;
+use crate::letters::SIZE;
+use crate::letters::arity;
+use crate::letters::is_call;
+use crate::letters::is_silent;
+use crate::places::records;
+use crate::places::set_records;
+use crate::places::set_window;
+use crate::reading::BAD;
+use crate::reading::COUNT;
+use crate::reading::FIRST;
+use crate::reading::LETTER;
+use crate::reading::parsed;
+use crate::reading::wide;
+use crate::report::more;
+use crate::report::number;
+use crate::report::text;
+use board::board_new;
+
+// The nine records that a case starts with stand here in the table; the rows behind them, up to 4,096, clear as many after the nine.
+const KEPT: usize = 4000;
+
+const NEW_LINE: u8 = 10;
+
+const NUMBER_SIGN: u64 = 35;
+
+const EQUALS: u64 = 61;
+
+// What a line brings: whether its answer differs from what is said, and the number that a call answered, 12 where it is none.
+struct Event {
+    differs: bool,
+    number: u64,
+}
+
+impl Event {
+    const NOTHING: Self = Self {
+        differs: false,
+        number: 12,
+    };
+}
+
+// What the step says: its last number.
+fn said(s: [u64; 13]) -> u64 {
+    let count = s[COUNT];
+    if count == 0 {
+        return 0;
+    }
+    if 8 < count {
+        return 0;
+    }
+    let at = count as usize;
+    s[FIRST + at - 1]
+}
+
+fn is_malformed(s: [u64; 13]) -> bool {
+    if s[BAD] != 0 {
+        return true;
+    }
+    if s[COUNT] == 0 {
+        return true;
+    }
+    s[COUNT] != arity(s[LETTER])
+}
+
+fn numbers(s: [u64; 13]) -> [u64; 6] {
+    [s[5], s[6], s[7], s[8], s[9], s[10]]
+}
+
+fn show(got: u64, wanted: u64, silent: bool) {
+    if silent {
+        text(b", a word is");
+    }
+    text(b" ");
+    number(got);
+    if got != wanted {
+        text(b", but what is said is ");
+        number(wanted);
+    }
+}
+
+// The number that a call answered.
+fn answered(letter: u64, got: u64) -> u64 {
+    if is_call(letter) {
+        return got;
+    }
+    12
+}
+
+// Every answer is shown, of words and where nothing is to be shown only those that differ, there on a line of their own.
+fn judge(letter: u64, got: u64, wanted: u64, shown: bool) -> Event {
+    let silent = is_silent(letter);
+    let differs = got != wanted;
+    if differs {
+        show(got, wanted, silent);
+        if !shown {
+            text(b"\n");
+        }
+    } else if shown {
+        if !silent {
+            show(got, wanted, silent);
+        }
+    }
+    Event {
+        differs,
+        number: answered(letter, got),
+    }
+}
+
+// A step on as many records as the case has.
+fn step(q: &mut [[u64; 5]; 270], t: &mut [[u64; 32]], s: [u64; 13], shown: bool) -> Event {
+    let letter = s[LETTER];
+    if letter == SIZE {
+        set_records(t, s[FIRST]);
+        return Event::NOTHING;
+    }
+    let n = records(t);
+    let got = called(q, t, n, letter, numbers(s));
+    judge(letter, got, said(s), shown)
+}
+
+fn restore(t: &mut [[u64; 32]]) {
+    if t.len() < 4097 {
+        return;
+    }
+    let mut i: usize = 0;
+    while i < 97 {
+        t[i] = t[KEPT + i];
+        i += 1;
+    }
+}
+
+// Period 10, allowance 2, floor 3, ranks 0 to 3; no epoch yet.
+fn new_case(q: &mut [[u64; 5]; 270], t: &mut [[u64; 32]]) {
+    board_new(q);
+    restore(t);
+    set_window(t, &[10, 2, 3, 0, 1, 2, 3, 0, 0, 0, 2, 3]);
+    set_records(t, 9);
+}
+
+// The label without its sign.
+fn show_label(line: &[u8]) {
+    text(b"\n");
+    if 0 < line.len() {
+        text(&line[1..]);
+    }
+    text(b":");
+}
+
+fn case(q: &mut [[u64; 5]; 270], t: &mut [[u64; 32]], line: &[u8], shown: bool) -> Event {
+    new_case(q, t);
+    if shown {
+        show_label(line);
+    }
+    Event::NOTHING
+}
+
+fn malformed() -> Event {
+    text(b", a malformed line");
+    Event {
+        differs: true,
+        number: 12,
+    }
+}
+
+fn parsed_step(q: &mut [[u64; 5]; 270], t: &mut [[u64; 32]], s: [u64; 13], shown: bool) -> Event {
+    if is_malformed(s) {
+        return malformed();
+    }
+    step(q, t, s, shown)
+}
+
+// The first byte of a line, 0 where it has none.
+fn first(line: &[u8]) -> u64 {
+    if 0 < line.len() {
+        return wide(line[0]);
+    }
+    0
+}
+
+fn line(q: &mut [[u64; 5]; 270], t: &mut [[u64; 32]], line: &[u8], shown: bool) -> Event {
+    let byte = first(line);
+    match byte {
+        0 | NUMBER_SIGN => Event::NOTHING,
+        EQUALS => case(q, t, line, shown),
+        _ => parsed_step(q, t, parsed(line, byte), shown),
+    }
+}
+
+// Where the line that begins here ends.
+fn line_end(words: &[u8], from: usize) -> usize
+    requires { ⌜ from < length (now words) ⌝ }
+    ensures { λ r. ⌜ from ≤ r ⌝ }
+    ensures { λ r. ⌜ r ≤ length (now (words .entry)) ⌝ }
+{
+    let mut i = from;
+    while i < words.len() {
+        if words[i] == NEW_LINE {
+            return i;
+        }
+        i += 1;
+    }
+    i
+}
+
+// At most one more.
+fn with(differs: u64, event: Event) -> u64
+    ensures { λ r. ⌜ r ≤ differs + 1 ⌝ }
+{
+    if event.differs {
+        return more(differs);
+    }
+    differs
+}
+
+fn count(counts: &mut [u64; 12], number: u64) {
+    if number < 12 {
+        counts[number as usize] = more(counts[number as usize]);
+    }
+}
+
+// How many answers differ, one at most for each line; `counts` has how many calls answered 0 and each refusal.
+pub fn run(words: &[u8], shown: bool, counts: &mut [u64; 12]) -> u64
+    ensures { λ r. ⌜ r ≤ length (now (words .entry)) ⌝ }
+{
+    let mut q = [[0u64; 5]; 270];
+    let mut t = [[0u64; 32]; 4106];
+    let mut differs: u64 = 0;
+    let mut i: usize = 0;
+    while i < words.len() {
+        let end = line_end(words, i);
+        let event = line(&mut q, &mut t, &words[i..end], shown);
+        differs = with(differs, event);
+        count(counts, event.number);
+        i = end + 1;
+    }
+    differs
+}

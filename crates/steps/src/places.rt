@@ -1,0 +1,147 @@
+// Where things stand in the one array of rows: the table, then the scratch, then the number of records. A place that does not exist reads as zeros and takes nothing.
+ghost use mathlib.Core.Path.{_≡_};
+ghost use lib.ListN.{length};
+
+// The table's rows are 0 to 4,096, one more than a call takes.
+const MOST: usize = 4097;
+
+pub const CURRENT: usize = 4097;
+
+pub const TURNS: usize = 4098;
+
+pub const DEMAND: usize = 4099;
+
+pub const KEY: usize = 4100;
+
+pub const READY: usize = 4101;
+
+pub const DUE: usize = 4102;
+
+pub const SELECTION: usize = 4103;
+
+pub const WINDOW: usize = 4104;
+
+// The number of records is the first word here.
+const COUNT: usize = 4105;
+
+// Beyond every row.
+const NOWHERE: usize = 4106;
+
+pub fn row_at(t: &[[u64; 32]], at: usize) -> [u64; 32] {
+    if at < t.len() {
+        return t[at];
+    }
+    [0; 32]
+}
+
+// What then stands there.
+pub fn store(t: &mut [[u64; 32]], at: usize, k: usize, word: u64) -> u64 {
+    if t.len() <= at {
+        return 0;
+    }
+    if 31 < k {
+        return 0;
+    }
+    t[at][k] = word;
+    word
+}
+
+// The first words of a row. Each contract gives only the length, which lending the words needs.
+pub fn two(row: [u64; 32]) -> [u64; 2]
+    ensures { λ r. ⌜ 2 ≡ length r ⌝ }
+{
+    [row[0], row[1]]
+}
+
+pub fn five(row: [u64; 32]) -> [u64; 5]
+    ensures { λ r. ⌜ 5 ≡ length r ⌝ }
+{
+    [row[0], row[1], row[2], row[3], row[4]]
+}
+
+pub fn nine(row: [u64; 32]) -> [u64; 9]
+    ensures { λ r. ⌜ 9 ≡ length r ⌝ }
+{
+    [
+        row[0],
+        row[1],
+        row[2],
+        row[3],
+        row[4],
+        row[5],
+        row[6],
+        row[7],
+        row[8],
+    ]
+}
+
+pub fn twelve(row: [u64; 32]) -> [u64; 12]
+    ensures { λ r. ⌜ 12 ≡ length r ⌝ }
+{
+    [
+        row[0],
+        row[1],
+        row[2],
+        row[3],
+        row[4],
+        row[5],
+        row[6],
+        row[7],
+        row[8],
+        row[9],
+        row[10],
+        row[11],
+    ]
+}
+
+// These words become the first of a row.
+fn put(t: &mut [[u64; 32]], at: usize, words: &[u64]) {
+    let mut k: usize = 0;
+    while k < words.len() {
+        store(t, at, k, words[k]);
+        k += 1;
+    }
+}
+
+pub fn set_two(t: &mut [[u64; 32]], at: usize, words: &[u64; 2]) {
+    put(t, at, words);
+}
+
+pub fn set_nine(t: &mut [[u64; 32]], at: usize, words: &[u64; 9]) {
+    put(t, at, words);
+}
+
+pub fn set_window(t: &mut [[u64; 32]], words: &[u64; 12]) {
+    put(t, WINDOW, words);
+}
+
+pub fn set_selection(t: &mut [[u64; 32]], words: &[u64; 19]) {
+    put(t, SELECTION, words);
+}
+
+pub fn record(i: u64) -> usize {
+    if i < 4097 {
+        return i as usize;
+    }
+    NOWHERE
+}
+
+pub fn scratch(i: u64) -> usize {
+    if i < 8 {
+        return CURRENT + i as usize;
+    }
+    NOWHERE
+}
+
+pub fn set_records(t: &mut [[u64; 32]], n: u64) {
+    store(t, COUNT, 0, n);
+}
+
+// How many records the case has.
+pub fn records(t: &[[u64; 32]]) -> usize {
+    let row = row_at(t, COUNT);
+    if row[0] < 4097 {
+        return row[0] as usize;
+    }
+    MOST
+}

@@ -1,0 +1,56 @@
+// One number for all words of a state: a sum in which each word weighs by its place, modulo the prime 2^31 - 1.
+use crate::places::CURRENT;
+use crate::places::WINDOW;
+use crate::places::row_at;
+
+const PRIME: u64 = 2_147_483_647;
+
+const WEIGHT: u64 = 1_000_003;
+
+fn with_word(sum: u64, word: u64) -> u64 {
+    (sum % PRIME * WEIGHT + word % PRIME) % PRIME
+}
+
+fn with_words(sum: u64, words: &[u64]) -> u64 {
+    let mut s = sum;
+    let mut k: usize = 0;
+    while k < words.len() {
+        s = with_word(s, words[k]);
+        k += 1;
+    }
+    s
+}
+
+// The rows from one place up to another.
+fn with_rows(sum: u64, t: &[[u64; 32]], from: usize, to: usize) -> u64 {
+    let mut s = sum;
+    let mut i = from;
+    while i < to {
+        let row = row_at(t, i);
+        s = with_words(s, &row);
+        i += 1;
+    }
+    s
+}
+
+fn with_five(sum: u64, words: &[u64; 5]) -> u64 {
+    with_words(sum, words)
+}
+
+fn with_queue(sum: u64, q: &[[u64; 5]; 270]) -> u64 {
+    let mut s = sum;
+    let mut i: usize = 0;
+    while i < 270 {
+        let row = q[i];
+        s = with_five(s, &row);
+        i += 1;
+    }
+    s
+}
+
+// The records that the case has, the scratch with the window, then the queue.
+pub fn sum(q: &[[u64; 5]; 270], t: &[[u64; 32]], n: usize) -> u64 {
+    let records = with_rows(0, t, 0, n);
+    let rows = with_rows(records, t, CURRENT, WINDOW + 1);
+    with_queue(rows, q)
+}

@@ -1,0 +1,66 @@
+// Calls on the window, with the refusal's number for an answer. The scratch has the running thread as a candidate, a demand, two keys and the deadline.
+use crate::letters::CONFIG;
+use crate::letters::PROTECTION;
+use crate::places;
+use crate::places::CURRENT;
+use crate::places::DEMAND;
+use crate::places::DUE;
+use crate::places::KEY;
+use crate::places::READY;
+use crate::places::WINDOW;
+use crate::places::five;
+use crate::places::nine;
+use crate::places::row_at;
+use crate::places::set_nine;
+use crate::places::set_two;
+use crate::places::set_window;
+use crate::places::twelve;
+use board::board_key;
+use window_entries::config_new;
+use window_entries::dispatch_keys_compare;
+use window_entries::window_account_dispatch;
+use window_entries::window_protection_deadline;
+
+fn protection(t: &mut [[u64; 32]], w: &mut [u64; 12], a: [u64; 6]) -> u64 {
+    let mut due = [0u64; 2];
+    let number = window_protection_deadline(w, a[0], a[1] != 0, &mut due);
+    set_two(t, DUE, &due);
+    number
+}
+
+fn key(t: &mut [[u64; 32]], w: &mut [u64; 12], reading: u64) -> u64 {
+    let mut answer = nine(row_at(t, KEY));
+    let demand = five(row_at(t, DEMAND));
+    let candidate = row_at(t, CURRENT);
+    let number = board_key(w, reading, &candidate, &demand, &mut answer);
+    set_nine(t, KEY, &answer);
+    number
+}
+
+fn interval(t: &[[u64; 32]], w: &mut [u64; 12], a: [u64; 6]) -> u64 {
+    let row = row_at(t, places::record(a[0]));
+    window_account_dispatch(w, a[2], a[3], &row, a[1])
+}
+
+fn changed(t: &mut [[u64; 32]], w: &mut [u64; 12], letter: u64, a: [u64; 6]) -> u64 {
+    match letter {
+        CONFIG => config_new(w),
+        PROTECTION => protection(t, w, a),
+        crate::letters::KEY => key(t, w, a[0]),
+        _ => interval(t, w, a),
+    }
+}
+
+pub fn window(t: &mut [[u64; 32]], letter: u64, a: [u64; 6]) -> u64 {
+    let mut w = twelve(row_at(t, WINDOW));
+    let number = changed(t, &mut w, letter, a);
+    set_window(t, &w);
+    number
+}
+
+// The two keys of the scratch compared.
+pub fn compared(t: &[[u64; 32]]) -> u64 {
+    let key = nine(row_at(t, KEY));
+    let ready = nine(row_at(t, READY));
+    dispatch_keys_compare(&key, &ready)
+}
