@@ -19,21 +19,46 @@ use crate::state::store;
 use crate::telling::say;
 use crate::words::show;
 
+// A literal is carried through its whole function, so each has one of its own.
+pub fn made(x: &[u64; 864]) {
+    say(x, b": made\n");
+}
+
+pub fn number(x: &[u64; 864]) {
+    say(x, b": thread %t\n");
+}
+
+pub fn former(x: &[u64; 864]) {
+    say(x, b": was %v\n");
+}
+
 pub fn expiry(x: &mut [u64; 864]) {
     x[CHOICE] = x[EXPIRED];
     say(x, b": $o\n");
 }
 
+fn stays(x: &[u64; 864]) {
+    say(x, b": stay\n");
+}
+
+fn to_back(x: &[u64; 864]) {
+    say(x, b": switch, the running thread to the back\n");
+}
+
+fn to_front(x: &[u64; 864]) {
+    say(x, b": switch, the running thread to the front\n");
+}
+
 pub fn choice(x: &[u64; 864]) {
     if x[SWITCHES] == 0 {
-        say(x, b": stay\n");
+        stays(x);
         return;
     }
     if x[TO_FRONT] == 0 {
-        say(x, b": switch, the running thread to the back\n");
+        to_back(x);
         return;
     }
-    say(x, b": switch, the running thread to the front\n");
+    to_front(x);
 }
 
 pub fn deadline(x: &[u64; 864]) {

@@ -1,4 +1,4 @@
-// The calls of crate board, on the letters' words and the rows of a run. Each answers document 01's number.
+// The calls of crate board, on the letters' words and the rows of a run. Each answers document 01's number. A call stands alone in its function, since what its contract says is carried through all that follows.
 use crate::state::BACK;
 use crate::state::END;
 use crate::state::EXPIRED;
@@ -89,18 +89,26 @@ pub fn select(q: &mut [[u64; 5]; 270], t: &mut [[u64; 32]], x: &mut [u64; 864]) 
     number
 }
 
+fn prepare_in(t: &mut [[u64; 32]], x: &[u64; 864], turns: &mut [u64]) -> u64 {
+    board_prepare(t, x[THREAD], x[END], x[READING], turns)
+}
+
 pub fn prepare(t: &mut [[u64; 32]], x: &mut [u64; 864]) -> u64 {
     let mut turns = [x[BACK], x[FRONT]];
-    let number = board_prepare(t, x[THREAD], x[END], x[READING], &mut turns);
+    let number = prepare_in(t, x, &mut turns);
     x[BACK] = turns[0];
     x[FRONT] = turns[1];
     number
 }
 
+fn account_in(t: &mut [[u64; 32]], x: &[u64; 864], window: &mut [u64]) -> u64 {
+    board_account(t, x[THREAD], window, x[ITS_MODE], x[START], x[STOP])
+}
+
 pub fn account(t: &mut [[u64; 32]], x: &mut [u64; 864]) -> u64 {
     let mut window = [0u64; 12];
     copy(&mut window, x, WINDOW);
-    let number = board_account(t, x[THREAD], &mut window, x[ITS_MODE], x[START], x[STOP]);
+    let number = account_in(t, x, &mut window);
     keep(x, WINDOW, &window);
     number
 }
@@ -109,17 +117,25 @@ pub fn finish(t: &mut [[u64; 32]], x: &[u64; 864]) -> u64 {
     board_finish(t, x[THREAD])
 }
 
+fn expired_in(t: &[[u64; 32]], x: &[u64; 864], answer: &mut [u64]) -> u64 {
+    board_expired(t, x[THREAD], answer)
+}
+
 pub fn expired(t: &[[u64; 32]], x: &mut [u64; 864]) -> u64 {
     let mut answer = [0u64; 1];
-    let number = board_expired(t, x[THREAD], &mut answer);
+    let number = expired_in(t, x, &mut answer);
     x[EXPIRED] = answer[0];
     number
+}
+
+fn candidate_in(t: &mut [[u64; 32]], x: &[u64; 864], row: &mut [u64]) -> u64 {
+    board_candidate(t, x[RUNNER], x[RUNS], x[READING], row)
 }
 
 // The running thread, refreshed, as selection and keys take it.
 pub fn candidate(t: &mut [[u64; 32]], x: &mut [u64; 864]) -> u64 {
     let mut row = [0u64; 32];
-    let number = board_candidate(t, x[RUNNER], x[RUNS], x[READING], &mut row);
+    let number = candidate_in(t, x, &mut row);
     keep(x, ROW, &row);
     number
 }
@@ -165,9 +181,13 @@ pub fn switch(x: &mut [u64; 864]) -> u64 {
     number
 }
 
+fn lengths_in(q: &[[u64; 5]; 270], answer: &mut [u64]) -> u64 {
+    board_lengths(q, answer)
+}
+
 pub fn lengths(q: &[[u64; 5]; 270], x: &mut [u64; 864]) -> u64 {
     let mut answer = [0u64; 3];
-    let number = board_lengths(q, &mut answer);
+    let number = lengths_in(q, &mut answer);
     keep(x, LENGTHS, &answer);
     number
 }

@@ -200,21 +200,33 @@ fn edges(x: &mut [u64; 864]) {
     }
 }
 
-fn legend(x: &mut [u64; 864]) {
-    x[ROLE] = plus(down(x[LANES]), 36);
-    x[SLICE] = plus(x[ROLE], 10);
+fn hooks(x: &[u64; 864]) {
     draw(
         x,
         b"<rect x='150' y='%r' width='14' height='12' fill='#2878b8'/><text x='169' y='%s'>hook A</text>\n<rect x='225' y='%r' width='14' height='12' fill='#e07b20'/><text x='244' y='%s'>hook B</text>\n",
     );
+}
+
+fn marks(x: &[u64; 864]) {
     draw(
         x,
         b"<rect x='300' y='%r' width='14' height='12' fill='#9a9a9a'/><text x='319' y='%s'>no hook</text>\n<path d='M390 %s l-5 -9 h10 z'/><text x='400' y='%s'>chosen by a selection</text>\n",
     );
+}
+
+fn edges_and_windows(x: &[u64; 864]) {
     draw(
         x,
         b"<rect x='540' y='%r' width='14' height='12' fill='#d04040' fill-opacity='0.13'/><text x='559' y='%s'>protected window</text>\n<path d='M682 %r v12' stroke='black' stroke-dasharray='5 3'/><text x='692' y='%s'>edge of a period; times in nanoseconds</text>\n",
     );
+}
+
+fn legend(x: &mut [u64; 864]) {
+    x[ROLE] = plus(down(x[LANES]), 36);
+    x[SLICE] = plus(x[ROLE], 10);
+    hooks(x);
+    marks(x);
+    edges_and_windows(x);
 }
 
 pub fn end(x: &mut [u64; 864]) {

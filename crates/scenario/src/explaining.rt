@@ -66,37 +66,73 @@ pub fn named(x: &mut [u64; 864]) {
     }
 }
 
-fn key(x: &mut [u64; 864]) {
-    if x[KEY] == 0 {
-        say(x, b"no key");
-        return;
-    }
-    show(x, KEY_MODE);
-    x[ITS_MODE] = x[KEY_MODE];
+fn no_key(x: &[u64; 864]) {
+    say(x, b"no key");
+}
+
+fn parts(x: &[u64; 864]) {
     say(
         x,
         b"$m, urgency %q, rank %r, then algorithm rank %s, algorithm %t:%u, band %v, turn %w",
     );
 }
 
-pub fn chosen(x: &mut [u64; 864]) {
+fn key(x: &mut [u64; 864]) {
+    if x[KEY] == 0 {
+        no_key(x);
+        return;
+    }
+    show(x, KEY_MODE);
+    x[ITS_MODE] = x[KEY_MODE];
+    parts(x);
+}
+
+fn name(x: &[u64; 864]) {
     say(x, b": %G, ");
-    key(x);
+}
+
+fn line_end(x: &[u64; 864]) {
     say(x, b"\n");
+}
+
+pub fn chosen(x: &mut [u64; 864]) {
+    name(x);
+    key(x);
+    line_end(x);
+}
+
+fn demand(x: &[u64; 864]) {
+    say(
+        x,
+        b"  demand: protected %p, fair %q, window sensitive %r, eligible budget %s, any budget %t; ",
+    );
+}
+
+fn no_pass(x: &[u64; 864]) {
+    say(x, b"no fair pass\n");
+}
+
+fn lowest(x: &[u64; 864]) {
+    say(x, b"lowest fair pass %v:%w\n");
 }
 
 // Demand and lowest pass.
 fn asked(x: &mut [u64; 864]) {
     show(x, DEMAND);
-    say(
-        x,
-        b"  demand: protected %p, fair %q, window sensitive %r, eligible budget %s, any budget %t; ",
-    );
+    demand(x);
     if x[LEAST_PASS] == 0 {
-        say(x, b"no fair pass\n");
+        no_pass(x);
         return;
     }
-    say(x, b"lowest fair pass %v:%w\n");
+    lowest(x);
+}
+
+fn no_epoch(x: &[u64; 864]) {
+    say(x, b"  window: no epoch, allowance left %v, floor left %w\n");
+}
+
+fn epoch(x: &[u64; 864]) {
+    say(x, b"  window: epoch %u, allowance left %v, floor left %w\n");
 }
 
 // Demand, lowest pass and window.
@@ -104,10 +140,10 @@ pub fn circumstances(x: &mut [u64; 864]) {
     asked(x);
     show(x, WINDOW_RANKS);
     if x[WINDOW_EPOCH] == 0 {
-        say(x, b"  window: no epoch, allowance left %v, floor left %w\n");
+        no_epoch(x);
         return;
     }
-    say(x, b"  window: epoch %u, allowance left %v, floor left %w\n");
+    epoch(x);
 }
 
 // The root of a tree; after the last tree the explanation ends.
@@ -198,16 +234,24 @@ pub fn if_any(x: &mut [u64; 864]) {
     }
 }
 
-pub fn head(x: &mut [u64; 864]) {
+fn tree(x: &[u64; 864]) {
     say(x, b"  tree of $k: %G (");
-    key(x);
+}
+
+fn closed(x: &[u64; 864]) {
     say(x, b")");
+}
+
+pub fn head(x: &mut [u64; 864]) {
+    tree(x);
+    key(x);
+    closed(x);
 }
 
 // The tree's line ends after its last thread.
 pub fn if_more(x: &mut [u64; 864]) {
     if x[CHOICE] == 0 {
-        say(x, b"\n");
+        line_end(x);
     }
     if_any(x);
 }

@@ -62,9 +62,9 @@ fn apart(x: &mut [u64; 864], letter: u8) -> u64 {
 
 fn told(x: &mut [u64; 864], letter: u8) {
     match letter {
-        b'.' => say(x, b": made\n"),
-        b',' => say(x, b": thread %t\n"),
-        b'=' => say(x, b": was %v\n"),
+        b'.' => answers::made(x),
+        b',' => answers::number(x),
+        b'=' => answers::former(x),
         b'?' => answers::expiry(x),
         b'!' => answers::choice(x),
         b':' => answers::deadline(x),
@@ -214,20 +214,32 @@ fn step(q: &mut [[u64; 5]; 270], t: &mut [[u64; 32]], x: &mut [u64; 864], refuse
     performed(q, &mut t[0..n], x, letter)
 }
 
+fn stopped(x: &[u64; 864]) {
+    say(x, b": stopped\n");
+}
+
+fn line_again(x: &[u64; 864]) {
+    say(x, b"line %l");
+}
+
+fn refused(x: &[u64; 864]) {
+    say(x, b": refused, $s (%s)\n");
+}
+
 // A refusal is named with its number; in a run its line is named again.
 fn end(x: &mut [u64; 864], number: u64) {
     if number == OVER {
         return;
     }
     if x[PLAYED] == CYCLE as u64 {
-        say(x, b"line %l");
+        line_again(x);
     }
     x[SLICE] = number;
     if number == 0 {
-        say(x, b": stopped\n");
+        stopped(x);
         return;
     }
-    say(x, b": refused, $s (%s)\n");
+    refused(x);
 }
 
 fn play(q: &mut [[u64; 5]; 270], t: &mut [[u64; 32]], x: &mut [u64; 864]) {

@@ -95,10 +95,14 @@ fn new_board(x: &mut [u64; 864], output: u64) {
     x[OUTPUT] = output;
 }
 
+fn new_queue(q: &mut [[u64; 5]; 270]) {
+    board_new(q);
+}
+
 fn lines(x: &mut [u64; 864], text: &[u8]) {
     let mut q = [[0u64; 5]; 270];
     let mut t = [[0u64; 32]; 4097];
-    board_new(&mut q);
+    new_queue(&mut q);
     let mut at: usize = 0;
     let mut left: usize = text.len();
     while 0 < left {
@@ -176,7 +180,10 @@ fn is_option(name: &[u8]) -> bool {
     if name[0] != DASH {
         return false;
     }
-    name[1] == DASH
+    if name[1] != DASH {
+        return false;
+    }
+    name[2] == 112
 }
 
 fn main() {

@@ -26,6 +26,9 @@ use crate::tables::place;
 use crate::tables::policy;
 use crate::tables::statement;
 
+// The word of the letter r.
+const LETTER_R: usize = 49;
+
 const NOBODY: u64 = 18_446_744_073_709_551_615;
 
 // Letters of patterns.
@@ -116,6 +119,15 @@ fn number(x: &mut [u64; 864], letter: u64, token: u64) {
     set(x, letter, word(x, NUMBERS, token));
 }
 
+// A role is named as a mode is; there is no strict and no borrowing one.
+fn role(x: &mut [u64; 864], letter: u64, token: u64) {
+    chosen(x, letter, MODE, token);
+    match x[LETTER_R] {
+        1 | 2 | 3 => {}
+        _ => malformed(x),
+    }
+}
+
 // `current` and a thread, or `hook` and a name.
 fn paired(x: &mut [u64; 864], letter: u64, token: u64) {
     chosen(x, letter, letter, token);
@@ -142,7 +154,7 @@ fn given(x: &mut [u64; 864], letter: u64, token: u64) {
     match letter {
         THREAD => thread(x, letter, token),
         CURRENT | HOOK => paired(x, letter, token),
-        ROLE => chosen(x, letter, MODE, token),
+        ROLE => role(x, letter, token),
         AT | BACKEND | END | FAIR | MODE | CHOICE => chosen(x, letter, letter, token),
         _ => number(x, letter, token),
     }
@@ -169,7 +181,7 @@ fn each(x: &mut [u64; 864]) {
     }
 }
 
-// A thread's name is new, and there is room for it; a strict or borrowing role there is not.
+// A thread's name is new, and there is room for it.
 fn declared(x: &mut [u64; 864]) {
     policy(x);
     x[NEXT] = 3;

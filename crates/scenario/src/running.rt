@@ -170,29 +170,53 @@ fn worked(x: &mut [u64; 864], length: u64) {
     }
 }
 
+fn no_key(x: &[u64; 864]) {
+    say(x, b"no key                -    -");
+}
+
+fn mode(x: &[u64; 864]) {
+    say(x, b"$16m%7q%5r");
+}
+
 fn why(x: &mut [u64; 864]) {
     if x[KEY] == 0 {
-        say(x, b"no key                -    -");
+        no_key(x);
         return;
     }
     x[MODE] = x[KEY_MODE];
     show(x, KEY_MODE);
     x[ITS_MODE] = x[KEY_MODE];
-    say(x, b"$16m%7q%5r");
+    mode(x);
+}
+
+fn who(x: &[u64; 864]) {
+    say(x, b"%9n  %16T");
+}
+
+fn how_long(x: &[u64; 864]) {
+    say(x, b"%10f");
+}
+
+fn no_deadline(x: &[u64; 864]) {
+    say(x, b"      none\n");
+}
+
+fn deadline(x: &[u64; 864]) {
+    say(x, b"%10k\n");
 }
 
 // A line: who runs from when, why, for how long, and until which deadline at the latest.
 fn line(x: &mut [u64; 864]) {
     let id = x[CURRENT];
-    say(x, b"%9n  %16T");
+    who(x);
     why(x);
-    say(x, b"%10f");
+    how_long(x);
     x[THREAD] = id;
     if x[SWITCHES] == 0 {
-        say(x, b"      none\n");
+        no_deadline(x);
         return;
     }
-    say(x, b"%10k\n");
+    deadline(x);
 }
 
 // A stretch: its line or its bar, and what is then charged.

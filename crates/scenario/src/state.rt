@@ -244,7 +244,7 @@ pub fn store(x: &mut [u64; 864], row: usize, k: u64, value: u64) {
     x[row + k as usize] = value;
 }
 
-// 32 words from each place up to the other become 0.
+// The words from one place up to another become 0.
 pub fn clear(x: &mut [u64; 864], from: usize, to: usize) {
     let mut i: usize = from;
     while i < to {

@@ -118,7 +118,7 @@ fn find(x: &mut [u64; 864], token: u64, row: usize, then: usize, table: &[u8]) {
     }
 }
 
-// Where this name, which is no line's, would be found first: the pattern and the script of a statement.
+// The pattern and the script of the statement that a word names; none where it names none.
 fn statement_in(x: &mut [u64; 864], token: u64, table: &[u8]) {
     clear(x, SOUGHT, OPTION);
     find(x, token, PATTERN, SCRIPT, table);

@@ -106,22 +106,47 @@ fn nth(list: &[u8], n: u64, width: u64) {
     pad(minus(width, count));
 }
 
+fn mode(n: u64, width: u64) {
+    nth(b"strict_FIFO priority protected ordinary borrow", n, width);
+}
+
+fn refusal(n: u64, width: u64) {
+    nth(
+        b"made Damaged BadState Already NoThread BadConfig BadBudget BackInTime TurnsSpent Halted BadTable BadRecord",
+        n,
+        width,
+    );
+}
+
+fn policy(n: u64) {
+    nth(b"FIFO fair budget_with_time_left budget_exhausted", n, 0);
+}
+
+fn role(n: u64) {
+    nth(b",_ordinary ,_priority ,_protected", n, 0);
+}
+
+fn tree(n: u64) {
+    policy(n / 3);
+    role(n % 3);
+}
+
+fn colour(n: u64, width: u64) {
+    nth(b"#9a9a9a #2878b8 #e07b20 #3a9a50", n, width);
+}
+
+fn is_so(n: u64, width: u64) {
+    nth(b"no yes", n, width);
+}
+
 // The lists of letters: m modes, s refusals, k trees, h colours of hooks, o yes or no.
 fn listed(letter: u64, n: u64, width: u64) {
     match letter {
-        109 => nth(b"strict_FIFO priority protected ordinary borrow", n, width),
-        115 => nth(
-            b"made Damaged BadState Already NoThread BadConfig BadBudget BackInTime TurnsSpent Halted BadTable BadRecord",
-            n,
-            width,
-        ),
-        107 => nth(
-            b"FIFO,_ordinary FIFO,_priority FIFO,_protected fair,_ordinary fair,_priority fair,_protected budget_with_time_left,_ordinary budget_with_time_left,_priority budget_with_time_left,_protected budget_exhausted,_ordinary budget_exhausted,_priority budget_exhausted,_protected",
-            n,
-            width,
-        ),
-        104 => nth(b"#9a9a9a #2878b8 #e07b20 #3a9a50", n, width),
-        _ => nth(b"no yes", n, width),
+        109 => mode(n, width),
+        115 => refusal(n, width),
+        107 => tree(n),
+        104 => colour(n, width),
+        _ => is_so(n, width),
     }
 }
 

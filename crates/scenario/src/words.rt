@@ -175,10 +175,14 @@ pub fn fair(x: &mut [u64; 864]) {
     x[REMAINING] = x[SLICE];
 }
 
+fn budget_in(x: &[u64; 864]) -> u64 {
+    let mut made = [0u64; 3];
+    budget_parameters_new(x[AMOUNT], x[PRIORITY], x[SLICE], &mut made)
+}
+
 // Full, and with no epoch yet.
 pub fn budget(x: &mut [u64; 864]) -> u64 {
-    let mut made = [0u64; 3];
-    let number = budget_parameters_new(x[AMOUNT], x[PRIORITY], x[SLICE], &mut made);
+    let number = budget_in(x);
     fresh(x, 2);
     x[HAS_BUDGET] = 1;
     x[BUDGET] = x[AMOUNT];
