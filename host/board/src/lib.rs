@@ -23,36 +23,42 @@ pub type SelectionWords = [u64; 19];
 // Each call takes plain numbers, arrays by address and slices by address and length; it keeps none of them and is total.
 
 /// `CpuRunQueue::new`
+#[inline]
 pub fn new(q: &mut QueueWords) -> u64 {
     // SAFETY: the address is that of the words.
     unsafe { board_new(q) }
 }
 
 /// `CpuRunQueue::enqueue`
+#[inline]
 pub fn enqueue(q: &mut QueueWords, t: &mut [Row], path: &mut Path, id: u64, cpu: u8) -> u64 {
     // SAFETY: addresses and count are those of what is lent.
     unsafe { board_enqueue(q, t.as_mut_ptr(), t.len(), path, id, cpu) }
 }
 
 /// `CpuRunQueue::enqueue_front`
+#[inline]
 pub fn enqueue_front(q: &mut QueueWords, t: &mut [Row], path: &mut Path, id: u64, cpu: u8) -> u64 {
     // SAFETY: addresses and count are those of what is lent.
     unsafe { board_enqueue_front(q, t.as_mut_ptr(), t.len(), path, id, cpu) }
 }
 
 /// `CpuRunQueue::remove`
+#[inline]
 pub fn remove(q: &mut QueueWords, t: &mut [Row], path: &mut Path, id: u64, cpu: u8) -> u64 {
     // SAFETY: addresses and count are those of what is lent.
     unsafe { board_remove(q, t.as_mut_ptr(), t.len(), path, id, cpu) }
 }
 
 /// `CpuRunQueue::real_time_len`, `fair_len` and `budget_len`, into three words.
+#[inline]
 pub fn lengths(q: &QueueWords, answer: &mut [u64]) -> u64 {
     // SAFETY: addresses and length are those of what is lent.
     unsafe { board_lengths(q, answer.as_mut_ptr(), answer.len()) }
 }
 
 /// `ArbitrationConfig::new`, then `CpuWindow::new`: a `WindowWords` of a `ConfigWords`.
+#[inline]
 pub fn window(window: &mut [u64], config: &[u64]) -> u64 {
     let (w, w_len) = (window.as_mut_ptr(), window.len());
     // SAFETY: addresses and lengths are those of what is lent.
@@ -61,6 +67,7 @@ pub fn window(window: &mut [u64], config: &[u64]) -> u64 {
 
 /// `CpuRunQueue::peek_next`: a `WindowWords`, a candidate's `Row` where `running` is not 0, and a `SelectionWords`.
 #[allow(clippy::too_many_arguments)]
+#[inline]
 pub fn select(
     q: &mut QueueWords,
     t: &mut [Row],
@@ -85,6 +92,7 @@ pub fn select(
 }
 
 /// `prepare_enqueue`, with the counters at the back and at the front.
+#[inline]
 pub fn prepare(t: &mut [Row], id: u64, front: u64, now_ns: u64, turns: &mut [u64]) -> u64 {
     let (c, c_len) = (turns.as_mut_ptr(), turns.len());
     // SAFETY: addresses, count and length are those of what is lent.
@@ -92,6 +100,7 @@ pub fn prepare(t: &mut [Row], id: u64, front: u64, now_ns: u64, turns: &mut [u64
 }
 
 /// `account_current` on a `WindowWords`.
+#[inline]
 pub fn account(t: &mut [Row], id: u64, window: &mut [u64], mode: u64, start: u64, end: u64) -> u64 {
     let (w, w_len) = (window.as_mut_ptr(), window.len());
     // SAFETY: addresses, count and length are those of what is lent.
@@ -99,6 +108,7 @@ pub fn account(t: &mut [Row], id: u64, window: &mut [u64], mode: u64, start: u64
 }
 
 /// `current_candidate`: a candidate's `Row`, which stays where the thread is not running.
+#[inline]
 pub fn candidate(t: &mut [Row], id: u64, running: u64, now_ns: u64, current: &mut [u64]) -> u64 {
     let (c, c_len) = (current.as_mut_ptr(), current.len());
     // SAFETY: addresses, count and length are those of what is lent.
@@ -106,18 +116,21 @@ pub fn candidate(t: &mut [Row], id: u64, running: u64, now_ns: u64, current: &mu
 }
 
 /// `expired`, into one word.
+#[inline]
 pub fn expired(t: &[Row], id: u64, answer: &mut [u64]) -> u64 {
     // SAFETY: addresses, count and length are those of what is lent.
     unsafe { board_expired(t.as_ptr(), t.len(), id, answer.as_mut_ptr(), answer.len()) }
 }
 
 /// `finish_turn`
+#[inline]
 pub fn finish(t: &mut [Row], id: u64) -> u64 {
     // SAFETY: address and count are those of what is lent.
     unsafe { board_finish(t.as_mut_ptr(), t.len(), id) }
 }
 
 /// `candidate_key`: the `KeyWords` of a candidate's `Row` under a `DemandWords`, by a `WindowWords`.
+#[inline]
 pub fn key(
     window: &mut [u64],
     now_ns: u64,
@@ -134,6 +147,7 @@ pub fn key(
 }
 
 /// The switch rule of `choose_ready` on two `KeyWords` and the current thread's `Row`: whether to switch and whether the current thread then goes to the front, into two words.
+#[inline]
 pub fn switch(
     ready: &[u64],
     key: &[u64],
@@ -157,6 +171,7 @@ pub fn switch(
 
 /// `refresh_deadline` with the current thread's `KeyWords`, a `WindowWords` and a `DemandWords`: whether there is a deadline, and when, into two words.
 #[allow(clippy::too_many_arguments)]
+#[inline]
 pub fn deadline(
     t: &mut [Row],
     id: u64,
