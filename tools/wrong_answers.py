@@ -140,14 +140,19 @@ def put_in(crate, changes):
     return None
 
 
-def tried(crate, one):
-    """One round on the copy: how many are refused, and those that are not."""
+def put_back(crate):
+    """The crate as it is, in the copy."""
     for part in ['src', 'specs']:
         shutil.rmtree(f'{COPY}/crates/{crate}/{part}', ignore_errors=True)
         if os.path.exists(f'crates/{crate}/{part}'):
             shutil.copytree(f'crates/{crate}/{part}', f'{COPY}/crates/{crate}/{part}')
+
+
+def tried(crate, one):
+    """One round on the copy: how many are refused, and those that are not."""
     bad = {answer[0]: put_in(crate, answer[2]) for answer in one}
     ran = subprocess.run(['rt', 'dev', crate], cwd=COPY, capture_output=True, text=True)
+    put_back(crate)
     said = ran.stdout + ran.stderr
     failed = unproved(said) if 'logic=' in said else set()
     wrong = [(f, w, bad[f] or ('' if 'logic=' in said else said[:300])) for f, w, _ in one if bad[f] or f'{crate}::{f}' not in failed]
@@ -156,11 +161,13 @@ def tried(crate, one):
 
 def try_by_hand(crates):
     refused, others = 0, 0
+    shutil.rmtree(f'{COPY}/crates', ignore_errors=True)
     os.makedirs(COPY, exist_ok=True)
     for part in ['crates', 'crates.txt']:
         subprocess.run(['cp', '-r', part, COPY], check=True)
     os.makedirs(f'{COPY}/target', exist_ok=True)
     for part in ['rlib', 'stamp']:
+        shutil.rmtree(f'{COPY}/target/{part}', ignore_errors=True)
         subprocess.run(['cp', '-r', f'target/{part}', f'{COPY}/target'], check=True)
     for crate in crates:
         for number, one in enumerate(rounds(crate, by_hand(crate))):
