@@ -33,7 +33,7 @@ fn policy_words(policy: Policy) -> [u64; 2] {
     }
 }
 
-/// The layout of crates/selection_entries/specs/SelectionWords.antt.
+/// The layout of crates/board_words/specs/BoardWords.antt.
 fn selection_words(selection: &Selection) -> [u64; 19] {
     let mut words = [0; 19];
     if let Some(ready) = &selection.ready {
