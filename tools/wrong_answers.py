@@ -18,10 +18,10 @@ import sys
 
 PAGE = 'docs/WRONG-ANSWERS.md'
 COPY = 'target/wrong-answers'
-HEAD = """# Wrong answers that the contracts rule out, each tried
+HEAD = """# Wrong answers that the contracts rule out
 
 Written by `python3 tools/wrong_answers.py --list`. Each wrong answer is put into a copy of its crate, and the prover must refuse it: of a function, that this function is not proved, by itself and not only because it calls another that is not; of a definition or a promise, that the crate is not
-proved. Those with an edit's name are tried by the gate (crates/NAME/must-fail), the others by hand (crates/NAME/wrong-answers, `python3 tools/wrong_answers.py --try NAME`).
+proved. Those with an edit's name are tried by the gate each time (crates/NAME/must-fail). The others stand in crates/NAME/wrong-answers and are tried by hand, `python3 tools/wrong_answers.py --try NAME`; docs/GUARANTEES.md says of which crates that was done for the list as it stands.
 """
 
 
