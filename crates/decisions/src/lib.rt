@@ -5,9 +5,7 @@ mod taking;
 
 pub use own::borrows;
 pub use own::budget_expiry;
-pub use own::own_deadline;
 pub use switching::choose_ready;
-pub use switching::is_spent;
 pub use switching::mode_of;
 pub use taking::turn_for;
 ghost use mathlib.Core.Path.{_≡_};

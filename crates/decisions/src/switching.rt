@@ -1,10 +1,9 @@
 // The switch rule. After `choose_ready`: what it reads of the current thread and of the selection comes as arguments, and ending a turn is its own call.
 ghost use mathlib.Core.Path.{_≡_};
-ghost use Rattle.decisions.specs.Switch.{spent, compareRanks, compareBands, compareAlgorithms, lesser, fifoSwitches, fairSwitches, switchesAmong, switchesBelow, switches, shouldSwitch, goesToFront, chooseReady, modeOf};
+ghost use Rattle.decisions.specs.Switch.{compareRanks, compareBands, compareAlgorithms, lesser, fifoSwitches, fairSwitches, switchesAmong, switchesBelow, switches, shouldSwitch, goesToFront, chooseReady, modeOf};
 use crate::Choice;
 use crate::ModeOption;
 use crate::ReadyKey;
-use algorithms::PolicyRuntime;
 use arbitration::KeyOption;
 use dispatch_keys::DispatchKey;
 use dispatch_keys::compare_keys;
@@ -12,28 +11,6 @@ use order::Ordering;
 use policy::FairBackend;
 use policy::SchedulingParameters;
 use policy::SchedulingPolicy;
-
-// `expired` of the current thread: a fair thread's slice or a budget's burst is spent.
-pub fn is_spent(runtime: PolicyRuntime) -> bool
-    ensures { λ r. ⌜ r ≡ spent runtime ⌝ }
-{
-    match runtime {
-        PolicyRuntime::Fifo => false,
-        PolicyRuntime::Fair(fair) => {
-            if fair.remaining_ns == 0 {
-                return true;
-            }
-            false
-        }
-        PolicyRuntime::Budget(budget) => {
-            if budget.burst_remaining_ns == 0 {
-                return true;
-            }
-            false
-        }
-        PolicyRuntime::Idle => false,
-    }
-}
 
 // Rank and algorithm rank.
 fn compare_ranks(a: DispatchKey, b: DispatchKey) -> Ordering
@@ -222,7 +199,7 @@ fn goes_to_front(expired: bool, yielding: bool) -> bool
     !yielding
 }
 
-// The switch rule: `tail` is the deferred placement Tail, `expired` what `is_spent` answers of its runtime.
+// The switch rule: `tail` is the deferred placement Tail, `expired` whether its slice or burst is spent.
 pub fn choose_ready(
     ready: ReadyKey,
     current: KeyOption,

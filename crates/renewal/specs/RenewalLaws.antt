@@ -7,7 +7,7 @@ use mathlib.Core.Bool.{Bool, true, false}
 use mathlib.Core.List.{List, [], _∷_}
 use lib.Dec.{eqb}
 use lib.ListN.{length, length-map, getD, set}
-use borrow.Author.Tests.{eq-eqb, ne-eqb}
+use borrow.Author.Tests.{eq-eqb, ne-eqb, eqb-true}
 use Rattle.refusal.specs.Answer.{Answer, value, refused, numberOf}
 use Rattle.refusal.specs.declared.Refusal.{Refusal}
 use Rattle.refusal.specs.Cases.{choose, given, ifEqual}
@@ -18,12 +18,15 @@ use Rattle.policy.specs.declared.BudgetOption.the-variants as budget
 use Rattle.policy.specs.declared.BudgetParameters.{BudgetParameters}
 use Rattle.policy.specs.declared.SchedulingParameters.{SchedulingParameters}
 use Rattle.policy.specs.PolicyCases.{onBudget}
-use Rattle.codec.specs.Codec.{word, budgetFrom, parametersOf, runtimeOf, decoded}
+use Rattle.policy.specs.Budget.{soundBudget}
+use Rattle.budget.specs.Runtime.{judged, refreshedJudged}
+use Rattle.codec.specs.Codec.{word, budgetFrom, epochFrom, runtimeFrom, parametersOf, runtimeOf, decoded}
 use Rattle.algorithms.specs.declared.PolicyRuntime.{PolicyRuntime}
+use Rattle.algorithms.specs.declared.PolicyRuntime.the-variants as policy
 use Rattle.algorithms.specs.declared.RuntimeAnswer.{RuntimeAnswer}
 use Rattle.algorithms.specs.declared.RuntimeAnswer.the-variants as runtime
 use Rattle.algorithms.specs.Answers.{runtimeAnswer}
-use Rattle.algorithms.specs.Runtime.{epochRefreshed}
+use Rattle.algorithms.specs.Runtime.{onRuntime, ofBudget, epochRefreshed}
 use Rattle.thread.specs.declared.Link.{Link}
 use Rattle.thread.specs.declared.Link.the-variants as link
 use Rattle.thread.specs.declared.ThreadRecord.{ThreadRecord}
@@ -35,6 +38,7 @@ use Rattle.rows.specs.declared.RecordRead.the-variants as read
 use Rattle.rows.specs.Table.{Out, out, after, table, recordOf, recordAt, setRuntime}
 use Rattle.rows.specs.TableCases.{onRecord}
 use Rattle.rows.specs.TableLaws.{record-within, record-got-within, record-set-runtime-same}
+use Rattle.rows.specs.RowTableLaws.{record-inside}
 use Rattle.lists.specs.Lists.{onAnswer, onOut}
 use Rattle.ready_index.specs.declared.Least.{Least}
 use Rattle.ready_index.specs.declared.Least.the-variants as least
@@ -57,6 +61,7 @@ use Rattle.queue.specs.declared.Verdict.{Verdict}
 use Rattle.queue.specs.declared.Verdict.the-variants as verdict
 use Rattle.queue.specs.Answers.{verdictAnswer}
 use Rattle.queue.specs.Queue.{emptyRoot}
+use Rattle.queue.specs.RowJudgement.{kindFrom, badRow, judged-by-tags}
 use Rattle.renewal.specs.RootRows.{rootsOf}
 use Rattle.renewal.specs.Renewal.{leastLink, headOf, refreshRecord, refreshRuntime, budgetTrees, moveOne, moveAll, rootAt, withTrees, renewRoles, isEpoch, isHalt}
 use Rattle.renewal.specs.Steps.{refreshedStored, budgetRefreshed, rowRefreshed, runtimeRefreshed, refiled, Next, emptied, moved, stopped, onNext, nextMove, lastMove, roleRenewed}
@@ -137,6 +142,104 @@ module _ {B : Type 0} {y : B} {r : Moved} (g : ℕ → BudgetTrees → B) (f : U
   move-refused m h = rw m h
 
 pub ruleset renewing = (least-none, least-some, least-damaged, head-found, head-damaged, runtime-fresh, runtime-refused, was-accepted, was-turned-down, stored-after, no-budget-row, some-budget-row, row-fresh, move-done, move-refused)
+
+-- A row whose policy and runtime have the same tag has one kind; of a kind it is not a budget's unless the tag is 2.
+kind-of-two : (tag : ℕ) → kindFrom tag ≡ 2 → tag ≡ 2
+unfolding kindFrom ifEqual choose
+kind-of-two tag = go (eqb tag 0) (eqb tag 1) (eqb tag 2) refl
+  where
+    go : (a b c : Bool) → eqb tag 2 ≡ c → _≡_ {A = ℕ} (choose a 0 (choose b 1 (choose c 2 3))) 2 → tag ≡ 2
+    go true b c m e = absurd (omega arith)
+    go false true c m e = absurd (omega arith)
+    go false false true m e = eqb-true tag 2 m
+    go false false false m e = absurd (omega arith)
+
+abbrev budgetOf : List ℕ → BudgetParameters
+budgetOf w = record { «budget_ns» = word w 8; «period_ns» = word w 9; «burst_ns» = word w 10 }
+
+module _ (w : List ℕ) where
+  plain-row : word w 11 ≡ word w 0 → (word w 11 ≡ 2 → ⊥) → isBadRecord (decoded w) ≡ ifEqual (word w 7) 0 false true
+  unfolding badRow given ifEqual choose
+  plain-row e n =
+      sym (judged-by-tags w refl)
+      ∙ rw (sym e, eq-eqb (kindFrom (word w 11)) (kindFrom (word w 11)) refl, ne-eqb (kindFrom (word w 11)) 2 (λ q. n (kind-of-two (word w 11) q)))
+
+  budget-row : word w 11 ≡ word w 0 → word w 11 ≡ 2 → isBadRecord (decoded w) ≡ ifEqual (word w 7) 0 true (choose (soundBudget (budgetOf w)) false true)
+  unfolding badRow kindFrom given ifEqual choose
+  budget-row e m = sym (judged-by-tags w refl) ∙ rw (sym e, m)
+
+  no-budget : word w 7 ≡ 0 → decoded w .parameters .budget ≡ budget.None
+  unfolding decoded parametersOf budgetFrom ifEqual choose
+  no-budget n = rw (eq-eqb (word w 7) 0 n)
+
+  some-budget : (word w 7 ≡ 0 → ⊥) → decoded w .parameters .budget ≡ budget.Some (budgetOf w)
+  unfolding decoded parametersOf budgetFrom ifEqual choose
+  some-budget n = rw (ne-eqb (word w 7) 0 n)
+
+  budget-runs : word w 11 ≡ 2 → decoded w .runtime ≡ policy.Budget (record { epoch = epochFrom (word w 12) (word w 13); «remaining_ns» = word w 14; «burst_remaining_ns» = word w 15 })
+  unfolding decoded runtimeOf runtimeFrom ifEqual choose given
+  budget-runs m = rw m
+
+  -- Two different tags of one kind are not a budget's.
+  other-tags : (word w 11 ≡ word w 0 → ⊥) → isBadRecord (decoded w) ≡ false → word w 7 ≡ 0
+  unfolding badRow given ifEqual choose
+  other-tags d good = go (eqb (kindFrom (word w 11)) (kindFrom (word w 0))) (eqb (kindFrom (word w 0)) 2) (eqb (word w 7) 0) (soundBudget (budgetOf w)) refl refl refl (judged-by-tags w refl ∙ good)
+    where
+      go : (same two none sound : Bool) → eqb (kindFrom (word w 11)) (kindFrom (word w 0)) ≡ same → eqb (kindFrom (word w 0)) 2 ≡ two → eqb (word w 7) 0 ≡ none
+          → choose same (choose two (choose none true (choose sound false true)) (choose none false true)) true ≡ false → word w 7 ≡ 0
+      go true true none sound e₁ e₂ e₃ h =
+          absurd (d (kind-of-two (word w 11) (eqb-true (kindFrom (word w 11)) (kindFrom (word w 0)) e₁ ∙ eqb-true (kindFrom (word w 0)) 2 e₂) ∙ sym (kind-of-two (word w 0) (eqb-true (kindFrom (word w 0)) 2 e₂))))
+      go true false true sound e₁ e₂ e₃ h = eqb-true (word w 7) 0 e₃
+      go true false false sound e₁ e₂ e₃ h = absurd (let z : _≡_ {A = ℕ} 0 1 = cc in omega arith)
+      go false two none sound e₁ e₂ e₃ h = absurd (let z : _≡_ {A = ℕ} 0 1 = cc in omega arith)
+
+  -- A budget that is not sound is refused by its refresh.
+  unsound : (t : List ThreadRecord) (id now : ℕ) → recordAt t id ≡ read.Got (decoded w) → (word w 7 ≡ 0 → ⊥) → word w 11 ≡ 2 → soundBudget (budgetOf w) ≡ false → budgetRefreshed t id now ≡ out (refused 11) t
+  unfolding budgetRefreshed refreshedStored given onRecord epochRefreshed onRuntime onBudget refreshedJudged judged ofBudget choose onAnswer
+  unsound t id now got n m s = rw (got, budget-runs m, some-budget n, s)
+
+-- A row's record judged and refreshed, by the tags.
+module _ {y : Out (Answer (Unit {0}))} (t : List ThreadRecord) (id : ℕ) (w : List ℕ) (now : ℕ) where
+  pub row-without-budget : word w 11 ≡ word w 0 → word w 7 ≡ 0 → word w 11 ≡ 2 → y ≡ out (refused 11) t → y ≡ rowRefreshed t id (decoded w) now
+  unfolding rowRefreshed ifEqual choose
+  row-without-budget e n m h = rw (budget-row w e m, eq-eqb (word w 7) 0 n) h
+
+  pub row-plain : word w 11 ≡ word w 0 → word w 7 ≡ 0 → (word w 11 ≡ 2 → ⊥) → y ≡ out (value tt) t → y ≡ rowRefreshed t id (decoded w) now
+  unfolding rowRefreshed ifEqual choose onBudget
+  row-plain e n m h = rw (plain-row w e m, eq-eqb (word w 7) 0 n, no-budget w n) h
+
+  row-budget : recordAt t id ≡ read.Got (decoded w) → word w 11 ≡ word w 0 → (word w 7 ≡ 0 → ⊥) → word w 11 ≡ 2 → y ≡ budgetRefreshed t id now → y ≡ rowRefreshed t id (decoded w) now
+  unfolding rowRefreshed ifEqual choose onBudget
+  row-budget got e n m h =
+      h ∙ go (soundBudget (budgetOf w)) refl
+      ∙ sym
+      (ap (λ q. choose (isBadRecord (decoded w)) (out (refused 11) t) (onBudget q (out (value tt) t) (λ b. budgetRefreshed t id now))) (some-budget w n)
+      ∙ ap (λ bad. choose bad (out (refused 11) t) (budgetRefreshed t id now)) judged-bad)
+    where
+      judged-bad : isBadRecord (decoded w) ≡ choose (soundBudget (budgetOf w)) false true
+      judged-bad = budget-row w e m ∙ rw (ne-eqb (word w 7) 0 n)
+
+      go : (s : Bool) → soundBudget (budgetOf w) ≡ s → budgetRefreshed t id now ≡ choose (choose s false true) (out (refused 11) t) (budgetRefreshed t id now)
+      go true k = refl
+      go false k = unsound w t id now got n m k
+
+  pub row-strange : word w 11 ≡ word w 0 → (word w 7 ≡ 0 → ⊥) → (word w 11 ≡ 2 → ⊥) → y ≡ out (refused 11) t → y ≡ rowRefreshed t id (decoded w) now
+  unfolding rowRefreshed ifEqual choose
+  row-strange e n m h = rw (plain-row w e m, ne-eqb (word w 7) 0 n) h
+
+  pub row-bad : {b : Bool} → b ≡ isBadRecord (decoded w) → b ≡ true → y ≡ out (refused 11) t → y ≡ rowRefreshed t id (decoded w) now
+  unfolding rowRefreshed choose
+  row-bad e m h = rw (sym e ∙ m) h
+
+  pub row-idle : {b : Bool} → (word w 11 ≡ word w 0 → ⊥) → b ≡ isBadRecord (decoded w) → b ≡ false → y ≡ out (value tt) t → y ≡ rowRefreshed t id (decoded w) now
+  unfolding rowRefreshed choose onBudget
+  row-idle d e m h = rw (sym e ∙ m, no-budget w (other-tags w d (sym e ∙ m))) h
+
+pub row-budget-inside : {y : Out (Answer (Unit {0}))} (rows : List (List ℕ)) (id now : ℕ) → id < length rows → word (getD rows id []) 11 ≡ word (getD rows id []) 0
+    → (word (getD rows id []) 7 ≡ 0 → ⊥) → word (getD rows id []) 11 ≡ 2 → y ≡ budgetRefreshed (table rows) id now → y ≡ rowRefreshed (table rows) id (decoded (getD rows id [])) now
+row-budget-inside rows id now l = row-budget (table rows) id (getD rows id []) now (sym (record-inside rows id l refl))
+
+pub ruleset by-tags = (row-without-budget, row-plain, row-budget-inside, row-strange, row-bad, row-idle)
 
 -- A record that was read is, once refreshed, what then stands in the table.
 module _ (t : List ThreadRecord) (id now : ℕ) {r : ThreadRecord} (got : recordAt t id ≡ read.Got r) where

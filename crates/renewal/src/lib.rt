@@ -8,7 +8,8 @@ pub use roots::store_roots;
 ghost use Prim.Native.Nat.{_<_};
 ghost use mathlib.Core.Bool.{true, false};
 ghost use mathlib.Core.Path.{_≡_};
-ghost use lib.ListN.{length};
+ghost use mathlib.Core.List.{[]};
+ghost use lib.ListN.{length, getD};
 ghost use Rattle.refusal.specs.Answer.{numberOf};
 ghost use Rattle.refusal.specs.Cases.{choose};
 ghost use Rattle.algorithms.specs.Answers.{runtimeAnswer};
@@ -136,13 +137,38 @@ pub fn refresh_row(t: &mut [[u64; 32]], id: u64, row: [u64; 32], reading: u64) -
     refresh_budget(t, id, reading)
 }
 
+// The same where the record is a budget's, as in a move: where policy and runtime have the same tag, three words decide, and a budget is judged by its refresh.
+fn refresh_at(t: &mut [[u64; 32]], id: u64, reading: u64) -> Verdict
+    requires { ⌜ id < length (now t) ⌝ }
+    ensures { λ r. ⌜ out (verdictAnswer r) (table (now (t .exit))) ≡ steps.rowRefreshed (table (now (t .entry))) id (decoded (getD (now (t .entry)) id [])) reading ⌝ }
+{
+    let k = id as usize;
+    let tag = t[k][11];
+    if tag == t[k][0] {
+        if t[k][7] == 0 {
+            if tag == 2 {
+                return Verdict::Refused(Refusal::BadRecord);
+            }
+            return Verdict::Accepted;
+        }
+        if tag == 2 {
+            return refresh_budget(t, id, reading);
+        }
+        return Verdict::Refused(Refusal::BadRecord);
+    }
+    let row = t[k];
+    if is_bad_row(row) {
+        return Verdict::Refused(Refusal::BadRecord);
+    }
+    Verdict::Accepted
+}
+
 fn refresh_runtime(t: &mut [[u64; 32]], id: u64, reading: u64) -> Verdict
     ensures { λ r. ⌜ out (verdictAnswer r) (table (now (t .exit))) ≡ steps.runtimeRefreshed (table (now (t .entry))) id reading ⌝ }
 {
     let k = id as usize;
     if k < t.len() {
-        let row = t[k];
-        return refresh_row(t, id, row, reading);
+        return refresh_at(t, id, reading);
     }
     Verdict::Refused(Refusal::Damaged)
 }

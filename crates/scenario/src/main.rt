@@ -32,8 +32,6 @@ const STDOUT: i32 = 1;
 
 const NEW_LINE: u8 = 10;
 
-const DASH: u8 = 45;
-
 const HALF: u64 = 9_223_372_036_854_775_808;
 
 const NOBODY: u64 = 18_446_744_073_709_551_615;
@@ -165,25 +163,25 @@ fn input() {
 fn argument(i: usize, drawn: bool) -> bool {
     let mut name = io::buffer();
     let n = os::arg(i, &mut name);
-    if is_option(&name[..n]) {
+    if is_word(&name[..n], b"--picture") {
         return true;
     }
     file(&name[..n], drawn);
     false
 }
 
-// --picture
-fn is_option(name: &[u8]) -> bool {
-    if name.len() != 9 {
+fn is_word(name: &[u8], word: &[u8]) -> bool {
+    if name.len() != word.len() {
         return false;
     }
-    if name[0] != DASH {
-        return false;
+    let mut i: usize = 0;
+    while i < name.len() {
+        if name[i] != word[i] {
+            return false;
+        }
+        i += 1;
     }
-    if name[1] != DASH {
-        return false;
-    }
-    name[2] == 112
+    true
 }
 
 fn main() {

@@ -9,6 +9,7 @@ use crate::state::clear;
 use crate::state::minus;
 use crate::state::more;
 use crate::state::store;
+use crate::state::wide;
 
 // Of a line: how many words it has, where the next one to match is, where the first starts and the last ends, whether it is malformed, and whether the rest is a comment.
 pub const COUNT: usize = 640;
@@ -59,7 +60,7 @@ pub fn longer(half: u64, byte: u64) -> u64 {
     half * 256 + byte % 256
 }
 
-fn is_digit(byte: u64) -> bool {
+pub fn is_digit(byte: u64) -> bool {
     if byte < 48 {
         return false;
     }
@@ -164,10 +165,6 @@ fn read(x: &mut [u64; 864], byte: u64, at: u64) {
         return;
     }
     letter(x, byte, at);
-}
-
-fn wide(byte: u8) -> u64 {
-    byte as u64
 }
 
 fn each(x: &mut [u64; 864], words: &[u8]) {

@@ -222,6 +222,10 @@ pub fn least(a: u64, b: u64) -> u64 {
     b
 }
 
+pub fn wide(byte: u8) -> u64 {
+    byte as u64
+}
+
 // The k-th word of 32, or 0 where there is none.
 pub fn word(x: &[u64; 864], row: usize, k: u64) -> u64 {
     if 31 < k {

@@ -14,6 +14,7 @@ use crate::state::WORDS_END;
 use crate::state::clear;
 use crate::state::more;
 use crate::state::store;
+use crate::state::wide;
 use crate::state::word;
 
 // Which of the three is read; a name's halves and how long it is; whether the name is found, 2 once its words are over; how many letters of a word are stored.
@@ -104,10 +105,6 @@ fn passed(x: &mut [u64; 864], token: u64, row: usize, then: usize, byte: u64) {
         return;
     }
     kept(x, then, byte);
-}
-
-fn wide(byte: u8) -> u64 {
-    byte as u64
 }
 
 fn find(x: &mut [u64; 864], token: u64, row: usize, then: usize, table: &[u8]) {

@@ -1,6 +1,7 @@
 // Templates. %a is the number of the letter a, %A the name of the thread whose number that is, $a the letter's word in a list; a number before the letter is the width.
 use crate::reading::FIRST;
 use crate::reading::LAST;
+use crate::reading::is_digit;
 use crate::state::LETTERS;
 use crate::state::NAMES;
 use crate::state::NAMES_END;
@@ -11,6 +12,7 @@ use crate::state::THREADS;
 use crate::state::minus;
 use crate::state::more;
 use crate::state::plus;
+use crate::state::wide;
 use crate::state::word;
 
 const STDOUT: i32 = 1;
@@ -25,10 +27,6 @@ const PERCENT: u64 = 37;
 const DOLLAR: u64 = 36;
 
 const UNDERLINE: u64 = 95;
-
-fn wide(byte: u8) -> u64 {
-    byte as u64
-}
 
 // A byte; an underline stands for a space.
 fn byte(b: u64) {
@@ -161,13 +159,6 @@ fn letter(x: &[u64; 864], escape: u64, b: u64, width: u64) {
         return;
     }
     number(word(x, LETTERS, at), width);
-}
-
-fn is_digit(b: u64) -> bool {
-    if b < 48 {
-        return false;
-    }
-    b < 58
 }
 
 fn is_escape(b: u64) -> bool {

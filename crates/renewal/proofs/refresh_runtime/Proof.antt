@@ -1,4 +1,4 @@
--- The row is read, then refreshed.
+-- The record is there, or not.
 use Rattle.lists.specs.ListsLaws.{row-inside, row-outside}
 use Rattle.renewal.specs.Steps.{runtimeRefreshed}
 use borrow.Author.Needs.{needs}
@@ -10,8 +10,6 @@ unfolding runtimeRefreshed
 refresh-runtime-spec =
     tie.close
     (tie.spec
-    (λ c. search needs)
-    (λ c. search needs)
     (λ c κs. search needs)
     (λ c. search needs)
     (λ c. search (row-inside, row-outside) depth 8)
