@@ -1,14 +1,16 @@
 #!/usr/bin/env python3
-"""tools/wrong_answers.py [--list | --check | --try NAME..], from the repository's root: the wrong answers that the contracts rule out, and whether each is refused where it is put.
+"""tools/wrong_answers.py [--list | --check [NAME..] | --try [NAME..] | --shape [NAME..]], from the repository's root: the wrong answers that the contracts rule out, and whether each is refused where it is put.
 
 A wrong answer is a line `# fn PATH: the wrong answer in words` with the `file:`, `old:` and `new:` lines below it that put it into the function PATH of a crate. They stand
 - in crates/NAME/must-fail/*.edit, which `rt ci` tries. Several share one edit and so one check of the crate, where no edited function calls another. An edit without such a line changes a definition or a promise, and is
   judged whole by rt; its first line says the wrong answer.
-- in crates/NAME/wrong-answers, any number of them, which --try puts in, as many at once as do not touch each other, and asks `rt dev` of a copy of the repository under target/wrong-answers.
-The check says of each function whether it is proved: the named one must not be, by itself and not only because it calls another that is not.
+- in crates/NAME/wrong-answers, any number of them, which --try puts in, as many at once as do not touch each other, and asks `rt dev` of a copy of the repository under target/wrong-answers. There the old text need stand once in the named function only.
+The check says of each function whether it is proved: the named one must not be, by itself and not only because it calls another that is not. That it is a fact that fails and not the form of the proof is asked in two ways: what the check says of
+the proof must be that a fact was not found; and where a proof is written for the function, the edited function must take the same steps in the same order (STEPS, by its MIR), so that it leaves the same list of things to prove and the proof
+still fits it: --shape asks this alone, in a second a round. Where none is written, the check finds the proof by itself, whatever the shape. The log of each round of --try is kept below target/wrong-answers/said.
 
 With no word, after `rt ci` or `rt must-fail`: the logs are looked at; the last line is 'N wrong answers refused, 0 not', and the exit status is 0 then; so it is with --try. --list writes docs/WRONG-ANSWERS.md,
---check asks whether that page is current."""
+--check asks whether that page is current and has two wrong answers or more for each public function; `--check NAME..` asks the second alone, of these crates."""
 import glob
 import os
 import re
@@ -18,6 +20,8 @@ import sys
 
 PAGE = 'docs/WRONG-ANSWERS.md'
 COPY = 'target/wrong-answers'
+# The library of the programs' text, whose functions are proved to be safe and to end, and promise nothing else.
+WITHOUT_CONTRACTS = ['steps']
 HEAD = """# Wrong answers that the contracts rule out
 
 Written by `python3 tools/wrong_answers.py --list`. Each wrong answer is put into a copy of its crate, and the prover must refuse it: of a function, that this function is not proved, by itself and not only because it calls another that is not; of a definition or a promise, that the crate is not
@@ -60,6 +64,48 @@ def unproved(said):
     return set(re.findall(r'^fn (\S+): (?:not proved$|no proof\b)', said, re.MULTILINE))
 
 
+# What the check says where a fact is not found: by a search whose goal is a statement, by arithmetic, by rewriting, by congruence, by an equation whose ends are others; or of a function whose proof it looks for by itself.
+FACTS = re.compile(
+    r'`search`: no proof of `[^`]*(?:Post|Path|≡|<|≤)|`omega`: the goal does not follow|`rw` has no last argument, so what it leaves must be a path whose two ends are equal|`cc` (?!proves only)'
+    r'|the two values first differ|the two types are `Path |`search` does not close'
+)
+
+
+def faults(said, crate, function):
+    """What the check says of a function's proof, an entry a place, with the lines that belong to it."""
+    place = re.escape(f'crates/{crate}/proofs/{function.replace("::", "/")}/')
+    told = re.findall(rf'^\S*{place}\w+\.antt:\d+:\d+: error: (.*(?:\n  .*)*)', said, re.MULTILINE)
+    return told + re.findall(rf'^fn {crate}::{function}: (no proof: .*)', said, re.MULTILINE)
+
+
+def why_not(said, crate, function):
+    """Why a wrong answer does not count as refused; nothing where it does."""
+    if f'{crate}::{function}' not in unproved(said):
+        return 'NOT REFUSED there'
+    told = faults(said, crate, function)
+    form = [fault for fault in told if not FACTS.search(fault)]
+    return 'refused for the form of its proof: ' + ' '.join(form)[:400] if form or not told else None
+
+
+def has_proof(crate, function):
+    return os.path.exists(f'crates/{crate}/proofs/{function.replace("::", "/")}/Proof.antt')
+
+
+# What makes a thing to prove: a call, a branch and its arms, a loop, a return, an index, arithmetic that may not fit. Which function is called, what is compared and which values go in does not.
+STEPS = re.compile(r'\((call|if|switch|arm|loop|block|exit)\b|\b(return)\b|op2 \(?(offset|add|sub|mul|div|rem)\b|op1 \((cast)\b')
+
+
+def shapes(crate):
+    """The steps of each function of the copy's crate, in order, from its MIR."""
+    ran = subprocess.run(['rt', 'mir', crate], cwd=COPY, capture_output=True, text=True)
+    found = {}
+    for part in ran.stdout.split('(fn-def "')[1:]:
+        name, body = part.split('"', 1)
+        steps = [next(word for word in step.groups() if word) for step in STEPS.finditer(body)]
+        found[name] = ' '.join('quotient' if step in ('div', 'rem') else step for step in steps)
+    return found if found else sys.exit(ran.stdout[-300:] + ran.stderr)
+
+
 def page():
     rows = {}
     for _, crate, label, answers in edits():
@@ -76,8 +122,41 @@ def page():
     return text
 
 
-def verdict(refused, others):
-    print(f'{refused} wrong answers refused, {others} not')
+def public(crate):
+    """The public functions of a library that have a contract to rule anything out, as the check names them: of the root file, of types, exported to C, or shown by the root file's `pub use`."""
+    root = f'crates/{crate}/src/lib.rt'
+    if not os.path.exists(root) or crate in WITHOUT_CONTRACTS:
+        return []
+    with open(root) as text:
+        shown = set(re.findall(r'^pub use (\w+)::(\w+);', text.read(), re.MULTILINE))
+    found = []
+    for path in sorted(glob.glob(f'crates/{crate}/src/*.rt')):
+        module, owner = os.path.basename(path)[: -len('.rt')], ''
+        with open(path) as text:
+            lines = text.read().split('\n')
+        for line in lines:
+            if line.startswith('impl '):
+                owner = line.split()[1] + '::'
+            head = re.match(r'( *)pub (extern "C" )?fn (\w+)', line)
+            if head and (head.group(1) or head.group(2) or module == 'lib' or (module, head.group(3)) in shown):
+                found.append(('' if module == 'lib' else module + '::') + (owner if head.group(1) else '') + head.group(3))
+    return found
+
+
+def lacking(crates):
+    """The public functions with fewer than two wrong answers."""
+    listed = [(crate, function) for _, crate, _, answers in edits() for function, _, _ in answers]
+    listed += [(crate, function) for crate in crates for function, _, _ in by_hand(crate)]
+    return [f'{crate}::{function}' for crate in crates for function in public(crate) if listed.count((crate, function)) < 2]
+
+
+def libraries():
+    with open('crates.txt') as text:
+        return [line.split(':')[0] for line in text if ':' in line and not line.startswith('#')]
+
+
+def verdict(refused, others, what='refused'):
+    print(f'{refused} wrong answers {what}, {others} not')
     sys.exit(1 if others or not refused else 0)
 
 
@@ -85,13 +164,12 @@ def judge_logs():
     refused, others = 0, 0
     for edit, crate, label, answers in edits():
         log = f'target/must-fail/{crate}/{label}/.log'
-        failed = unproved(open(log).read()) if os.path.exists(log) else set()
+        said = open(log).read() if os.path.exists(log) else ''
         for function, words, _ in answers:
-            if f'{crate}::{function}' in failed or function is None and os.path.exists(log):
-                refused += 1
-            else:
-                others += 1
-                print(f'{edit}: {function}: NOT REFUSED there: {words}')
+            why = why_not(said, crate, function) if function else None if said else 'no log'
+            refused, others = refused + (not why), others + bool(why)
+            if why:
+                print(f'{edit}: {function}: {words}: {why}')
     verdict(refused, others)
 
 
@@ -128,15 +206,32 @@ def rounds(crate, answers):
     return made
 
 
-def put_in(crate, changes):
+def span(text, function):
+    """Where a function's text starts and ends in its file: from its head to the next one; of a method, within its type."""
+    *owners, name = function.split('::')
+    heads = [head.start() for head in re.finditer(r'^ *(?:pub(?:\(crate\))? )?(?:extern "C" )?fn ', text, re.MULTILINE)] + [len(text)]
+    for start, end in zip(heads, heads[1:]):
+        owner = re.findall(r'^impl (\w+)', text[:start], re.MULTILINE)
+        method = text[start] == ' '
+        if re.match(rf' *(?:pub(?:\(crate\))? )?(?:extern "C" )?fn {name}\b', text[start:]) and (not method or owner[-1:] == owners[-1:]):
+            return start, end
+    return 0, len(text)
+
+
+def put_in(crate, function, changes):
+    """The old text stands once in the function's own text, or else once in the file; \\n in it is the end of a line."""
     for place, old, new in changes:
+        old, new = old.replace('\\n', '\n'), new.replace('\\n', '\n')
         path = f'{COPY}/crates/{crate}/{place}'
         with open(path) as text:
             before = text.read()
-        if before.count(old) != 1:
+        start, end = span(before, function)
+        if before[start:end].count(old) != 1:
+            start, end = 0, len(before)
+        if before[start:end].count(old) != 1:
             return f'the old text stands {before.count(old)} times in {place}: {old.strip()}'
         with open(path, 'w') as out:
-            out.write(before.replace(old, new))
+            out.write(before[:start] + before[start:end].replace(old, new) + before[end:])
     return None
 
 
@@ -148,18 +243,27 @@ def put_back(crate):
             shutil.copytree(f'crates/{crate}/{part}', f'{COPY}/crates/{crate}/{part}')
 
 
-def tried(crate, one):
-    """One round on the copy: how many are refused, and those that are not."""
-    bad = {answer[0]: put_in(crate, answer[2]) for answer in one}
-    ran = subprocess.run(['rt', 'dev', crate], cwd=COPY, capture_output=True, text=True)
+def tried(crate, number, one, whole, shape_alone):
+    """One round on the copy: those that are not refused, with why."""
+    bad = {answer[0]: put_in(crate, answer[0], answer[2]) for answer in one}
+    left = shapes(crate)
+    for function in bad:
+        if has_proof(crate, function) and left.get(f'{crate}::{function}') != whole.get(f'{crate}::{function}'):
+            bad[function] = bad[function] or f'other steps: {whole.get(f"{crate}::{function}")}, now {left.get(f"{crate}::{function}")}'
+    said = ''
+    if not shape_alone:
+        ran = subprocess.run(['rt', 'dev', crate], cwd=COPY, capture_output=True, text=True)
+        said = ran.stdout + ran.stderr
+        os.makedirs(f'{COPY}/said', exist_ok=True)
+        with open(f'{COPY}/said/{crate}-{number}.txt', 'w') as log:
+            log.write(said)
+        for function in bad:
+            bad[function] = bad[function] or (why_not(said, crate, function) if 'logic=' in said else said[:300])
     put_back(crate)
-    said = ran.stdout + ran.stderr
-    failed = unproved(said) if 'logic=' in said else set()
-    wrong = [(f, w, bad[f] or ('' if 'logic=' in said else said[:300])) for f, w, _ in one if bad[f] or f'{crate}::{f}' not in failed]
-    return len(one) - len(wrong), wrong
+    return [(function, words, bad[function]) for function, words, _ in one if bad[function]]
 
 
-def try_by_hand(crates):
+def try_by_hand(crates, shape_alone):
     refused, others = 0, 0
     shutil.rmtree(f'{COPY}/crates', ignore_errors=True)
     os.makedirs(COPY, exist_ok=True)
@@ -170,13 +274,16 @@ def try_by_hand(crates):
         shutil.rmtree(f'{COPY}/target/{part}', ignore_errors=True)
         subprocess.run(['cp', '-r', f'target/{part}', f'{COPY}/target'], check=True)
     for crate in crates:
-        for number, one in enumerate(rounds(crate, by_hand(crate))):
-            good, wrong = tried(crate, one)
-            refused, others = refused + good, others + len(wrong)
-            print(f'{crate}, round {number + 1}: {good} of {len(one)} refused', flush=True)
+        whole, answers = shapes(crate), by_hand(crate)
+        if shape_alone:
+            answers = answers + [answer for _, owner, _, several in edits() if owner == crate for answer in several if answer[0]]
+        for number, one in enumerate(rounds(crate, answers), 1):
+            wrong = tried(crate, number, one, whole, shape_alone)
+            refused, others = refused + len(one) - len(wrong), others + len(wrong)
+            print(f'{crate}, round {number}: {len(one) - len(wrong)} of {len(one)} {"keep the shape" if shape_alone else "refused"}', flush=True)
             for function, words, why in wrong:
-                print(f'  {function}: NOT REFUSED there: {words} {why}', flush=True)
-    verdict(refused, others)
+                print(f'  {function}: {words}: {why}', flush=True)
+    verdict(refused, others, 'keep the shape' if shape_alone else 'refused')
 
 
 def main():
@@ -185,11 +292,15 @@ def main():
         with open(PAGE, 'w') as out:
             out.write(page())
     elif words[:1] == ['--check']:
-        current = os.path.exists(PAGE) and open(PAGE).read() == page()
-        print(f'{PAGE} is {"" if current else "not "}current')
-        sys.exit(0 if current else 1)
-    elif words[:1] == ['--try']:
-        try_by_hand(words[1:] or sorted(path.split('/')[1] for path in glob.glob('crates/*/wrong-answers')))
+        crates = words[1:] or libraries()
+        few = lacking(crates)
+        print(f'{len(few)} of {sum(len(public(crate)) for crate in crates)} public functions have fewer than two wrong answers', *few)
+        current = words[1:] or os.path.exists(PAGE) and open(PAGE).read() == page()
+        if not current:
+            print(f'{PAGE} is not current')
+        sys.exit(0 if current and not few else 1)
+    elif words[:1] in (['--try'], ['--shape']):
+        try_by_hand(words[1:] or sorted(path.split('/')[1] for path in glob.glob('crates/*/wrong-answers')), words[0] == '--shape')
     else:
         judge_logs()
 

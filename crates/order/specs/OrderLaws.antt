@@ -21,19 +21,7 @@ module _ {A : Type 0} {y : A} {r x : Ordering} (a b c : A) where
   unfolding onOrdering
   is-greater e m h = rw (sym e ∙ m) h
 
-pub then-less : {x : Ordering} (y : Ordering) → x ≡ Less → Less ≡ thenBy x y
-unfolding thenBy
-then-less y e = rw e
-
-pub then-equal : {x : Ordering} (y : Ordering) → x ≡ Equal → y ≡ thenBy x y
-unfolding thenBy
-then-equal y e = rw e
-
-pub then-greater : {x : Ordering} (y : Ordering) → x ≡ Greater → Greater ≡ thenBy x y
-unfolding thenBy
-then-greater y e = rw e
-
-pub ruleset orderings = (is-less, is-equal, is-greater, then-less, then-equal, then-greater)
+pub ruleset orderings = (is-less, is-equal, is-greater)
 
 -- By the first part that differs.
 module _ (x y : ℕ) (more rest : List ℕ) where

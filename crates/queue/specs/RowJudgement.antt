@@ -5,6 +5,7 @@ use mathlib.Core.Path.{_≡_, refl, sym, _∙_}
 use mathlib.Core.Bool.{Bool, true, false}
 use mathlib.Core.List.{List}
 use lib.Dec.{eqb}
+use borrow.Author.Tests.{eq-eqb, ne-eqb, eqb-true}
 use Rattle.refusal.specs.Cases.{choose, given, ifEqual}
 use Rattle.policy.specs.declared.BudgetOption.{BudgetOption}
 use Rattle.policy.specs.declared.BudgetOption.the-variants as budget
@@ -36,8 +37,12 @@ kindFrom tag = ifEqual tag 0 0 (ifEqual tag 1 1 (ifEqual tag 2 2 3))
 unfoldable pub roleNumber : ℕ → ℕ
 roleNumber tag = ifEqual tag 0 0 (ifEqual tag 1 1 2)
 
-abbrev budgetWords : List ℕ → BudgetParameters
-budgetWords w = record { «budget_ns» = word w 8; «period_ns» = word w 9; «burst_ns» = word w 10 }
+-- A budget's parameters and its runtime, by their words.
+abbrev pub budgetParameters : List ℕ → BudgetParameters
+budgetParameters w = record { «budget_ns» = word w 8; «period_ns» = word w 9; «burst_ns» = word w 10 }
+
+abbrev pub budgetRuntime : List ℕ → BudgetRuntime
+budgetRuntime w = record { epoch = epochFrom (word w 12) (word w 13); «remaining_ns» = word w 14; «burst_remaining_ns» = word w 15 }
 
 -- `isBadRecord` by the tags.
 unfoldable pub badRow : List ℕ → Bool
@@ -46,7 +51,7 @@ badRow w =
     (λ p. given (kindFrom (word w 11))
     (λ r. ifEqual r p
     (ifEqual p 2
-    (ifEqual (word w 7) 0 true (choose (soundBudget (budgetWords w)) false true))
+    (ifEqual (word w 7) 0 true (choose (soundBudget (budgetParameters w)) false true))
     (ifEqual (word w 7) 0 false true))
     true))
 
@@ -182,6 +187,31 @@ module _ (w : List ℕ) where
       → record { policy = p .policy; membership = m; cpu = record { 0 = n }; index = k } ≡ filedOf (decoded w) k
   unfolding decoded queueLinksOf
   filed-read k e₁ e₂ e₃ = rw (e₁, e₂, e₃)
+
+-- Only the tag 2 is a budget's.
+pub kind-of-two : (tag : ℕ) → kindFrom tag ≡ 2 → tag ≡ 2
+unfolding kindFrom ifEqual choose
+kind-of-two tag = go (eqb tag 0) (eqb tag 1) (eqb tag 2) refl
+  where
+    go : (a b c : Bool) → eqb tag 2 ≡ c → _≡_ {A = ℕ} (choose a 0 (choose b 1 (choose c 2 3))) 2 → tag ≡ 2
+    go true b c m e = absurd (omega arith)
+    go false true c m e = absurd (omega arith)
+    go false false true m e = eqb-true tag 2 m
+    go false false false m e = absurd (omega arith)
+
+-- What stands in a row whose tags say so.
+module _ (w : List ℕ) where
+  pub budget-runs : word w 11 ≡ 2 → decoded w .runtime ≡ runtime.Budget (budgetRuntime w)
+  unfolding decoded runtimeOf runtimeFrom ifEqual choose given
+  budget-runs m = rw m
+
+  pub no-budget : word w 7 ≡ 0 → decoded w .parameters .budget ≡ budget.None
+  unfolding decoded parametersOf budgetFrom ifEqual choose
+  no-budget n = rw (eq-eqb (word w 7) 0 n)
+
+  pub some-budget : (word w 7 ≡ 0 → ⊥) → decoded w .parameters .budget ≡ budget.Some (budgetParameters w)
+  unfolding decoded parametersOf budgetFrom ifEqual choose
+  some-budget n = rw (ne-eqb (word w 7) 0 n)
 
 -- The numbers of the twelve trees are words.
 pub role-fits : (base : ℕ) {n : ℕ} (tag : ℕ) → n ≡ roleNumber tag → base ≤ 9 → base + n < 18446744073709551616

@@ -20,9 +20,8 @@ use Rattle.policy.specs.declared.SchedulingParameters.{SchedulingParameters}
 use Rattle.policy.specs.PolicyCases.{onBudget}
 use Rattle.policy.specs.Budget.{soundBudget}
 use Rattle.budget.specs.Runtime.{judged, refreshedJudged}
-use Rattle.codec.specs.Codec.{word, budgetFrom, epochFrom, runtimeFrom, parametersOf, runtimeOf, decoded}
+use Rattle.codec.specs.Codec.{word, budgetFrom, parametersOf, runtimeOf, decoded}
 use Rattle.algorithms.specs.declared.PolicyRuntime.{PolicyRuntime}
-use Rattle.algorithms.specs.declared.PolicyRuntime.the-variants as policy
 use Rattle.algorithms.specs.declared.RuntimeAnswer.{RuntimeAnswer}
 use Rattle.algorithms.specs.declared.RuntimeAnswer.the-variants as runtime
 use Rattle.algorithms.specs.Answers.{runtimeAnswer}
@@ -61,7 +60,7 @@ use Rattle.queue.specs.declared.Verdict.{Verdict}
 use Rattle.queue.specs.declared.Verdict.the-variants as verdict
 use Rattle.queue.specs.Answers.{verdictAnswer}
 use Rattle.queue.specs.Queue.{emptyRoot}
-use Rattle.queue.specs.RowJudgement.{kindFrom, badRow, judged-by-tags}
+use Rattle.queue.specs.RowJudgement.{kindFrom, badRow, budgetParameters, judged-by-tags, kind-of-two, budget-runs, no-budget, some-budget}
 use Rattle.renewal.specs.RootRows.{rootsOf}
 use Rattle.renewal.specs.Renewal.{leastLink, headOf, refreshRecord, refreshRuntime, budgetTrees, moveOne, moveAll, rootAt, withTrees, renewRoles, isEpoch, isHalt}
 use Rattle.renewal.specs.Steps.{refreshedStored, budgetRefreshed, rowRefreshed, runtimeRefreshed, refiled, Next, emptied, moved, stopped, onNext, nextMove, lastMove, roleRenewed}
@@ -143,20 +142,7 @@ module _ {B : Type 0} {y : B} {r : Moved} (g : ℕ → BudgetTrees → B) (f : U
 
 pub ruleset renewing = (least-none, least-some, least-damaged, head-found, head-damaged, runtime-fresh, runtime-refused, was-accepted, was-turned-down, stored-after, no-budget-row, some-budget-row, row-fresh, move-done, move-refused)
 
--- A row whose policy and runtime have the same tag has one kind; of a kind it is not a budget's unless the tag is 2.
-kind-of-two : (tag : ℕ) → kindFrom tag ≡ 2 → tag ≡ 2
-unfolding kindFrom ifEqual choose
-kind-of-two tag = go (eqb tag 0) (eqb tag 1) (eqb tag 2) refl
-  where
-    go : (a b c : Bool) → eqb tag 2 ≡ c → _≡_ {A = ℕ} (choose a 0 (choose b 1 (choose c 2 3))) 2 → tag ≡ 2
-    go true b c m e = absurd (omega arith)
-    go false true c m e = absurd (omega arith)
-    go false false true m e = eqb-true tag 2 m
-    go false false false m e = absurd (omega arith)
-
-abbrev budgetOf : List ℕ → BudgetParameters
-budgetOf w = record { «budget_ns» = word w 8; «period_ns» = word w 9; «burst_ns» = word w 10 }
-
+-- A row whose policy and runtime have the same tag has one kind.
 module _ (w : List ℕ) where
   plain-row : word w 11 ≡ word w 0 → (word w 11 ≡ 2 → ⊥) → isBadRecord (decoded w) ≡ ifEqual (word w 7) 0 false true
   unfolding badRow given ifEqual choose
@@ -164,26 +150,14 @@ module _ (w : List ℕ) where
       sym (judged-by-tags w refl)
       ∙ rw (sym e, eq-eqb (kindFrom (word w 11)) (kindFrom (word w 11)) refl, ne-eqb (kindFrom (word w 11)) 2 (λ q. n (kind-of-two (word w 11) q)))
 
-  budget-row : word w 11 ≡ word w 0 → word w 11 ≡ 2 → isBadRecord (decoded w) ≡ ifEqual (word w 7) 0 true (choose (soundBudget (budgetOf w)) false true)
+  budget-row : word w 11 ≡ word w 0 → word w 11 ≡ 2 → isBadRecord (decoded w) ≡ ifEqual (word w 7) 0 true (choose (soundBudget (budgetParameters w)) false true)
   unfolding badRow kindFrom given ifEqual choose
   budget-row e m = sym (judged-by-tags w refl) ∙ rw (sym e, m)
-
-  no-budget : word w 7 ≡ 0 → decoded w .parameters .budget ≡ budget.None
-  unfolding decoded parametersOf budgetFrom ifEqual choose
-  no-budget n = rw (eq-eqb (word w 7) 0 n)
-
-  some-budget : (word w 7 ≡ 0 → ⊥) → decoded w .parameters .budget ≡ budget.Some (budgetOf w)
-  unfolding decoded parametersOf budgetFrom ifEqual choose
-  some-budget n = rw (ne-eqb (word w 7) 0 n)
-
-  budget-runs : word w 11 ≡ 2 → decoded w .runtime ≡ policy.Budget (record { epoch = epochFrom (word w 12) (word w 13); «remaining_ns» = word w 14; «burst_remaining_ns» = word w 15 })
-  unfolding decoded runtimeOf runtimeFrom ifEqual choose given
-  budget-runs m = rw m
 
   -- Two different tags of one kind are not a budget's.
   other-tags : (word w 11 ≡ word w 0 → ⊥) → isBadRecord (decoded w) ≡ false → word w 7 ≡ 0
   unfolding badRow given ifEqual choose
-  other-tags d good = go (eqb (kindFrom (word w 11)) (kindFrom (word w 0))) (eqb (kindFrom (word w 0)) 2) (eqb (word w 7) 0) (soundBudget (budgetOf w)) refl refl refl (judged-by-tags w refl ∙ good)
+  other-tags d good = go (eqb (kindFrom (word w 11)) (kindFrom (word w 0))) (eqb (kindFrom (word w 0)) 2) (eqb (word w 7) 0) (soundBudget (budgetParameters w)) refl refl refl (judged-by-tags w refl ∙ good)
     where
       go : (same two none sound : Bool) → eqb (kindFrom (word w 11)) (kindFrom (word w 0)) ≡ same → eqb (kindFrom (word w 0)) 2 ≡ two → eqb (word w 7) 0 ≡ none
           → choose same (choose two (choose none true (choose sound false true)) (choose none false true)) true ≡ false → word w 7 ≡ 0
@@ -194,9 +168,9 @@ module _ (w : List ℕ) where
       go false two none sound e₁ e₂ e₃ h = absurd (let z : _≡_ {A = ℕ} 0 1 = cc in omega arith)
 
   -- A budget that is not sound is refused by its refresh.
-  unsound : (t : List ThreadRecord) (id now : ℕ) → recordAt t id ≡ read.Got (decoded w) → (word w 7 ≡ 0 → ⊥) → word w 11 ≡ 2 → soundBudget (budgetOf w) ≡ false → budgetRefreshed t id now ≡ out (refused 11) t
+  unsound : (t : List ThreadRecord) (id now : ℕ) → recordAt t id ≡ read.Got (decoded w) → (word w 7 ≡ 0 → ⊥) → word w 11 ≡ 2 → soundBudget (budgetParameters w) ≡ false → budgetRefreshed t id now ≡ out (refused 11) t
   unfolding budgetRefreshed refreshedStored given onRecord epochRefreshed onRuntime onBudget refreshedJudged judged ofBudget choose onAnswer
-  unsound t id now got n m s = rw (got, budget-runs m, some-budget n, s)
+  unsound t id now got n m s = rw (got, budget-runs w m, some-budget w n, s)
 
 -- A row's record judged and refreshed, by the tags.
 module _ {y : Out (Answer (Unit {0}))} (t : List ThreadRecord) (id : ℕ) (w : List ℕ) (now : ℕ) where
@@ -211,15 +185,15 @@ module _ {y : Out (Answer (Unit {0}))} (t : List ThreadRecord) (id : ℕ) (w : L
   row-budget : recordAt t id ≡ read.Got (decoded w) → word w 11 ≡ word w 0 → (word w 7 ≡ 0 → ⊥) → word w 11 ≡ 2 → y ≡ budgetRefreshed t id now → y ≡ rowRefreshed t id (decoded w) now
   unfolding rowRefreshed ifEqual choose onBudget
   row-budget got e n m h =
-      h ∙ go (soundBudget (budgetOf w)) refl
+      h ∙ go (soundBudget (budgetParameters w)) refl
       ∙ sym
       (ap (λ q. choose (isBadRecord (decoded w)) (out (refused 11) t) (onBudget q (out (value tt) t) (λ b. budgetRefreshed t id now))) (some-budget w n)
       ∙ ap (λ bad. choose bad (out (refused 11) t) (budgetRefreshed t id now)) judged-bad)
     where
-      judged-bad : isBadRecord (decoded w) ≡ choose (soundBudget (budgetOf w)) false true
+      judged-bad : isBadRecord (decoded w) ≡ choose (soundBudget (budgetParameters w)) false true
       judged-bad = budget-row w e m ∙ rw (ne-eqb (word w 7) 0 n)
 
-      go : (s : Bool) → soundBudget (budgetOf w) ≡ s → budgetRefreshed t id now ≡ choose (choose s false true) (out (refused 11) t) (budgetRefreshed t id now)
+      go : (s : Bool) → soundBudget (budgetParameters w) ≡ s → budgetRefreshed t id now ≡ choose (choose s false true) (out (refused 11) t) (budgetRefreshed t id now)
       go true k = refl
       go false k = unsound w t id now got n m k
 

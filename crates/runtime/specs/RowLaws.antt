@@ -46,6 +46,7 @@ use Rattle.rows.specs.Table.{Out, out, after, recordOf, changed, recordAt, setR
 use Rattle.rows.specs.TableCases.{onRecord}
 use Rattle.rows.specs.TableLaws.{record-within, record-got-within, after-set-runtime}
 use Rattle.lists.specs.Lists.{onAnswer, onOut}
+use Rattle.queue.specs.RowJudgement.{budgetRuntime, budgetParameters, budget-runs}
 use Rattle.decisions.specs.declared.Contention.{Contention}
 use Rattle.decisions.specs.declared.ModeOption.the-variants as mode
 use Rattle.decisions.specs.declared.Taken.{Taken}
@@ -58,7 +59,7 @@ use Rattle.runtime.specs.Prepare.{Counted, counted, prepareRecord, store
 use Rattle.runtime.specs.Account.{accountRecord, settled, passOf, hasTime, candidateOf, refreshing, candidate}
 use Rattle.runtime.specs.Deadline.{dueWith, dueWithout, dueAt, armed}
 use Rattle.runtime.specs.Judged.{Good, fifo, fair, budgeted, idle, never, good-record, freshOf, refreshes, chargedOf, accounts, finishedOf, finishes}
-use Rattle.runtime.specs.Rows.{fairRuntime, passRow, spentRow, sliceEnd, refreshedEnd, budgetEnd, ownEnd, earlierOf, dueRow, keylessDue, budgetRuntime, budgetParameters, budgetStored, finishedRow, chargedRow, refreshedRow, candidateRow, preparedRow, rowPrepared, accountedRow}
+use Rattle.runtime.specs.Rows.{fairRuntime, passRow, spentRow, sliceEnd, refreshedEnd, budgetEnd, ownEnd, earlierOf, dueRow, keylessDue, budgetStored, finishedRow, chargedRow, refreshedRow, candidateRow, preparedRow, rowPrepared, accountedRow}
 
 -- What a judged row is, by the tag of its runtime: a sound budget with its runtime, or neither.
 abbrev isPlain : PolicyRuntime → Bool
@@ -93,10 +94,6 @@ sound-by p q r (budgeted s b h) = h
 sound-by p q r idle = refl
 
 module _ (w : List ℕ) where
-  budget-runs : word w 11 ≡ 2 → decoded w .runtime ≡ runtime.Budget (budgetRuntime w)
-  unfolding decoded runtimeOf runtimeFrom ifEqual choose given
-  budget-runs tag = rw tag
-
   plain-runs : eqb (word w 11) 2 ≡ false → isPlain (decoded w .runtime) ≡ true
   unfolding decoded runtimeOf runtimeFrom ifEqual choose given
   plain-runs e = rw e (go (eqb (word w 11) 0) (eqb (word w 11) 1) _)
@@ -135,7 +132,7 @@ module _ (w : List ℕ) where
 
       go : (x : Bool) → eqb (word w 11) 2 ≡ x → RowOf w
       go true tag =
-          let runs : decoded w .runtime ≡ runtime.Budget (budgetRuntime w) = budget-runs (eqb-true (word w 11) 2 tag) in
+          let runs : decoded w .runtime ≡ runtime.Budget (budgetRuntime w) = budget-runs w (eqb-true (word w 11) 2 tag) in
           let has : decoded w .parameters .budget ≡ option.Some (budgetParameters w) = budget-has (has-by _ _ _ (good-record (decoded w) e) (ap isPlain runs)) in
           with-budget (eqb-true (word w 11) 2 tag) runs has (sound has (sound-by _ _ _ (good-record (decoded w) e))) (policy-by _ _ _ (good-record (decoded w) e) (ap isPlain runs))
       go false tag = without tag (plain-runs tag)

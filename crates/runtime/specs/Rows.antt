@@ -9,7 +9,6 @@ use Rattle.refusal.specs.Cases.{choose, given, ifEqual, andThen}
 use Rattle.time.specs.declared.Deadline.{Deadline}
 use Rattle.time.specs.declared.Deadline.the-variants as deadline
 use Rattle.time.specs.Time.{checkedAdd, earliestOf}
-use Rattle.policy.specs.declared.BudgetParameters.{BudgetParameters}
 use Rattle.budget.specs.declared.BudgetRuntime.{BudgetRuntime}
 use Rattle.budget.specs.Runtime as budget
 use Rattle.algorithms.specs.declared.FairRuntime.{FairRuntime}
@@ -21,9 +20,10 @@ use Rattle.arbitration.specs.declared.CpuWindow.{CpuWindow}
 use Rattle.arbitration.specs.declared.DispatchMode.{DispatchMode}
 use Rattle.arbitration.specs.Calls.{With, with, accountCall, nextDeadlineCall}
 use Rattle.thread.specs.declared.ThreadRecord.{ThreadRecord}
-use Rattle.codec.specs.Codec.{word, policyFrom, epochFrom, parametersOf, decoded}
+use Rattle.codec.specs.Codec.{word, policyFrom, parametersOf, decoded}
 use Rattle.rows.specs.Table.{Out, out, after, setRuntime, setTurn}
 use Rattle.lists.specs.Lists.{onAnswer, onOut}
+use Rattle.queue.specs.RowJudgement.{budgetRuntime, budgetParameters}
 use Rattle.decisions.specs.declared.Contention.{Contention}
 use Rattle.decisions.specs.declared.ModeOption.{ModeOption}
 use Rattle.decisions.specs.declared.Turns.{Turns}
@@ -34,13 +34,7 @@ use Rattle.runtime.specs.Account.{accountRecord, settled, passOf, refres
 use Rattle.runtime.specs.Deadline.{dueAt, armed}
 use Rattle.runtime.specs.Prepare.{Counted, counted}
 
--- A budget's runtime and its parameters, and a fair runtime, by their words.
-abbrev pub budgetRuntime : List ℕ → BudgetRuntime
-budgetRuntime w = record { epoch = epochFrom (word w 12) (word w 13); «remaining_ns» = word w 14; «burst_remaining_ns» = word w 15 }
-
-abbrev pub budgetParameters : List ℕ → BudgetParameters
-budgetParameters w = record { «budget_ns» = word w 8; «period_ns» = word w 9; «burst_ns» = word w 10 }
-
+-- A fair runtime by its words.
 abbrev pub fairRuntime : List ℕ → FairRuntime
 fairRuntime w = record { pass = record { high = word w 12; low = word w 13 }; «remaining_ns» = word w 14 }
 

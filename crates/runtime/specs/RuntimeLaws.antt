@@ -46,7 +46,7 @@ use Rattle.lists.specs.Lists.{onAnswer, onOut}
 use Rattle.lists.specs.ListsLaws.{left-by, answered}
 use Rattle.queue.specs.Queue.{maxRecords}
 use Rattle.queue.specs.PlanLaws.{too-many, not-too-many}
-use Rattle.queue.specs.RowJudgement.{kindFrom, badRow, judged-by-tags}
+use Rattle.queue.specs.RowJudgement.{kindFrom, badRow, budgetRuntime, budgetParameters, judged-by-tags}
 use Rattle.decisions.specs.declared.Contention.{Contention}
 use Rattle.decisions.specs.declared.ModeOption.{ModeOption}
 use Rattle.decisions.specs.declared.ModeOption.the-variants as mode
@@ -62,7 +62,7 @@ use Rattle.runtime.specs.Judging.{judgedAt, judged, judgedWith, stored}
 use Rattle.runtime.specs.Prepare.{Counted, counted, preparation, prepared, prepareEnqueue}
 use Rattle.runtime.specs.Account.{accounting, settled, accountCurrent, finishing, finishTurn, passOf, refreshing, refreshingAt, candidate, currentCandidate, expired}
 use Rattle.runtime.specs.Deadline.{dueAt, dueOf, armed, refreshDeadline}
-use Rattle.runtime.specs.Rows.{budgetRuntime, budgetParameters, finishedRow, chargedRow, refreshedRow, candidateRow, preparedRow, rowPrepared, accountedRow, accountAt, candidateAt, ownEnd, earlierOf, dueRow, keylessDue, deadlineAt}
+use Rattle.runtime.specs.Rows.{finishedRow, chargedRow, refreshedRow, candidateRow, preparedRow, rowPrepared, accountedRow, accountAt, candidateAt, ownEnd, earlierOf, dueRow, keylessDue, deadlineAt}
 use Rattle.runtime.specs.RowLaws.{finished-so, candidate-so, idle-so, prepared-so, accounted-so, due-so, keyless-so, pass-by-tag, spent-by-tag}
 
 -- The judgement of a record by its row.
