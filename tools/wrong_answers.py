@@ -25,7 +25,7 @@ WITHOUT_CONTRACTS = ['steps']
 HEAD = """# Wrong answers that the contracts rule out
 
 Written by `python3 tools/wrong_answers.py --list`. Each wrong answer is put into a copy of its crate, and the prover must refuse it: of a function, that this function is not proved, by itself and not only because it calls another that is not; of a definition or a promise, that the crate is not
-proved. Those with an edit's name are tried by the gate each time (crates/NAME/must-fail). The others stand in crates/NAME/wrong-answers and are tried by hand, `python3 tools/wrong_answers.py --try NAME`; docs/GUARANTEES.md says of which crates that was done for the list as it stands.
+proved. Those with an edit's name are tried by the gate each time (crates/NAME/must-fail). The others stand in crates/NAME/wrong-answers and are tried by hand, `python3 tools/wrong_answers.py --try NAME`; docs/GUARANTEES.md says what was seen of them.
 """
 
 
@@ -60,21 +60,22 @@ def by_hand(crate):
 
 
 def unproved(said):
-    """The functions that are not proved by themselves; of one that had no proof written, the check says 'no proof'."""
-    return set(re.findall(r'^fn (\S+): (?:not proved$|no proof\b)', said, re.MULTILINE))
+    """The functions that are not proved by themselves; of one that had no proof written, the check says 'no proof', and of one over a slice of structs, whose derivation is stored, that the borrow checker does not cover it."""
+    return set(re.findall(r'^fn (\S+): (?:not proved$|not proved; the borrow checker does not cover|no proof\b)', said, re.MULTILINE))
 
 
 # What the check says where a fact is not found: by a search whose goal is a statement, by arithmetic, by rewriting, by congruence, by an equation whose ends are others; or of a function whose proof it looks for by itself.
 FACTS = re.compile(
     r'`search`: no proof of `[^`]*(?:Post|Path|≡|<|≤)|`omega`: the goal does not follow|`rw` has no last argument, so what it leaves must be a path whose two ends are equal|`cc` (?!proves only)'
-    r'|the two values first differ|the two types are `Path |`search` does not close'
+    r'|the two (?:values|types) (?:first differ|differ only) where|the two types are `Path |`search` does not close'
 )
 
 
 def faults(said, crate, function):
-    """What the check says of a function's proof, an entry a place, with the lines that belong to it."""
+    """What the check says of a function's proof, an entry a place, with the lines that belong to it; not that a part of it rests on another that is refused."""
     place = re.escape(f'crates/{crate}/proofs/{function.replace("::", "/")}/')
     told = re.findall(rf'^\S*{place}\w+\.antt:\d+:\d+: error: (.*(?:\n  .*)*)', said, re.MULTILINE)
+    told = [fault for fault in told if 'was not admitted (it has holes' not in fault]
     return told + re.findall(rf'^fn {crate}::{function}: (no proof: .*)', said, re.MULTILINE)
 
 
@@ -85,6 +86,11 @@ def why_not(said, crate, function):
     told = faults(said, crate, function)
     form = [fault for fault in told if not FACTS.search(fault)]
     return 'refused for the form of its proof: ' + ' '.join(form)[:400] if form or not told else None
+
+
+def at_bound(said, crate, function):
+    """Whether the prover met a bound of its own at the goal, so that it did not decide it."""
+    return any('met a bound of its own' in fault for fault in faults(said, crate, function))
 
 
 def has_proof(crate, function):
@@ -244,12 +250,13 @@ def put_back(crate):
 
 
 def tried(crate, number, one, whole, shape_alone):
-    """One round on the copy: those that are not refused, with why."""
+    """One round on the copy: those that are not refused, with why; and of how many refused ones the prover met a bound."""
     bad = {answer[0]: put_in(crate, answer[0], answer[2]) for answer in one}
     left = shapes(crate)
     for function in bad:
-        if has_proof(crate, function) and left.get(f'{crate}::{function}') != whole.get(f'{crate}::{function}'):
-            bad[function] = bad[function] or f'other steps: {whole.get(f"{crate}::{function}")}, now {left.get(f"{crate}::{function}")}'
+        before, after = whole.get(f'{crate}::{function}', 'not known'), left.get(f'{crate}::{function}', 'none')
+        if has_proof(crate, function) and before != after:
+            bad[function] = bad[function] or f'other steps: {before}, now {after}'
     said = ''
     if not shape_alone:
         ran = subprocess.run(['rt', 'dev', crate], cwd=COPY, capture_output=True, text=True)
@@ -260,11 +267,12 @@ def tried(crate, number, one, whole, shape_alone):
         for function in bad:
             bad[function] = bad[function] or (why_not(said, crate, function) if 'logic=' in said else said[:300])
     put_back(crate)
-    return [(function, words, bad[function]) for function, words, _ in one if bad[function]]
+    bounds = sum(not bad[function] and at_bound(said, crate, function) for function in bad)
+    return [(function, words, bad[function]) for function, words, _ in one if bad[function]], bounds
 
 
 def try_by_hand(crates, shape_alone):
-    refused, others = 0, 0
+    refused, others, bounds = 0, 0, 0
     shutil.rmtree(f'{COPY}/crates', ignore_errors=True)
     os.makedirs(COPY, exist_ok=True)
     for part in ['crates', 'crates.txt']:
@@ -278,11 +286,13 @@ def try_by_hand(crates, shape_alone):
         if shape_alone:
             answers = answers + [answer for _, owner, _, several in edits() if owner == crate for answer in several if answer[0]]
         for number, one in enumerate(rounds(crate, answers), 1):
-            wrong = tried(crate, number, one, whole, shape_alone)
-            refused, others = refused + len(one) - len(wrong), others + len(wrong)
+            wrong, met = tried(crate, number, one, whole, shape_alone)
+            refused, others, bounds = refused + len(one) - len(wrong), others + len(wrong), bounds + met
             print(f'{crate}, round {number}: {len(one) - len(wrong)} of {len(one)} {"keep the shape" if shape_alone else "refused"}', flush=True)
             for function, words, why in wrong:
                 print(f'  {function}: {words}: {why}', flush=True)
+    if bounds:
+        print(f'of {bounds} of the refused the prover met a bound of its own at the goal')
     verdict(refused, others, 'keep the shape' if shape_alone else 'refused')
 
 

@@ -2,7 +2,6 @@
 mod roots;
 
 pub use roots::root_at;
-pub use roots::roots_of;
 pub use roots::set_root;
 pub use roots::store_roots;
 ghost use Prim.Native.Nat.{_<_};
@@ -31,6 +30,7 @@ use ready_index::Least;
 use ready_index::Rooted;
 use ready_index::first;
 use refusal::Refusal;
+use roots::roots_of;
 use rows::set_runtime;
 use thread::Link;
 use time::Epoch;

@@ -29,7 +29,7 @@ pub fn set_root(rows: &mut [[u64; 5]], index: usize, root: Link)
     }
 }
 
-pub fn store_roots(rows: &mut [[u64; 5]], indices: [Root; 12])
+fn copy_roots(rows: &mut [[u64; 5]], indices: [Root; 12])
     requires { ⌜ length (now rows) ≡ 12 ⌝ }
     ensures { λ r. ⌜ rootsOf (now (rows .exit)) ≡ indices ⌝ }
 {
@@ -41,6 +41,14 @@ pub fn store_roots(rows: &mut [[u64; 5]], indices: [Root; 12])
         set_root(rows, k, root);
         left -= 1;
     }
+}
+
+// All twelve stored; that there are twelve rows is a matter of type.
+pub fn store_roots(rows: &mut [[u64; 5]; 12], indices: [Root; 12])
+    ensures { λ r. ⌜ rootsOf (now (rows .exit)) ≡ indices ⌝ }
+    ensures { λ r. ⌜ length (now (rows .exit)) ≡ 12 ⌝ }
+{
+    copy_roots(rows, indices);
 }
 
 pub fn roots_of(rows: &[[u64; 5]]) -> [Root; 12]

@@ -8,7 +8,6 @@ pub renew-indices-spec : {M : Type 1} → statement M
 renew-indices-spec =
     tie.close
     (tie.spec
-    (λ c. search needs)
     (λ c κs. search needs)
     (λ c. search needs)
     (λ c κs. search needs)

@@ -5,8 +5,8 @@ use lib.ListN.{length}
 use Rattle.ready_index.specs.LoopLaws.{whole, arrived}
 use Rattle.renewal.specs.RootRows.{rootsOf, copyRest, root-rows, store-set-out}
 use borrow.Author.Needs.{needs}
-use Rattle.renewal.proofs.roots.store_roots.Statement.{statement}
-use Rattle.renewal.proofs.roots.store_roots.Tie as tie
+use Rattle.renewal.proofs.roots.copy_roots.Statement.{statement}
+use Rattle.renewal.proofs.roots.copy_roots.Tie as tie
 
 abbrev Inv-loop : tie.InvT-loop
 Inv-loop rows₀ indices left₀ rows left = (left ≤ 12) × (length rows ≡ 12) × (copyRest left (rootsOf rows) indices ≡ whole indices)
@@ -14,8 +14,8 @@ Inv-loop rows₀ indices left₀ rows left = (left ≤ 12) × (length rows ≡ 1
 abbrev μ-loop : tie.MeasureT-loop
 μ-loop rows₀ indices left₀ rows left = left
 
-pub store-roots-spec : {M : Type 1} → statement M
-store-roots-spec =
+pub copy-roots-spec : {M : Type 1} → statement M
+copy-roots-spec =
     tie.close
     (tie.spec
     Inv-loop
