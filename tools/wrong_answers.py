@@ -73,7 +73,7 @@ FACTS = re.compile(
 
 def faults(said, crate, function):
     """What the check says of a function's proof, an entry a place, with the lines that belong to it; not that a part of it rests on another that is refused."""
-    place = re.escape(f'crates/{crate}/proofs/{function.replace("::", "/")}/')
+    place = re.escape(f'/proofs/{function.replace("::", "/")}/')
     told = re.findall(rf'^\S*{place}\w+\.antt:\d+:\d+: error: (.*(?:\n  .*)*)', said, re.MULTILINE)
     told = [fault for fault in told if 'was not admitted (it has holes' not in fault]
     return told + re.findall(rf'^fn {crate}::{function}: (no proof: .*)', said, re.MULTILINE)
