@@ -250,7 +250,7 @@ def put_back(crate):
 
 
 def tried(crate, number, one, whole, shape_alone):
-    """One round on the copy: those that are not refused, with why; and of how many refused ones the prover met a bound."""
+    """One round on the copy: those that are not refused, with why; and the refused ones where the prover met a bound."""
     bad = {answer[0]: put_in(crate, answer[0], answer[2]) for answer in one}
     left = shapes(crate)
     for function in bad:
@@ -267,7 +267,7 @@ def tried(crate, number, one, whole, shape_alone):
         for function in bad:
             bad[function] = bad[function] or (why_not(said, crate, function) if 'logic=' in said else said[:300])
     put_back(crate)
-    bounds = sum(not bad[function] and at_bound(said, crate, function) for function in bad)
+    bounds = [(function, words) for function, words, _ in one if not bad[function] and at_bound(said, crate, function)]
     return [(function, words, bad[function]) for function, words, _ in one if bad[function]], bounds
 
 
@@ -287,10 +287,12 @@ def try_by_hand(crates, shape_alone):
             answers = answers + [answer for _, owner, _, several in edits() if owner == crate for answer in several if answer[0]]
         for number, one in enumerate(rounds(crate, answers), 1):
             wrong, met = tried(crate, number, one, whole, shape_alone)
-            refused, others, bounds = refused + len(one) - len(wrong), others + len(wrong), bounds + met
+            refused, others, bounds = refused + len(one) - len(wrong), others + len(wrong), bounds + len(met)
             print(f'{crate}, round {number}: {len(one) - len(wrong)} of {len(one)} {"keep the shape" if shape_alone else "refused"}', flush=True)
             for function, words, why in wrong:
                 print(f'  {function}: {words}: {why}', flush=True)
+            for function, words in met:
+                print(f'  {function}: {words}: refused, but not decided: the prover met a bound of its own', flush=True)
     if bounds:
         print(f'of {bounds} of the refused the prover met a bound of its own at the goal')
     verdict(refused, others, 'keep the shape' if shape_alone else 'refused')

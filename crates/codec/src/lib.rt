@@ -114,7 +114,7 @@ fn algorithm_of(w: [u64; 32]) -> Wide
     }
 }
 
-// The tree key of the row's record with this number.
+// The tree key of the row's record with this number. After `ready_index_key`.
 pub fn key_of(w: [u64; 32], id: u64) -> TreeKey
     ensures { λ k. ⌜ k ≡ readyIndexKey (decoded w) id ⌝ }
 {

@@ -6,7 +6,7 @@ use mathlib.Core.Bool.{Bool, true, false}
 use mathlib.Core.List.{List, [], _∷_}
 use lib.Dec.{ltb}
 use borrow.Author.Tests.{ltb-true, ltb-false, lt-ltb, le-ltb}
-use Rattle.refusal.specs.Cases.{choose, ifLess}
+use Rattle.refusal.specs.Cases.{never, choose, ifLess}
 use Rattle.order.specs.declared.Ordering.{Ordering}
 use Rattle.order.specs.declared.Ordering.the-variants.{Less, Equal, Greater}
 use Rattle.order.specs.Order.{compareNumbers, thenBy, compareParts}
@@ -78,33 +78,33 @@ same-key (x ∷ a) = rw (compare-equal x x refl) (same-key a)
 pub equal-only : (a b : List ℕ) → compareParts a b ≡ Equal → a ≡ b
 unfolding compareParts thenBy
 equal-only [] [] e = refl
-equal-only [] (y ∷ b) e = absurd (let z : _≡_ {A = ℕ} 0 1 = cc in omega arith)
-equal-only (x ∷ a) [] e = absurd (let z : _≡_ {A = ℕ} 0 1 = cc in omega arith)
+equal-only [] (y ∷ b) e = never cc
+equal-only (x ∷ a) [] e = never cc
 equal-only (x ∷ a) (y ∷ b) e = go (compareNumbers x y) (says x y) e (equal-only a b)
   where
     go : (o : Ordering) → Says o x y → thenBy o (compareParts a b) ≡ Equal → (compareParts a b ≡ Equal → a ≡ b) → x ∷ a ≡ y ∷ b
-    go Less h f k = absurd (let z : _≡_ {A = ℕ} 0 1 = cc in omega arith)
+    go Less h f k = never cc
     go Equal h f k = rw (h, k f)
-    go Greater h f k = absurd (let z : _≡_ {A = ℕ} 0 1 = cc in omega arith)
+    go Greater h f k = never cc
 
 -- Less goes on from key to key.
 pub less-transitive : (a b c : List ℕ) → compareParts a b ≡ Less → compareParts b c ≡ Less → compareParts a c ≡ Less
 unfolding compareParts thenBy
 less-transitive [] [] c e f = f
-less-transitive [] (y ∷ b) [] e f = absurd (let z : _≡_ {A = ℕ} 0 1 = cc in omega arith)
+less-transitive [] (y ∷ b) [] e f = never cc
 less-transitive [] (y ∷ b) (z ∷ c) e f = refl
-less-transitive (x ∷ a) [] c e f = absurd (let z : _≡_ {A = ℕ} 0 1 = cc in omega arith)
-less-transitive (x ∷ a) (y ∷ b) [] e f = absurd (let z : _≡_ {A = ℕ} 0 1 = cc in omega arith)
+less-transitive (x ∷ a) [] c e f = never cc
+less-transitive (x ∷ a) (y ∷ b) [] e f = never cc
 less-transitive (x ∷ a) (y ∷ b) (z ∷ c) e f = go (compareNumbers x y) (compareNumbers y z) (says x y) (says y z) e f (less-transitive a b c)
   where
     go : (o p : Ordering) → Says o x y → Says p y z → thenBy o (compareParts a b) ≡ Less → thenBy p (compareParts b c) ≡ Less
         → (compareParts a b ≡ Less → compareParts b c ≡ Less → compareParts a c ≡ Less) → thenBy (compareNumbers x z) (compareParts a c) ≡ Less
     go Less Less h k e f r = rw (compare-less x z (omega arith))
     go Less Equal h k e f r = rw (compare-less x z (omega arith))
-    go Less Greater h k e f r = absurd (let z : _≡_ {A = ℕ} 0 1 = cc in omega arith)
+    go Less Greater h k e f r = never cc
     go Equal Less h k e f r = rw (compare-less x z (omega arith))
     go Equal Equal h k e f r = rw (compare-equal x z (h ∙ k)) (r e f)
-    go Equal Greater h k e f r = absurd (let z : _≡_ {A = ℕ} 0 1 = cc in omega arith)
-    go Greater Less h k e f r = absurd (let z : _≡_ {A = ℕ} 0 1 = cc in omega arith)
-    go Greater Equal h k e f r = absurd (let z : _≡_ {A = ℕ} 0 1 = cc in omega arith)
-    go Greater Greater h k e f r = absurd (let z : _≡_ {A = ℕ} 0 1 = cc in omega arith)
+    go Equal Greater h k e f r = never cc
+    go Greater Less h k e f r = never cc
+    go Greater Equal h k e f r = never cc
+    go Greater Greater h k e f r = never cc

@@ -205,13 +205,13 @@ module _ (w : List ℕ) where
   unfolding decoded runtimeOf runtimeFrom ifEqual choose given
   budget-runs m = rw m
 
-  pub no-budget : word w 7 ≡ 0 → decoded w .parameters .budget ≡ budget.None
+  pub without-budget : word w 7 ≡ 0 → decoded w .parameters .budget ≡ budget.None
   unfolding decoded parametersOf budgetFrom ifEqual choose
-  no-budget n = rw (eq-eqb (word w 7) 0 n)
+  without-budget n = rw (eq-eqb (word w 7) 0 n)
 
-  pub some-budget : (word w 7 ≡ 0 → ⊥) → decoded w .parameters .budget ≡ budget.Some (budgetParameters w)
+  pub with-budget : (word w 7 ≡ 0 → ⊥) → decoded w .parameters .budget ≡ budget.Some (budgetParameters w)
   unfolding decoded parametersOf budgetFrom ifEqual choose
-  some-budget n = rw (ne-eqb (word w 7) 0 n)
+  with-budget n = rw (ne-eqb (word w 7) 0 n)
 
 -- The numbers of the twelve trees are words.
 pub role-fits : (base : ℕ) {n : ℕ} (tag : ℕ) → n ≡ roleNumber tag → base ≤ 9 → base + n < 18446744073709551616

@@ -58,4 +58,12 @@ module _ {A : Type 0} {y : A} {r x : Sought} (a : A) (k : Links → A) (f g : Li
   unfolding onSought
   sought-damaged p m h = rw (sym p ∙ m) h
 
+-- A root made of a link's parts is the answer that has them.
+pub of-parts : {r : Rooted} {l x : Link} → r ≡ rooted.Root l → l ≡ x → rooted.Root x ≡ r
+of-parts e m = rw (e, m)
+
+-- An answer made anew and the table with it.
+pub made-anew : {r s : Rooted} {t : List ThreadRecord} {x : Out Rooted} → r ≡ s → out s t ≡ x → out r t ≡ x
+made-anew e h = rw e h
+
 pub ruleset answers = (orderings, turnings, rooted-root, rooted-damaged, way-left, way-right, way-equal, way-damaged, sought-left, sought-right, sought-found, sought-damaged)

@@ -1,7 +1,6 @@
--- A step of the way up stores what the definitions say.
-use mathlib.Core.Path.{_≡_, refl, sym}
+-- A step of the way up, which stores one link and balances the node by the links that it has since, is what the definition says.
+use mathlib.Core.Path.{_≡_, refl, sym, _∙_}
 use mathlib.Core.List.{List}
-use mathlib.Core.Bool.{Bool, true, false}
 use Prim.Native.Nat.{ℕ}
 use lib.ListN.{getD}
 use borrow.Author.Tests.{eq-eqb, ne-eqb}
@@ -13,52 +12,42 @@ use Rattle.rows.specs.declared.LinksRead.{LinksRead}
 use Rattle.rows.specs.declared.LinksRead.the-variants as links
 use Rattle.rows.specs.declared.Change.{Change}
 use Rattle.rows.specs.declared.Change.the-variants as change
-use Rattle.rows.specs.Table.{Out, out, linksAt, setLinks, setLeft, setRight}
+use Rattle.rows.specs.Table.{Out, out, after, linksAt, setLinks, setLeft, setRight}
 use Rattle.rows.specs.TableCases.{onLinks, onMade}
-use Rattle.rows.specs.TableLaws.{set-left-links, set-right-links, set-left-damaged, set-right-damaged}
+use Rattle.rows.specs.TableLaws.{links-got-within, links-set-links-same, set-left-links, set-right-links}
 use Rattle.rotations.specs.declared.Turned.{Turned}
 use Rattle.rotations.specs.declared.Turned.the-variants as turned
 use Rattle.rotations.specs.Balance.{balance}
+use Rattle.rotations.specs.InPlace.{balanceBy}
+use Rattle.rotations.specs.InPlaceLaws.{by-its-links}
 use Rattle.ready_index.specs.declared.Step.{Step}
 use Rattle.ready_index.specs.Index.{hung, rebuildStep}
 use Rattle.ready_index.specs.Path.{stepOf}
-use Rattle.ready_index.specs.InPlace.{hungAt}
 
--- Where the step led to the left, its row has 0.
-module _ {y : Out Change} (t : List ThreadRecord) (step : List ℕ) (sub : Link) where
-  pub hung-left : getD step 1 0 ≡ 0 → y ≡ setLeft t (getD step 0 0) sub → y ≡ hungAt t (stepOf step) sub
-  unfolding hungAt choose
-  hung-left p h = rw (eq-eqb (getD step 1 0) 0 p) h
+climbed : (t : List ThreadRecord) (s : Step) (sub : Link) {l m : Links} → linksAt t (s .id) ≡ links.Got l → hung s l sub ≡ m
+    → onMade (setLinks t (s .id) m) (out turned.Damaged) (λ t₁. balanceBy t₁ (s .id) (m .left) (m .right)) ≡ rebuildStep t s sub
+unfolding rebuildStep onLinks onMade
+climbed t s sub {l} {m} e f = rw (e, f) (go (setLinks t (s .id) m) (links-set-links-same t (s .id) m (links-got-within t (s .id) e)))
+  where
+    go : (x : Out Change) → linksAt (after x) (s .id) ≡ links.Got m
+        → onMade x (out turned.Damaged) (λ t₁. balanceBy t₁ (s .id) (m .left) (m .right)) ≡ onMade x (out turned.Damaged) (λ t₁. balance t₁ (s .id))
+    go (out change.Made t₁) k = by-its-links t₁ (s .id) k
+    go (out change.Damaged t₁) k = refl
 
-  pub hung-right : (getD step 1 0 ≡ 0 → ⊥) → y ≡ setRight t (getD step 0 0) sub → y ≡ hungAt t (stepOf step) sub
-  unfolding hungAt choose
-  hung-right p h = rw (ne-eqb (getD step 1 0) 0 p) h
+-- By what was read of the node, x, and by the side that the step's row says: with 0 the left one.
+module _ {y : Out Turned} {x : LinksRead} (t : List ThreadRecord) (step : List ℕ) (sub : Link) where
+  pub up-from-nowhere : x ≡ linksAt t (getD step 0 0) → x ≡ links.Damaged → y ≡ out turned.Damaged t → y ≡ rebuildStep t (stepOf step) sub
+  unfolding rebuildStep onLinks
+  up-from-nowhere e m h = rw (sym e ∙ m) h
 
-module _ (t : List ThreadRecord) (s : Step) (sub : Link) where
-  hung-links : {l : Links} → linksAt t (s .id) ≡ links.Got l → hungAt t s sub ≡ setLinks t (s .id) (hung s l sub)
-  unfolding hungAt hung choose
-  hung-links {l} e = go (s .right)
-    where
-      go : (b : Bool)
-          → choose b (setRight t (s .id) sub) (setLeft t (s .id) sub)
-          ≡ setLinks t (s .id) (choose b (record { left = l .left; right = sub; height = l .height }) (record { left = sub; right = l .right; height = l .height }))
-      go true = set-right-links t (s .id) e sub
-      go false = set-left-links t (s .id) e sub
+  pub up-from-left : {l : Links} → x ≡ linksAt t (getD step 0 0) → x ≡ links.Got l → getD step 1 0 ≡ 0
+      → y ≡ onMade (setLeft t (getD step 0 0) sub) (out turned.Damaged) (λ t₁. balanceBy t₁ (getD step 0 0) sub (l .right)) → y ≡ rebuildStep t (stepOf step) sub
+  unfolding hung choose
+  up-from-left e m p h = (rw (set-left-links t (getD step 0 0) (sym e ∙ m) sub) at h) ∙ climbed t (stepOf step) sub (sym e ∙ m) (rw (eq-eqb (getD step 1 0) 0 p))
 
-  hung-nowhere : linksAt t (s .id) ≡ links.Damaged → hungAt t s sub ≡ out change.Damaged t
-  unfolding hungAt choose
-  hung-nowhere e = go (s .right)
-    where
-      go : (b : Bool) → choose b (setRight t (s .id) sub) (setLeft t (s .id) sub) ≡ out change.Damaged t
-      go true = set-right-damaged t (s .id) e sub
-      go false = set-left-damaged t (s .id) e sub
+  pub up-from-right : {l : Links} → x ≡ linksAt t (getD step 0 0) → x ≡ links.Got l → (getD step 1 0 ≡ 0 → ⊥)
+      → y ≡ onMade (setRight t (getD step 0 0) sub) (out turned.Damaged) (λ t₁. balanceBy t₁ (getD step 0 0) (l .left) sub) → y ≡ rebuildStep t (stepOf step) sub
+  unfolding hung choose
+  up-from-right e m p h = (rw (set-right-links t (getD step 0 0) (sym e ∙ m) sub) at h) ∙ climbed t (stepOf step) sub (sym e ∙ m) (rw (ne-eqb (getD step 1 0) 0 p))
 
-  -- A step up stores one link, and then balances the node.
-  pub step-up : {y : Out Turned} → y ≡ onMade (hungAt t s sub) (out turned.Damaged) (λ t₁. balance t₁ (s .id)) → y ≡ rebuildStep t s sub
-  unfolding rebuildStep onLinks onMade
-  step-up {y} h = go (linksAt t (s .id)) refl
-    where
-      go : (x : LinksRead) → linksAt t (s .id) ≡ x
-          → y ≡ onLinks x (out turned.Damaged t) (λ l. onMade (setLinks t (s .id) (hung s l sub)) (out turned.Damaged) (λ t₁. balance t₁ (s .id)))
-      go (links.Got l) e = rw (sym (hung-links e)) h
-      go links.Damaged e = rw (hung-nowhere e) at h
+pub ruleset step-up = (up-from-nowhere, up-from-left, up-from-right)

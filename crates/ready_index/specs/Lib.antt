@@ -7,7 +7,6 @@ pub mod Index
 -- The lent path as steps.
 pub mod Path
 -- What a step of the way up stores.
-pub mod InPlace
 -- Laws of the lent path.
 pub mod PathLaws
 -- Laws by which the loops go on.

@@ -5,7 +5,6 @@ ghost use mathlib.Core.Path.{_≡_};
 ghost use lib.ListN.{length};
 ghost use Rattle.rows.specs.Table.{table, out};
 ghost use Rattle.ready_index.specs.Index as index;
-ghost use Rattle.ready_index.specs.InPlace.{hungAt};
 ghost use Rattle.ready_index.specs.Path.{stepOf, stack, walkOf, walkSteps, lastSought, searchOf, searchSteps, successorOf, successorSteps};
 use order::Ordering;
 use rotations::Turned;
@@ -222,26 +221,39 @@ fn walk(t: &[[u64; 32]], path: &mut [[u64; 2]], key: TreeKey, root: Link) -> Wal
     }
 }
 
-// The new subtree hung under a node where the step led.
-fn hang(t: &mut [[u64; 32]], step: [u64; 2], sub: Link) -> Change
-    ensures { λ r. ⌜ out r (table (now (t .exit))) ≡ hungAt (table (now (t .entry))) (stepOf step) sub ⌝ }
-{
-    let parent = step[0];
-    if step[1] == 0 {
-        return set_left(t, parent, sub);
-    }
-    set_right(t, parent, sub)
-}
-
-// One step up: the new subtree is hung under the node, which is then balanced.
+// One step up: the new subtree is hung under the node where the step led, and the node balanced. Its links are read before the store and not again: a load that may or may not meet a store just made waits for it.
 fn rebuild_step(t: &mut [[u64; 32]], step: [u64; 2], sub: Link) -> Turned
     ensures { λ r. ⌜ out r (table (now (t .exit))) ≡ index.rebuildStep (table (now (t .entry))) (stepOf step) sub ⌝ }
 {
     let parent = step[0];
-    let Change::Made = hang(t, step, sub) else {
+    let LinksRead::Got(links) = links_at(t, parent) else {
         return Turned::Damaged;
     };
-    rebalance(t, parent)
+    let left = links.left;
+    let right = links.right;
+    if step[1] == 0 {
+        let Change::Made = set_left(t, parent, sub) else {
+            return Turned::Damaged;
+        };
+        return rebalance(t, parent, sub, right);
+    }
+    let Change::Made = set_right(t, parent, sub) else {
+        return Turned::Damaged;
+    };
+    rebalance(t, parent, left, sub)
+}
+
+// The same answer made anew of its parts, so that it is stored part by part and read so: as a whole it could only be read once the stores of its parts are through.
+fn by_parts(rooted: Rooted) -> Rooted
+    ensures { λ r. ⌜ r ≡ rooted ⌝ }
+{
+    match rooted {
+        Rooted::Root(link) => match link {
+            Link::None => Rooted::Root(Link::None),
+            Link::Some(id) => Rooted::Root(Link::Some(id)),
+        },
+        Rooted::Damaged => Rooted::Damaged,
+    }
 }
 
 // Up along so many steps of the path, those from the row `start` on. After `rebuild`.
@@ -266,7 +278,7 @@ fn rebuild(
         };
         sub = Link::Some(top);
     }
-    Rooted::Root(sub)
+    by_parts(Rooted::Root(sub))
 }
 
 // Duplicates and overlong paths are refused before an existing record is changed. After `insert_at`.
@@ -285,7 +297,8 @@ fn insert_at(
     let Change::Made = set_links(t, id, Links::EMPTY) else {
         return Rooted::Damaged;
     };
-    rebuild(t, path, 0, steps, Link::Some(id))
+    let rebuilt = rebuild(t, path, 0, steps, Link::Some(id));
+    by_parts(rebuilt)
 }
 
 // A thread put into the tree under a root, by a path that is lent for the time of the call. After `Tree::insert`.
@@ -492,7 +505,7 @@ fn rebuild_removed(
     let Change::Made = set_links(t, id, emptied) else {
         return Rooted::Damaged;
     };
-    Rooted::Root(top)
+    by_parts(Rooted::Root(top))
 }
 
 // The thread that so many steps lead to is replaced, and the path to it rebuilt.

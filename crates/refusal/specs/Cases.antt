@@ -3,6 +3,7 @@ use mathlib.Core.Path.{_≡_, refl, sym, _∙_}
 use mathlib.Core.Bool.{Bool, true, false, not}
 use Prim.Native.Nat.{ℕ, _<_, _≤_}
 use lib.Dec.{ltb, eqb}
+use native.Mathlib.Omega.{arith}
 use borrow.Author.Tests.{lt-ltb, le-ltb, eq-eqb, ne-eqb, not-true, not-false}
 use Rattle.refusal.specs.Answer.{Answer, value, refused}
 
@@ -27,6 +28,10 @@ given x f = f x
 unfoldable pub andThen : {A B : Type 0} → Answer A → (A → Answer B) → Answer B
 andThen (value a) f = f a
 andThen (refused n) f = refused n
+
+-- Whatever is asked, where 0 would be 1: `cc` finds that in two constructors said to be equal.
+pub never : {A : Type 0} → _≡_ {A = ℕ} 0 1 → A
+never e = absurd (omega arith)
 
 module _ {A : Type 0} {y : A} (a b : A) where
   pub holds : {r x : Bool} → r ≡ x → r ≡ true → y ≡ a → y ≡ choose x a b

@@ -10,14 +10,14 @@ use lib.ListN.{length, length-map, getD, set}
 use borrow.Author.Tests.{eq-eqb, ne-eqb, eqb-true}
 use Rattle.refusal.specs.Answer.{Answer, value, refused, numberOf}
 use Rattle.refusal.specs.declared.Refusal.{Refusal}
-use Rattle.refusal.specs.Cases.{choose, given, ifEqual}
+use Rattle.refusal.specs.Cases.{never, choose, given, ifEqual}
 use Rattle.time.specs.declared.Epoch.{Epoch}
 use Rattle.time.specs.declared.Epoch.the-variants as epoch
 use Rattle.policy.specs.declared.BudgetOption.{BudgetOption}
 use Rattle.policy.specs.declared.BudgetOption.the-variants as budget
 use Rattle.policy.specs.declared.BudgetParameters.{BudgetParameters}
 use Rattle.policy.specs.declared.SchedulingParameters.{SchedulingParameters}
-use Rattle.policy.specs.PolicyCases.{onBudget}
+use Rattle.policy.specs.PolicyCases.{onBudget, no-budget, some-budget}
 use Rattle.policy.specs.Budget.{soundBudget}
 use Rattle.budget.specs.Runtime.{judged, refreshedJudged}
 use Rattle.codec.specs.Codec.{word, budgetFrom, parametersOf, runtimeOf, decoded}
@@ -60,7 +60,7 @@ use Rattle.queue.specs.declared.Verdict.{Verdict}
 use Rattle.queue.specs.declared.Verdict.the-variants as verdict
 use Rattle.queue.specs.Answers.{verdictAnswer}
 use Rattle.queue.specs.Queue.{emptyRoot}
-use Rattle.queue.specs.RowJudgement.{kindFrom, badRow, budgetParameters, judged-by-tags, kind-of-two, budget-runs, no-budget, some-budget}
+use Rattle.queue.specs.RowJudgement.{kindFrom, badRow, budgetParameters, judged-by-tags, kind-of-two, budget-runs, without-budget, with-budget}
 use Rattle.renewal.specs.RootRows.{rootsOf}
 use Rattle.renewal.specs.Renewal.{leastLink, headOf, refreshRecord, refreshRuntime, budgetTrees, moveOne, moveAll, rootAt, withTrees, renewRoles, isEpoch, isHalt}
 use Rattle.renewal.specs.Steps.{refreshedStored, budgetRefreshed, rowRefreshed, runtimeRefreshed, refiled, Next, emptied, moved, stopped, onNext, nextMove, lastMove, roleRenewed}
@@ -114,15 +114,13 @@ module _ {B : Type 0} {y : B} {r : Verdict} (g : ℕ → B) (f : Unit {0} → B)
 pub stored-after : {A B : Type 0} {a : A} {c : B} {t : List ThreadRecord} {x : Out B} → out c t ≡ x → out a t ≡ out a (after x)
 stored-after s = rw (ap after s)
 
--- By the words of a record's budget.
+-- By the budget that a row's words say.
 module _ {A : Type 0} {y : A} (w : List ℕ) (a : A) (f : BudgetParameters → A) where
-  pub no-budget-row : word w 7 ≡ 0 → y ≡ a → y ≡ onBudget (decoded w .parameters .budget) a f
-  unfolding decoded parametersOf budgetFrom ifEqual choose onBudget
-  no-budget-row m h = rw (eq-eqb (word w 7) 0 m) h
+  pub row-has-none : word w 7 ≡ 0 → y ≡ a → y ≡ onBudget (decoded w .parameters .budget) a f
+  row-has-none m h = no-budget a f (without-budget w m) h
 
-  pub some-budget-row : (word w 7 ≡ 0 → ⊥) → y ≡ f (record { «budget_ns» = word w 8; «period_ns» = word w 9; «burst_ns» = word w 10 }) → y ≡ onBudget (decoded w .parameters .budget) a f
-  unfolding decoded parametersOf budgetFrom ifEqual choose onBudget
-  some-budget-row m h = rw (ne-eqb (word w 7) 0 m) h
+  pub row-has-one : (word w 7 ≡ 0 → ⊥) → y ≡ f (budgetParameters w) → y ≡ onBudget (decoded w .parameters .budget) a f
+  row-has-one m h = some-budget a f (with-budget w m) h
 
 -- The refresh of a row's runtime.
 pub row-fresh : {A : Type 0} {y : A} {p : SchedulingParameters} {r : PolicyRuntime} {a : Answer PolicyRuntime} (w : List ℕ) (now : ℕ) (f : Answer PolicyRuntime → A)
@@ -140,7 +138,7 @@ module _ {B : Type 0} {y : B} {r : Moved} (g : ℕ → BudgetTrees → B) (f : U
   unfolding onLeaves
   move-refused m h = rw m h
 
-pub ruleset renewing = (least-none, least-some, least-damaged, head-found, head-damaged, runtime-fresh, runtime-refused, was-accepted, was-turned-down, stored-after, no-budget-row, some-budget-row, row-fresh, move-done, move-refused)
+pub ruleset renewing = (least-none, least-some, least-damaged, head-found, head-damaged, runtime-fresh, runtime-refused, was-accepted, was-turned-down, stored-after, row-has-none, row-has-one, row-fresh, move-done, move-refused)
 
 -- A row whose policy and runtime have the same tag has one kind.
 module _ (w : List ℕ) where
@@ -164,13 +162,13 @@ module _ (w : List ℕ) where
       go true true none sound e₁ e₂ e₃ h =
           absurd (d (kind-of-two (word w 11) (eqb-true (kindFrom (word w 11)) (kindFrom (word w 0)) e₁ ∙ eqb-true (kindFrom (word w 0)) 2 e₂) ∙ sym (kind-of-two (word w 0) (eqb-true (kindFrom (word w 0)) 2 e₂))))
       go true false true sound e₁ e₂ e₃ h = eqb-true (word w 7) 0 e₃
-      go true false false sound e₁ e₂ e₃ h = absurd (let z : _≡_ {A = ℕ} 0 1 = cc in omega arith)
-      go false two none sound e₁ e₂ e₃ h = absurd (let z : _≡_ {A = ℕ} 0 1 = cc in omega arith)
+      go true false false sound e₁ e₂ e₃ h = never cc
+      go false two none sound e₁ e₂ e₃ h = never cc
 
   -- A budget that is not sound is refused by its refresh.
   unsound : (t : List ThreadRecord) (id now : ℕ) → recordAt t id ≡ read.Got (decoded w) → (word w 7 ≡ 0 → ⊥) → word w 11 ≡ 2 → soundBudget (budgetParameters w) ≡ false → budgetRefreshed t id now ≡ out (refused 11) t
   unfolding budgetRefreshed refreshedStored given onRecord epochRefreshed onRuntime onBudget refreshedJudged judged ofBudget choose onAnswer
-  unsound t id now got n m s = rw (got, budget-runs w m, some-budget w n, s)
+  unsound t id now got n m s = rw (got, budget-runs w m, with-budget w n, s)
 
 -- A row's record judged and refreshed, by the tags.
 module _ {y : Out (Answer (Unit {0}))} (t : List ThreadRecord) (id : ℕ) (w : List ℕ) (now : ℕ) where
@@ -180,14 +178,14 @@ module _ {y : Out (Answer (Unit {0}))} (t : List ThreadRecord) (id : ℕ) (w : L
 
   pub row-plain : word w 11 ≡ word w 0 → word w 7 ≡ 0 → (word w 11 ≡ 2 → ⊥) → y ≡ out (value tt) t → y ≡ rowRefreshed t id (decoded w) now
   unfolding rowRefreshed ifEqual choose onBudget
-  row-plain e n m h = rw (plain-row w e m, eq-eqb (word w 7) 0 n, no-budget w n) h
+  row-plain e n m h = rw (plain-row w e m, eq-eqb (word w 7) 0 n, without-budget w n) h
 
   row-budget : recordAt t id ≡ read.Got (decoded w) → word w 11 ≡ word w 0 → (word w 7 ≡ 0 → ⊥) → word w 11 ≡ 2 → y ≡ budgetRefreshed t id now → y ≡ rowRefreshed t id (decoded w) now
   unfolding rowRefreshed ifEqual choose onBudget
   row-budget got e n m h =
       h ∙ go (soundBudget (budgetParameters w)) refl
       ∙ sym
-      (ap (λ q. choose (isBadRecord (decoded w)) (out (refused 11) t) (onBudget q (out (value tt) t) (λ b. budgetRefreshed t id now))) (some-budget w n)
+      (ap (λ q. choose (isBadRecord (decoded w)) (out (refused 11) t) (onBudget q (out (value tt) t) (λ b. budgetRefreshed t id now))) (with-budget w n)
       ∙ ap (λ bad. choose bad (out (refused 11) t) (budgetRefreshed t id now)) judged-bad)
     where
       judged-bad : isBadRecord (decoded w) ≡ choose (soundBudget (budgetParameters w)) false true
@@ -207,7 +205,7 @@ module _ {y : Out (Answer (Unit {0}))} (t : List ThreadRecord) (id : ℕ) (w : L
 
   pub row-idle : {b : Bool} → (word w 11 ≡ word w 0 → ⊥) → b ≡ isBadRecord (decoded w) → b ≡ false → y ≡ out (value tt) t → y ≡ rowRefreshed t id (decoded w) now
   unfolding rowRefreshed choose onBudget
-  row-idle d e m h = rw (sym e ∙ m, no-budget w (other-tags w d (sym e ∙ m))) h
+  row-idle d e m h = rw (sym e ∙ m, without-budget w (other-tags w d (sym e ∙ m))) h
 
 pub row-budget-inside : {y : Out (Answer (Unit {0}))} (rows : List (List ℕ)) (id now : ℕ) → id < length rows → word (getD rows id []) 11 ≡ word (getD rows id []) 0
     → (word (getD rows id []) 7 ≡ 0 → ⊥) → word (getD rows id []) 11 ≡ 2 → y ≡ budgetRefreshed (table rows) id now → y ≡ rowRefreshed (table rows) id (decoded (getD rows id [])) now

@@ -4,7 +4,7 @@ ghost use mathlib.Core.Path.{_≡_};
 ghost use Rattle.avl.specs.Rotation.{leanOf};
 ghost use Rattle.rows.specs.Table.{table, out};
 ghost use Rattle.rotations.specs.Balance as spec;
-ghost use Rattle.rotations.specs.InPlace.{isEven, heightStored};
+ghost use Rattle.rotations.specs.InPlace.{isEven, heightStored, balanceBy};
 use avl::Lean;
 use avl::lean_of;
 use rows::Change;
@@ -311,15 +311,10 @@ fn store_height(t: &mut [[u64; 32]], i: u64, left: u8, right: u8) -> Turned
     Turned::Damaged
 }
 
-// `balance` for the way up, where nearly every node stays in its place: then the height alone is stored, and no call is made.
-pub fn rebalance(t: &mut [[u64; 32]], i: u64) -> Turned
-    ensures { λ r. ⌜ out r (table (now (t .exit))) ≡ spec.balance (table (now (t .entry))) i ⌝ }
+// `balance` for the way up, where the node's links are known and nearly every node stays in its place: then nothing is read again, the height alone is stored, and no call is made.
+pub fn rebalance(t: &mut [[u64; 32]], i: u64, left: Link, right: Link) -> Turned
+    ensures { λ r. ⌜ out r (table (now (t .exit))) ≡ balanceBy (table (now (t .entry))) i left right ⌝ }
 {
-    let LinksRead::Got(links) = links_at(t, i) else {
-        return Turned::Damaged;
-    };
-    let left = links.left;
-    let right = links.right;
     let HeightRead::Got(a) = height(t, left) else {
         return Turned::Damaged;
     };

@@ -7,7 +7,7 @@ use mathlib.Core.List.{List, [], _∷_}
 use lib.Dec.{ltb, eqb}
 use lib.ListN.{length, getD, set, length-set}
 use borrow.Author.Tests.{lt-ltb, le-ltb, ltb-true, ltb-false, eqb-true, eqb-false}
-use Rattle.refusal.specs.Cases.{choose, ifLess}
+use Rattle.refusal.specs.Cases.{never, choose, ifLess}
 use Rattle.policy.specs.declared.SchedulingParameters.{SchedulingParameters}
 use Rattle.policy.specs.declared.SchedulingPolicy.the-variants as policy
 use Rattle.policy.specs.PolicyCases.{onPolicy}
@@ -123,7 +123,7 @@ module _ (t : List ThreadRecord) (i : ℕ) where
     where
       go : (b : Bool) → ltb i (length t) ≡ b → i < length t
       go true k = ltb-true i (length t) k
-      go false k = let f : linksAt t i ≡ links.Damaged = links-beyond (ltb-false i (length t) k) in absurd (let z : _≡_ {A = ℕ} 0 1 = cc in omega arith)
+      go false k = let f : linksAt t i ≡ links.Damaged = links-beyond (ltb-false i (length t) k) in never cc
 
   pub key-within : i < length t → keyAt t i ≡ key.Got (readyIndexKey (recordOf t i) i)
   unfolding keyAt
@@ -138,7 +138,7 @@ module _ (t : List ThreadRecord) (i : ℕ) where
     where
       go : (b : Bool) → ltb i (length t) ≡ b → i < length t
       go true k = ltb-true i (length t) k
-      go false k = let f : keyAt t i ≡ key.Damaged = key-beyond (ltb-false i (length t) k) in absurd (let z : _≡_ {A = ℕ} 0 1 = cc in omega arith)
+      go false k = let f : keyAt t i ≡ key.Damaged = key-beyond (ltb-false i (length t) k) in never cc
 
   pub queue-links-within : i < length t → queueLinksAt t i ≡ queueLinks.Got (recordOf t i .«queue_links»)
   unfolding queueLinksAt
@@ -153,7 +153,7 @@ module _ (t : List ThreadRecord) (i : ℕ) where
     where
       go : (b : Bool) → ltb i (length t) ≡ b → i < length t
       go true k = ltb-true i (length t) k
-      go false k = let f : queueLinksAt t i ≡ queueLinks.Damaged = queue-links-beyond (ltb-false i (length t) k) in absurd (let z : _≡_ {A = ℕ} 0 1 = cc in omega arith)
+      go false k = let f : queueLinksAt t i ≡ queueLinks.Damaged = queue-links-beyond (ltb-false i (length t) k) in never cc
 
   pub record-within : i < length t → recordAt t i ≡ read.Got (recordOf t i)
   unfolding recordAt
@@ -168,7 +168,7 @@ module _ (t : List ThreadRecord) (i : ℕ) where
     where
       go : (b : Bool) → ltb i (length t) ≡ b → i < length t
       go true k = ltb-true i (length t) k
-      go false k = let f : recordAt t i ≡ read.Damaged = record-beyond (ltb-false i (length t) k) in absurd (let z : _≡_ {A = ℕ} 0 1 = cc in omega arith)
+      go false k = let f : recordAt t i ≡ read.Damaged = record-beyond (ltb-false i (length t) k) in never cc
 
 -- `set_links` changes the tree links of its record and nothing else.
 module _ (t : List ThreadRecord) (i : ℕ) (l : Links) where
@@ -235,7 +235,7 @@ module _ (t : List ThreadRecord) (i : ℕ) (e : linksAt t i ≡ links.Damaged) w
   outside = go (ltb i (length t)) refl
     where
       go : (b : Bool) → ltb i (length t) ≡ b → length t ≤ i
-      go true k = let f : linksAt t i ≡ links.Got (recordOf t i .«ready_tree») = links-within t i (ltb-true i (length t) k) in absurd (let z : _≡_ {A = ℕ} 0 1 = cc in omega arith)
+      go true k = let f : linksAt t i ≡ links.Got (recordOf t i .«ready_tree») = links-within t i (ltb-true i (length t) k) in never cc
       go false k = ltb-false i (length t) k
 
   pub set-left-damaged : (sub : Link) → setLeft t i sub ≡ out change.Damaged t

@@ -1,8 +1,7 @@
 // The table of records as rows of 32 words, read and changed by a record's number. Each store touches the words of one part.
 ghost use mathlib.Core.Path.{_≡_};
-ghost use Rattle.rows.specs.Table.{table, out, linksAt, keyAt, queueLinksAt, recordAt, setLinks, setLeft, setRight, setHeight, setQueueLinks, setRuntime, setTurn};
+ghost use Rattle.rows.specs.Table.{table, out, linksAt, keyAt, queueLinksAt, setLinks, setLeft, setRight, setHeight, setQueueLinks, setRuntime, setTurn};
 use algorithms::PolicyRuntime;
-use codec::decode;
 use codec::key_of;
 use codec::links_of;
 use codec::queue_links_of;
@@ -79,18 +78,6 @@ pub fn queue_links_at(t: &[[u64; 32]], i: u64) -> QueueLinksRead
         QueueLinksRead::Got(queue_links_of(row))
     } else {
         QueueLinksRead::Damaged
-    }
-}
-
-pub fn record_at(t: &[[u64; 32]], i: u64) -> RecordRead
-    ensures { λ r. ⌜ r ≡ recordAt (table (now (t .entry))) i ⌝ }
-{
-    let k = i as usize;
-    if k < t.len() {
-        let row = t[k];
-        RecordRead::Got(decode(row))
-    } else {
-        RecordRead::Damaged
     }
 }
 

@@ -1,6 +1,5 @@
 -- What the calls do with the row of a judged record is what the definitions say of its record.
 use Prim.Native.Nat.{ℕ, _%_}
-use native.Mathlib.Omega.{arith}
 use mathlib.Core.Path.{_≡_, refl, sym, ap, _∙_}
 use mathlib.Core.Bool.{Bool, true, false}
 use mathlib.Core.List.{List, []}
@@ -10,7 +9,7 @@ use lib.ListN.{set}
 use lib.Seq.{set-getD}
 use borrow.Author.Tests.{eqb-true}
 use Rattle.refusal.specs.Answer.{Answer, value, refused}
-use Rattle.refusal.specs.Cases.{choose, given, ifLess, ifEqual, andThen}
+use Rattle.refusal.specs.Cases.{never, choose, given, ifLess, ifEqual, andThen}
 use Rattle.time.specs.declared.Deadline.{Deadline}
 use Rattle.time.specs.declared.Deadline.the-variants as deadline
 use Rattle.time.specs.Time.{checkedAdd, earliestOf}
@@ -58,7 +57,7 @@ use Rattle.runtime.specs.Judging.{onWith, stored}
 use Rattle.runtime.specs.Prepare.{Counted, counted, prepareRecord, storedPreparation, prepared}
 use Rattle.runtime.specs.Account.{accountRecord, settled, passOf, hasTime, candidateOf, refreshing, candidate}
 use Rattle.runtime.specs.Deadline.{dueWith, dueWithout, dueAt, armed}
-use Rattle.runtime.specs.Judged.{Good, fifo, fair, budgeted, idle, never, good-record, freshOf, refreshes, chargedOf, accounts, finishedOf, finishes}
+use Rattle.runtime.specs.Judged.{Good, fifo, fair, budgeted, idle, good-record, freshOf, refreshes, chargedOf, accounts, finishedOf, finishes}
 use Rattle.runtime.specs.Rows.{fairRuntime, passRow, spentRow, sliceEnd, refreshedEnd, budgetEnd, ownEnd, earlierOf, dueRow, keylessDue, budgetStored, finishedRow, chargedRow, refreshedRow, candidateRow, preparedRow, rowPrepared, accountedRow}
 
 -- What a judged row is, by the tag of its runtime: a sound budget with its runtime, or neither.
@@ -75,16 +74,16 @@ data RowOf (w : List ℕ) : Type 0 where
 
 has-by : (p : SchedulingPolicy) (q : BudgetOption) (r : PolicyRuntime) → Good p q r → isPlain r ≡ false → hasBudget q ≡ true
 unfolding hasBudget onBudget
-has-by p q r (fifo x) e = never e
-has-by p q r (fair f) e = never e
+has-by p q r (fifo x) e = never cc
+has-by p q r (fair f) e = never cc
 has-by p q r (budgeted s b h) e = refl
-has-by p q r idle e = never e
+has-by p q r idle e = never cc
 
 policy-by : (p : SchedulingPolicy) (q : BudgetOption) (r : PolicyRuntime) → Good p q r → isPlain r ≡ false → p ≡ policy.Budget
-policy-by p q r (fifo x) e = never e
-policy-by p q r (fair f) e = never e
+policy-by p q r (fifo x) e = never cc
+policy-by p q r (fair f) e = never cc
 policy-by p q r (budgeted s b h) e = refl
-policy-by p q r idle e = never e
+policy-by p q r idle e = never cc
 
 sound-by : (p : SchedulingPolicy) (q : BudgetOption) (r : PolicyRuntime) → Good p q r → onBudget q true soundBudget ≡ true
 unfolding onBudget
@@ -108,7 +107,7 @@ module _ (w : List ℕ) where
   budget-has h = go (eqb (word w 7) 0) h
     where
       go : (a : Bool) → onBudget (choose a option.None (option.Some (budgetParameters w))) false (λ q. true) ≡ true → choose a option.None (option.Some (budgetParameters w)) ≡ option.Some (budgetParameters w)
-      go true h = never (sym h)
+      go true h = never cc
       go false h = refl
 
   policy-word : decoded w .parameters .policy ≡ policyFrom (word w 0) (word w 1)
@@ -150,26 +149,26 @@ module _ (t : List ThreadRecord) (id : ℕ) {r : ThreadRecord} (got : recordAt t
 plain-fresh : (x : PolicyRuntime) (q : BudgetOption) (now : ℕ) → isPlain x ≡ true → freshOf x q now ≡ x
 plain-fresh runtime.Fifo q now e = refl
 plain-fresh (runtime.Fair f) q now e = refl
-plain-fresh (runtime.Budget b) q now e = never (sym e)
+plain-fresh (runtime.Budget b) q now e = never cc
 plain-fresh runtime.Idle q now e = refl
 
 plain-charged : (x : PolicyRuntime) (q : BudgetOption) (start end : ℕ) → isPlain x ≡ true → chargedOf x q start end ≡ x
 plain-charged runtime.Fifo q start end e = refl
 plain-charged (runtime.Fair f) q start end e = refl
-plain-charged (runtime.Budget b) q start end e = never (sym e)
+plain-charged (runtime.Budget b) q start end e = never cc
 plain-charged runtime.Idle q start end e = refl
 
 plain-finished : (x : PolicyRuntime) (q : BudgetOption) → isPlain x ≡ true → finishedOf x q ≡ x
 plain-finished runtime.Fifo q e = refl
 plain-finished (runtime.Fair f) q e = refl
-plain-finished (runtime.Budget b) q e = never (sym e)
+plain-finished (runtime.Budget b) q e = never cc
 plain-finished runtime.Idle q e = refl
 
 plain-time : (x : PolicyRuntime) → isPlain x ≡ true → hasTime x ≡ true
 unfolding hasTime onRuntime
 plain-time runtime.Fifo e = refl
 plain-time (runtime.Fair f) e = refl
-plain-time (runtime.Budget b) e = never (sym e)
+plain-time (runtime.Budget b) e = never cc
 plain-time runtime.Idle e = refl
 
 -- A refresh leaves the pass.
@@ -359,7 +358,7 @@ module _ (now : ℕ) (m : DispatchMode) (x : Contention) where
       go true true = refl
       go true false = refl
       go false d = refl
-  plain-own p q r (budgeted s b h) e all o = never (sym e)
+  plain-own p q r (budgeted s b h) e all o = never cc
   plain-own p q r idle e all h = go (turnCompetition x (all .policy))
     where
       go : (c : Bool) → choose {A = Answer (PolicyRuntime × Deadline)} c (value (runtime.Idle, deadline.None)) (value (runtime.Idle, deadline.None)) ≡ value (runtime.Idle, deadline.None)

@@ -8,7 +8,7 @@ use native.Mathlib.Omega.{arith}
 use lib.ListN.{length}
 use lib.Dec.{eqb}
 use borrow.Author.Tests.{eq-eqb, ne-eqb}
-use Rattle.refusal.specs.Cases.{choose}
+use Rattle.refusal.specs.Cases.{never, choose}
 use Rattle.avl.specs.Tree.{Tree, leaf, node, inOrder, Balanced}
 use Rattle.avl.specs.Operations.{insertAt, removeAt, Added}
 use Rattle.avl.specs.InOrder.{leftmost-first}
@@ -48,8 +48,8 @@ pub held-inside : (t : List ThreadRecord) (x : Tree) (j : ℕ) → Holds t x →
 held-inside t x j h e = in-inside t j x 0 (suc (length t)) (rank t) (rank t) (has-in j x e) (holds-represents t x h)
 
 not-both : (b : Bool) → b ≡ true → b ≡ false → ⊥
-not-both true e f = let z : _≡_ {A = ℕ} 0 1 = cc in absurd (omega arith)
-not-both false e f = let z : _≡_ {A = ℕ} 0 1 = cc in absurd (omega arith)
+not-both true e f = never cc
+not-both false e f = never cc
 
 -- A thread that is not of the tree has another rank than each of the tree's.
 other-rank : (t : List ThreadRecord) (x : Tree) (i : ℕ) → Holds t x → i < length t → has i (inOrder x) ≡ false → (j : ℕ) → has j (inOrder x) ≡ true → rank t i ≢ rank t j

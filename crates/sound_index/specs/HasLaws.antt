@@ -3,9 +3,9 @@ use mathlib.Core.Path.{_≡_, refl, sym, ap, _∙_, subst}
 use mathlib.Core.Bool.{Bool, true, false, _||_}
 use mathlib.Core.List.{List, [], _∷_, _++_}
 use Prim.Native.Nat.{ℕ}
-use native.Mathlib.Omega.{arith}
 use lib.Dec.{eqb}
 use borrow.Author.Tests.{eq-eqb, eqb-true}
+use Rattle.refusal.specs.Cases.{never}
 use Rattle.avl.specs.Tree.{Tree, leaf, node, inOrder}
 use Rattle.avl.specs.Operations.{Added}
 use Rattle.sound_index.specs.Holds.{has}
@@ -63,7 +63,7 @@ has-added x i y a j = ap (has j) (a .with) ∙ has-move j i (a .left) (a .right)
 -- A thread of a tree's list, as a place in the tree.
 pub has-in : (j : ℕ) (x : Tree) → has j (inOrder x) ≡ true → In j x
 unfolding inOrder
-has-in j leaf e = let z : _≡_ {A = ℕ} 0 1 = cc in absurd (omega arith)
+has-in j leaf e = never cc
 has-in j (node l i r) e =
     or-cases (has j (inOrder l)) (has j (i ∷ inOrder r)) (sym (has-append j (inOrder l) (i ∷ inOrder r)) ∙ e)
     (λ h. in-left (has-in j l h))

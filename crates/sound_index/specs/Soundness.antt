@@ -6,7 +6,7 @@ use Prim.Native.Nat.{ℕ, suc, _≤_}
 use native.Mathlib.Omega.{arith}
 use native.Mathlib.Decide.{decLe}
 use lib.ListN.{length}
-use Rattle.refusal.specs.Cases.{choose}
+use Rattle.refusal.specs.Cases.{never, choose}
 use Rattle.avl.specs.Tree.{Tree, leaf, inOrder, Balanced}
 use Rattle.thread.specs.declared.Link.{Link}
 use Rattle.thread.specs.declared.ThreadRecord.{ThreadRecord}
@@ -30,7 +30,7 @@ holds-empty t = record { linked = tt; rising = tt }
 refused-is-no-root : {A : Type 0} (t s : List ThreadRecord) (m : Link) (o : Out Rooted) → o ≡ out rooted.Damaged t → o ≡ out (rooted.Root m) s → A
 refused-is-no-root t s m o e f =
     let k : out rooted.Damaged t ≡ out (rooted.Root m) s = sym e ∙ f in
-    absurd (let z : _≡_ {A = ℕ} 0 1 = cc in omega arith)
+    never cc
 
 -- An accepted call's table and root are those that the theorems name.
 settled : (t s : List ThreadRecord) (m : Link) (o : Out Rooted) (table : List ThreadRecord) (x : Tree) (l : List ℕ) → length t ≤ 4096 → OnlyLinks l t table

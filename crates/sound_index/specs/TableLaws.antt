@@ -6,6 +6,7 @@ use Prim.Native.Nat.{ℕ, zero, suc, _<_, _≤_}
 use native.Mathlib.Omega.{arith}
 use native.Mathlib.Decide.{decLe}
 use lib.ListN.{length, getD, set, length-map, List·getD-map}
+use Rattle.refusal.specs.Cases.{never}
 use Rattle.thread.specs.declared.Links.{Links}
 use Rattle.thread.specs.declared.TreeKey.{TreeKey}
 use Rattle.thread.specs.declared.ThreadRecord.{ThreadRecord}
@@ -103,7 +104,7 @@ got-record t s j l e = go (decLe (suc j) (length s))
     go (yes m) = let k : read.Got (recordOf s j) ≡ read.Got (recordOf t j) = sym (record-within s j m) ∙ e ∙ record-within t j l in (m, cc)
     go (no m) =
         let k : read.Damaged ≡ read.Got (recordOf t j) = sym (record-beyond s j (omega arith)) ∙ e ∙ record-within t j l in
-        absurd (let z : _≡_ {A = ℕ} 0 1 = cc in omega arith)
+        never cc
 
 -- A record that stays keeps its tree links,
 pub record-links : (t s : List ThreadRecord) (j : ℕ) → j < length t → recordAt s j ≡ recordAt t j → linksAt s j ≡ linksAt t j

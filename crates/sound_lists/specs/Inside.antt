@@ -1,14 +1,13 @@
 -- On any table, damaged ones too: where the checks pass, every number that is stored to afterwards lies inside the table, so the source's halts after its checks
 -- are never reached.
 use Prim.Native.Nat.{ℕ, _+_, _<_}
-use native.Mathlib.Omega.{arith}
 use mathlib.Core.Path.{_≡_, refl, sym}
 use mathlib.Core.Bool.{Bool, true, false}
 use mathlib.Core.List.{List}
 use lib.Dec.{eqb}
 use lib.ListN.{length}
 use Rattle.refusal.specs.Answer.{Answer, value, refused}
-use Rattle.refusal.specs.Cases.{choose, ifEqual}
+use Rattle.refusal.specs.Cases.{never, choose, ifEqual}
 use Rattle.thread.specs.declared.Link.{Link}
 use Rattle.thread.specs.declared.Link.the-variants as link
 use Rattle.thread.specs.declared.QueueLinks.{QueueLinks}
@@ -39,7 +38,7 @@ other-holds true x e = not-both false e refl
 other-holds false x e = e
 
 value-not-refused : {A : Type 0} {B : Type 0} {a : A} {n : ℕ} → value a ≡ refused n → B
-value-not-refused e = absurd (let z : _≡_ {A = ℕ} 0 1 = cc in omega arith)
+value-not-refused e = never cc
 
 passed : (b : Bool) (x : Answer ℕ) (k n : ℕ) → choose b x (refused k) ≡ value n → x ≡ value n
 unfolding choose
@@ -57,7 +56,7 @@ agreed true x k n e = refl
 agreed false x k n e = value-not-refused (sym e)
 
 no-number : {A : Type 0} {j : ℕ} → link.None ≡ link.Some j → A
-no-number e = absurd (let z : _≡_ {A = ℕ} 0 1 = cc in omega arith)
+no-number e = never cc
 
 module _ (t : List ThreadRecord) where
   nothing-inside : Inside t link.None

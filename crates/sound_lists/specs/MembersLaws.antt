@@ -1,6 +1,5 @@
 -- Laws of sequences of numbers: membership, ends, and a sequence in two parts about one of its numbers.
 use Prim.Native.Nat.{ℕ, suc}
-use native.Mathlib.Omega.{arith}
 use mathlib.Core.Path.{_≡_, refl, sym, ap, _∙_, subst}
 use mathlib.Core.Bool.{Bool, true, false, _||_, or-true, or-assoc}
 use mathlib.Core.Logic.{_≢_}
@@ -8,7 +7,7 @@ use mathlib.Core.List.{List, [], _∷_, _++_}
 use lib.Dec.{eqb}
 use lib.ListN.{length}
 use borrow.Author.Tests.{eqb-true, eqb-false, eq-eqb, ne-eqb}
-use Rattle.refusal.specs.Cases.{choose}
+use Rattle.refusal.specs.Cases.{never, choose}
 use Rattle.thread.specs.declared.Link.{Link}
 use Rattle.thread.specs.declared.Link.the-variants as link
 use Rattle.sound_lists.specs.Members.{has, Distinct, firstOr, lastOr, without}
@@ -28,7 +27,7 @@ or-neither true y e = (e, cc)
 or-neither false y e = (refl, e)
 
 pub not-both : {A : Type 0} (x : Bool) → x ≡ true → x ≡ false → A
-not-both x p q = let z : _≡_ {A = ℕ} 0 1 = cc in absurd (omega arith)
+not-both x p q = never cc
 
 pub has-append : (j : ℕ) (a b : List ℕ) → has j (a ++ b) ≡ (has j a || has j b)
 has-append j [] b = refl
@@ -45,7 +44,7 @@ pub apart : (j i : ℕ) (s : List ℕ) → has j s ≡ true → has i s ≡ fals
 apart j i s p q e = not-both (has i s) (subst (λ (n : ℕ). has n s ≡ true) e p) q
 
 pub some-not-none : (j : ℕ) → link.Some j ≢ link.None
-some-not-none j e = let z : _≡_ {A = ℕ} 0 1 = cc in omega arith
+some-not-none j e = never cc
 
 -- The end of a sequence that has a number is a number of it.
 pub last-some : (k : ℕ) (s : List ℕ) → (x : ℕ) × (lastOr (link.Some k) s ≡ link.Some x)

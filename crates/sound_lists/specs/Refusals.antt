@@ -1,12 +1,11 @@
 -- On any table and any list: a call that is refused leaves the table as it was.
 use Prim.Native.Nat.{ℕ, _-_}
-use native.Mathlib.Omega.{arith}
 use mathlib.Core.Path.{_≡_, refl}
 use mathlib.Core.Bool.{Bool, true, false}
 use mathlib.Core.List.{List}
 use lib.Dec.{eqb}
 use Rattle.refusal.specs.Answer.{Answer, value, refused}
-use Rattle.refusal.specs.Cases.{choose, ifEqual}
+use Rattle.refusal.specs.Cases.{never, choose, ifEqual}
 use Rattle.thread.specs.declared.QueueLinks.{QueueLinks}
 use Rattle.thread.specs.declared.QueueMembership.{QueueMembership}
 use Rattle.thread.specs.declared.ThreadQueue.{ThreadQueue}
@@ -27,7 +26,7 @@ module _ (t : List ThreadRecord) where
   -- What was stored was not refused.
   kept-stored : (x : Out ThreadQueue) → KeptIfRefused t (onOut x (λ s t₁. out (value s) t₁))
   unfolding onOut
-  kept-stored (out s t₁) n e = absurd (let z : _≡_ {A = ℕ} 0 1 = cc in omega arith)
+  kept-stored (out s t₁) n e = never cc
 
   kept-answer : (x : Answer ℕ) (f : ℕ → Out ThreadQueue) → KeptIfRefused t (onAnswer x (λ n. out (refused n) t) (λ n. onOut (f n) (λ s t₁. out (value s) t₁)))
   unfolding onAnswer

@@ -10,7 +10,7 @@ use lib.ListN.{length, List·getD-map}
 use lib.Dec.{eqb}
 use borrow.Author.Tests.{eqb-true, ne-eqb}
 use Rattle.refusal.specs.Answer.{value, refused}
-use Rattle.refusal.specs.Cases.{choose, ifEqual}
+use Rattle.refusal.specs.Cases.{never, choose, ifEqual}
 use Rattle.policy.specs.declared.SchedulingPolicy.the-variants as policy
 use Rattle.thread.specs.declared.CpuIndex.{CpuIndex}
 use Rattle.thread.specs.declared.ThreadRecord.{ThreadRecord}
@@ -51,7 +51,7 @@ module _ {cpu : CpuIndex} {queued : ℕ → Bool} {q : CpuRunQueue} {t : List Th
   unfolding recordAt
   change-sound i f e = changes-sound (changed t i f) (length-changed t i f)
       (λ j h. reading-other t i f (λ (r : ThreadRecord). read.Got r) read.Damaged j
-      (λ z. let w : true ≡ false = sym h ∙ ap queued z ∙ e in let y : _≡_ {A = ℕ} 0 1 = cc in omega arith))
+      (λ z. let w : true ≡ false = sym h ∙ ap queued z ∙ e in never cc))
 
   row-tells : (n j : ℕ) → n < 257 → eqb (rowOf queued t j) n ≡ queuedOf (λ p. eqb (listFor p) n) queued t j
   unfolding rowOf queuedOf choose
@@ -129,7 +129,7 @@ module _ {cpu : CpuIndex} {queued : ℕ → Bool} {q : CpuRunQueue} {t : List Th
         → Kept cpu queued after i t r s
     left-by {after} o r s (unchanged n e) f =
         let z : out (step (refused n) q) t ≡ out (step (value tt) r) s = sym e ∙ f in
-        absurd (let y : _≡_ {A = ℕ} 0 1 = cc in omega arith)
+        never cc
     left-by {after} o r s (made A) f =
         let z : out (step (value tt) (A .queue)) (A .table) ≡ out (step (value tt) r) s = sym (A .is) ∙ f in
         let x : A .queue ≡ r = cc in

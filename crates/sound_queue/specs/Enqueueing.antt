@@ -9,7 +9,7 @@ use lib.ListN.{length, getD}
 use lib.Dec.{ltb, eqb}
 use borrow.Author.Tests.{eq-eqb, ne-eqb, le-ltb, lt-ltb}
 use Rattle.refusal.specs.Answer.{value}
-use Rattle.refusal.specs.Cases.{choose, ifLess, ifEqual, given}
+use Rattle.refusal.specs.Cases.{never, choose, ifLess, ifEqual, given}
 use Rattle.policy.specs.declared.SchedulingPolicy.{SchedulingPolicy}
 use Rattle.thread.specs.declared.CpuIndex.{CpuIndex}
 use Rattle.thread.specs.declared.IndexFor.the-variants as index
@@ -80,7 +80,7 @@ module _ {cpu : CpuIndex} {queued : ℕ → Bool} {q : CpuRunQueue} {t : List Th
           let n = listFor (recordOf t i .parameters .policy) in
           let z : membership.None ≡ membershipAt cpu n = sym (M .unqueued) ∙ queued-membership S i e in
           let y : true ≡ false = ap isUnqueued z ∙ in-a-list cpu n in
-          absurd (let w : _≡_ {A = ℕ} 0 1 = cc in omega arith)
+          never cc
 
   abbrev row : ℕ
   row = listFor (recordOf t i .parameters .policy)

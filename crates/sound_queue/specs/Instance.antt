@@ -3,7 +3,7 @@ use Prim.Native.Nat.{ℕ}
 use mathlib.Core.Path.{_≡_, refl}
 use mathlib.Core.Bool.{true, false, Bool}
 use mathlib.Core.List.{List, [], _∷_}
-use Rattle.refusal.specs.Cases.{choose, ifLess, ifEqual, given}
+use Rattle.refusal.specs.Cases.{never, choose, ifLess, ifEqual, given}
 use Rattle.order.specs.Order.{compareNumbers, thenBy, compareParts, onOrdering}
 use Rattle.policy.specs.declared.SchedulingPolicy.the-variants as policy
 use Rattle.policy.specs.PolicyCases.{onPolicy, onRole, onBackend, onBudget}
@@ -66,10 +66,10 @@ pub computed : Computed
 unfolding choose ifLess ifEqual given compareNumbers thenBy compareParts onOrdering onPolicy onRole onBackend onBudget soundBudget onRuntime sameKind candidateKey leanOf onLean onLink onMembership onCpu isNone pointsTo isUnqueued isReadyRealTime isReadyFair isWaiting isTerminated sameMembership readyCpu hasBudget isBadBudget isBadRecord budgetAvailable roleIndex indexFor onIndex algorithmKey treeKey readyIndexKey parts compareTreeKeys recordOf changed reading storing linksAt keyAt queueLinksAt recordAt setLinks setQueueLinks onLinks onKey onQueueLinks onRecord onMade assignedTo headAgrees tailAgrees endsAgree preflightInsert previousValid nextValid validateNeighbors onAnswer onOut setNext setPrevious commitInsert commitRemove append prepend push pushFront updatePreviousLink updateNextLink unlink list.remove onHeight onTurned onRooted onWay onSought height larger update rotateLeft rotateRight balanceLeft balanceRight balance wayAt lookFor contains onWalk walk hung rebuildStep rebuild insert soughtAt onSearch search onSuccessor successor replace index.remove countedIn countedOut totalIn totalOut pushAt insertWork removeWork listOf partsOf withParts worked isFifo isBudget membershipFor judged enqueueCall partner onContained treeWith removeReady removeFrom removeCall made andAfter then leftBy including
 computed = record {
   mayEnqueue = (
-    record { below = omega arith; judged = refl; notIdle = λ e. let z : _≡_ {A = ℕ} 0 1 = cc in omega arith; unqueued = refl; assigned = refl; fits = omega arith },
-    record { below = omega arith; judged = refl; notIdle = λ e. let z : _≡_ {A = ℕ} 0 1 = cc in omega arith; unqueued = refl; assigned = refl; fits = tt },
-    record { below = omega arith; judged = refl; notIdle = λ e. let z : _≡_ {A = ℕ} 0 1 = cc in omega arith; unqueued = refl; assigned = refl; fits = tt },
-    record { below = omega arith; judged = refl; notIdle = λ e. let z : _≡_ {A = ℕ} 0 1 = cc in omega arith; unqueued = refl; assigned = refl; fits = tt },
+    record { below = omega arith; judged = refl; notIdle = λ e. never cc; unqueued = refl; assigned = refl; fits = omega arith },
+    record { below = omega arith; judged = refl; notIdle = λ e. never cc; unqueued = refl; assigned = refl; fits = tt },
+    record { below = omega arith; judged = refl; notIdle = λ e. never cc; unqueued = refl; assigned = refl; fits = tt },
+    record { below = omega arith; judged = refl; notIdle = λ e. never cc; unqueued = refl; assigned = refl; fits = tt },
   );
   reached = reached.enqueued (including 0 nobody) (one .queue) (two .queue) (one .table) (two .table) true 2
       (reached.enqueued nobody newQueue (one .queue) nine (one .table) false 0 (reached.new nine (omega arith)) (omega arith) refl) tt refl;

@@ -8,6 +8,7 @@ use native.Mathlib.Omega.{arith}
 use lib.ListN.{length, getD, set}
 use lib.Dec.{ltb}
 use borrow.Author.Tests.{lt-ltb}
+use Rattle.refusal.specs.Cases.{never}
 use Rattle.policy.specs.declared.SchedulingPolicy.the-variants as policy
 use Rattle.algorithms.specs.declared.PolicyRuntime.{PolicyRuntime}
 use Rattle.thread.specs.declared.CpuIndex.{CpuIndex}
@@ -162,7 +163,7 @@ module _ {cpu : CpuIndex} {queued : ℕ → Bool} {q : CpuRunQueue} {t : List Th
       not-queued : (j : ℕ) → queued j ≡ false → recordAt (P .table) j ≡ recordAt t j
       unfolding recordAt
       not-queued j h =
-          let d : j ≢ i = λ z. let w : true ≡ false = sym e ∙ ap queued (sym z) ∙ h in let y : _≡_ {A = ℕ} 0 1 = cc in omega arith in
+          let d : j ≢ i = λ z. let w : true ≡ false = sym e ∙ ap queued (sym z) ∙ h in never cc in
           P .others j (omega (arith, placed-other i 12 (S .place) j d, not-queued-placed S j h)) d
           ∙ reading-other (R .table) i (withRuntime x) (λ (r : ThreadRecord). read.Got r) read.Damaged j d
           ∙ R .others j (not-queued-placed S j h) d

@@ -6,7 +6,7 @@ use Prim.Native.Nat.{ℕ, zero, suc, _≤_, _<_}
 use native.Mathlib.Omega.{arith}
 use lib.ListN.{length, length-replicate, getD-replicate}
 use borrow.Author.Tests.{lt-ltb, ne-eqb}
-use Rattle.refusal.specs.Cases.{choose}
+use Rattle.refusal.specs.Cases.{never, choose}
 use Rattle.policy.specs.declared.SchedulingPolicy.{SchedulingPolicy}
 use Rattle.thread.specs.declared.CpuIndex.{CpuIndex}
 use Rattle.thread.specs.declared.ThreadRecord.{ThreadRecord}
@@ -50,7 +50,7 @@ new-sound cpu t n = record {
     exact = λ j k b. sym (ne-eqb 12 k (λ z. omega arith));
   };
   stands = λ j. refl;
-  threads = λ j e. absurd (let z : _≡_ {A = ℕ} 0 1 = cc in omega arith);
+  threads = λ j e. never cc;
   priorities = length-replicate 256 emptyQueue;
   lists = record {
     members = λ m. [];

@@ -10,7 +10,7 @@ use lib.Seq.{getD-set-same, getD-set-other}
 use lib.Dec.{ltb}
 use borrow.Author.Tests.{eq-eqb, ne-eqb, lt-ltb, le-ltb, ltb-true, ltb-false}
 use Rattle.refusal.specs.Answer.{value}
-use Rattle.refusal.specs.Cases.{choose, ifLess, ifEqual, given}
+use Rattle.refusal.specs.Cases.{never, choose, ifLess, ifEqual, given}
 use Rattle.policy.specs.declared.SchedulingParameters.{SchedulingParameters}
 use Rattle.policy.specs.declared.SchedulingPolicy.{SchedulingPolicy}
 use Rattle.policy.specs.declared.SchedulingPolicy.the-variants as policy
@@ -148,9 +148,9 @@ unfolding indexFor given onPolicy isBudget
 budget-tree p r f b e = go (p .policy) refl
   where
     go : (y : SchedulingPolicy) → p .policy ≡ y → (6 ≤ f) × (f < 12)
-    go (policy.Fifo priority) z = let w : false ≡ true = rw z at b in absurd (let u : _≡_ {A = ℕ} 0 1 = cc in omega arith)
-    go policy.Fair z = let w : false ≡ true = rw z at b in absurd (let u : _≡_ {A = ℕ} 0 1 = cc in omega arith)
-    go policy.Idle z = let w : false ≡ true = rw z at b in absurd (let u : _≡_ {A = ℕ} 0 1 = cc in omega arith)
+    go (policy.Fifo priority) z = let w : false ≡ true = rw z at b in never cc
+    go policy.Fair z = let w : false ≡ true = rw z at b in never cc
+    go policy.Idle z = let w : false ≡ true = rw z at b in never cc
     go policy.Budget z =
         let m = budget-filing (roleIndex (p .role)) (budgetAvailable r) (role-index-le (p .role)) in
         let w : index.Index (m .0) ≡ index.Index f = sym (m .1) ∙ (rw z at e) in

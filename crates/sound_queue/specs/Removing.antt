@@ -9,7 +9,7 @@ use lib.ListN.{length, getD}
 use lib.Dec.{ltb}
 use borrow.Author.Tests.{eq-eqb, ne-eqb, lt-ltb}
 use Rattle.refusal.specs.Answer.{value, refused}
-use Rattle.refusal.specs.Cases.{choose, ifEqual, given}
+use Rattle.refusal.specs.Cases.{never, choose, ifEqual, given}
 use Rattle.policy.specs.declared.SchedulingPolicy.{SchedulingPolicy}
 use Rattle.thread.specs.declared.CpuIndex.{CpuIndex}
 use Rattle.thread.specs.declared.IndexFor.the-variants as index
@@ -158,7 +158,7 @@ module _ {cpu : CpuIndex} {queued : ℕ → Bool} {q : CpuRunQueue} {t : List Th
         new-threads j h = same-or-not j i
             (λ z.
             let y : false ≡ true = sym (excluded i queued) ∙ ap (excluding i queued) (sym z) ∙ h in
-            absurd (let w : _≡_ {A = ℕ} 0 1 = cc in omega arith))
+            never cc)
             (λ z. rw (placed-other i 12 (S .place) j z) (S .threads j (sym (excluded-other i queued j z) ∙ h)))
 
         new-sound : Sound cpu (excluding i queued) queue (R .table)

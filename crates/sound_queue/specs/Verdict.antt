@@ -9,7 +9,7 @@ use native.Mathlib.Decide.{decLe}
 use lib.ListN.{length}
 use borrow.Author.Tests.{le-ltb}
 use Rattle.refusal.specs.Answer.{refused}
-use Rattle.refusal.specs.Cases.{choose, ifLess}
+use Rattle.refusal.specs.Cases.{never, choose, ifLess}
 use Rattle.policy.specs.declared.SchedulingPolicy.{SchedulingPolicy}
 use Rattle.policy.specs.declared.SchedulingPolicy.the-variants as policy
 use Rattle.thread.specs.declared.QueueMembership.{QueueMembership}
@@ -45,16 +45,13 @@ module _ (t : List ThreadRecord) (q : CpuRunQueue) (i : ℕ) (n : length t ≤ 4
 not-idle-by : (x y : SchedulingPolicy) → x ≡ y → y ≢ policy.Idle → x ≢ policy.Idle
 not-idle-by x y e h z = h (sym e ∙ z)
 
-never : {x y : SchedulingPolicy} → (x ≡ y → _≡_ {A = ℕ} 0 1) → x ≢ y
-never f e = let z = f e in omega arith
-
 pub verdict : (t : List ThreadRecord) (q : CpuRunQueue) (i : ℕ) → length t ≤ 4096 → q .halted ≡ false → Verdict t q i
 verdict t q i n h = inside (decLe (suc i) (length t))
   where
     policies : i < length t → isBadRecord (recordOf t i) ≡ false → (p : SchedulingPolicy) → recordOf t i .parameters .policy ≡ p → Verdict t q i
-    policies l b (policy.Fifo priority) e = passes l b (not-idle-by (recordOf t i .parameters .policy) (policy.Fifo priority) e (never (λ z. cc)))
-    policies l b policy.Fair e = passes l b (not-idle-by (recordOf t i .parameters .policy) policy.Fair e (never (λ z. cc)))
-    policies l b policy.Budget e = passes l b (not-idle-by (recordOf t i .parameters .policy) policy.Budget e (never (λ z. cc)))
+    policies l b (policy.Fifo priority) e = passes l b (not-idle-by (recordOf t i .parameters .policy) (policy.Fifo priority) e (λ z. never cc))
+    policies l b policy.Fair e = passes l b (not-idle-by (recordOf t i .parameters .policy) policy.Fair e (λ z. never cc))
+    policies l b policy.Budget e = passes l b (not-idle-by (recordOf t i .parameters .policy) policy.Budget e (λ z. never cc))
     policies l b policy.Idle e = refuses 2 (λ f. is-idle t q i n h f l b e)
 
     judgement : i < length t → (x : Bool) → isBadRecord (recordOf t i) ≡ x → Verdict t q i
@@ -69,7 +66,7 @@ verdict t q i n h = inside (decLe (suc i) (length t))
 pub unqueued-none : (m : QueueMembership) → isUnqueued m ≡ true → m ≡ membership.None
 unfolding isUnqueued onMembership
 unqueued-none membership.None e = refl
-unqueued-none (membership.ReadyRealTime c p) e = absurd (let z : _≡_ {A = ℕ} 0 1 = cc in omega arith)
-unqueued-none (membership.ReadyFair c) e = absurd (let z : _≡_ {A = ℕ} 0 1 = cc in omega arith)
-unqueued-none (membership.Waiting w) e = absurd (let z : _≡_ {A = ℕ} 0 1 = cc in omega arith)
-unqueued-none membership.Terminated e = absurd (let z : _≡_ {A = ℕ} 0 1 = cc in omega arith)
+unqueued-none (membership.ReadyRealTime c p) e = never cc
+unqueued-none (membership.ReadyFair c) e = never cc
+unqueued-none (membership.Waiting w) e = never cc
+unqueued-none membership.Terminated e = never cc

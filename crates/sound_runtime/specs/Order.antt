@@ -7,7 +7,7 @@ use mathlib.Core.List.{List, [], _∷_}
 use mathlib.Core.Option.{Option, none, some}
 use lib.Dec.{eqb}
 use borrow.Author.Tests.{ne-eqb, eqb-true}
-use Rattle.refusal.specs.Cases.{choose}
+use Rattle.refusal.specs.Cases.{never, choose}
 use Rattle.decisions.specs.declared.Turns.{Turns}
 use Rattle.sound_runtime.specs.Handed.{Call, made, named, Handed, atFront, atBack, turnOf, handed, joined, handedOut, countersAfter, countersOf, Before, BeforeAll, InOrder, among, NoRepeat}
 use Rattle.sound_runtime.specs.Outcome.{Outcome, handsNothing, handsBack, handsFront, outcome}
@@ -98,7 +98,7 @@ here-or-later n x l {A} h f g = go (eqb (turnOf x) n) refl h
 -- Every turn that was handed out lies between the counters as the calls left them.
 pub between : (calls : List Call) (c : Turns) → c .front ≤ c .back → (n : ℕ) → among n (handedOut calls c) ≡ true → (countersOf calls c .front ≤ n) × (n < countersOf calls c .back)
 unfolding handedOut countersOf among joined
-between [] c b n h = absurd (let z : _≡_ {A = ℕ} 0 1 = cc in omega arith)
+between [] c b n h = never cc
 between (call ∷ rest) c b n h =
     by (countersAfter (made call c)) (handed (made call c) (named call) c) (outcome call c) (widened rest (countersAfter (made call c)))
     (λ o. between rest (countersAfter (made call c)) o n) h

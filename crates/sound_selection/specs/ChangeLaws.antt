@@ -8,7 +8,7 @@ use native.Mathlib.Omega.{arith}
 use lib.Dec.{eqb}
 use borrow.Author.Tests.{eq-eqb, ne-eqb, eqb-true, eqb-false}
 use Rattle.refusal.specs.Answer.{value}
-use Rattle.refusal.specs.Cases.{given}
+use Rattle.refusal.specs.Cases.{never, given}
 use Rattle.avl.specs.Tree.{inOrder}
 use Rattle.policy.specs.declared.SchedulingPolicy.{SchedulingPolicy}
 use Rattle.policy.specs.declared.SchedulingPolicy.the-variants as policy
@@ -83,7 +83,7 @@ fresher-key j h (kept e) = ap (λ (r : ThreadRecord). readyIndexKey r j) e
 fresher-key {now} {a} j h (fresh e) = ap (λ (r : ThreadRecord). readyIndexKey r j) e ∙ refreshed-key now a h j
 
 precedes-each : (t : List ThreadRecord) (i : ℕ) (l : List ℕ) (j : ℕ) → PrecedesAll t i l → has j l ≡ true → Precedes t i j
-precedes-each t i [] j p e = absurd (let z : _≡_ {A = ℕ} 0 1 = cc in omega arith)
+precedes-each t i [] j p e = never cc
 precedes-each t i (k ∷ l) j p e =
     or-cases (eqb j k) (has j l) e (λ z. subst (Precedes t i) (sym (eqb-true j k z)) (p .here)) (λ z. precedes-each t i l j (p .rest) z)
 
@@ -116,14 +116,11 @@ pub standing : (r : ThreadRecord) (k : ℕ) → Filed r k → Standing r k
 unfolding isBudget onPolicy indexFor given
 standing r k f = go (r .parameters .policy) refl f
   where
-    no : {A : Type 0} → _≡_ {A = ℕ} 0 1 → A
-    no e = absurd (omega arith)
-
     go : (p : SchedulingPolicy) → r .parameters .policy ≡ p → Filed r k → Standing r k
     go (policy.Fifo p) e (by-filing x) = in-fifo p e (let z : index.Index (roleIndex (r .parameters .role)) ≡ index.Index k = rw e at x in cc)
-    go (policy.Fifo p) e (in-partner m b x y) = no (let z : false ≡ true = rw e at b in cc)
+    go (policy.Fifo p) e (in-partner m b x y) = never (let z : false ≡ true = rw e at b in cc)
     go policy.Fair e (by-filing x) = in-fair e (let z : index.Index (3 + roleIndex (r .parameters .role)) ≡ index.Index k = rw e at x in cc)
-    go policy.Fair e (in-partner m b x y) = no (let z : false ≡ true = rw e at b in cc)
+    go policy.Fair e (in-partner m b x y) = never (let z : false ≡ true = rw e at b in cc)
     go policy.Budget e f = in-budget e (filed-in r k e f)
-    go policy.Idle e (by-filing x) = no (let z : index.None ≡ index.Index k = rw e at x in cc)
-    go policy.Idle e (in-partner m b x y) = no (let z : false ≡ true = rw e at b in cc)
+    go policy.Idle e (by-filing x) = never (let z : index.None ≡ index.Index k = rw e at x in cc)
+    go policy.Idle e (in-partner m b x y) = never (let z : false ≡ true = rw e at b in cc)

@@ -6,7 +6,7 @@ use mathlib.Core.List.{List}
 use native.Mathlib.Omega.{arith}
 use lib.ListN.{length, getD}
 use borrow.Author.Tests.{le-ltb}
-use Rattle.refusal.specs.Cases.{choose, given}
+use Rattle.refusal.specs.Cases.{never, choose, given}
 use Rattle.time.specs.Time.{rises}
 use Rattle.arbitration.specs.declared.CpuWindow.{CpuWindow}
 use Rattle.arbitration.specs.declared.Demand.{Demand}
@@ -119,7 +119,7 @@ module _ (t : List ThreadRecord) (heads : List Link) (now : ℕ) (d : Demand) (W
       inside-later k i l m g = f k i l (omega arith) g
 
       clash : {A : Type 0} {i : ℕ} → link.None ≡ link.Some i → A
-      clash z = absurd (let y : _≡_ {A = ℕ} 0 1 = cc in omega arith)
+      clash z = never cc
 
       not-here : getD heads (11 - left) link.None ≡ link.None → (c : Chosen) → Least left w best c → Least (suc left) w best c
       not-here z c L = record {

@@ -3,7 +3,7 @@ use Prim.Native.Nat.{ℕ, _≤_}
 use mathlib.Core.Path.{_≡_, refl, sym, ap, _∙_, subst}
 use mathlib.Core.Bool.{Bool, true, false, not}
 use native.Mathlib.Omega.{arith}
-use Rattle.refusal.specs.Cases.{choose, given}
+use Rattle.refusal.specs.Cases.{never, choose, given}
 use Rattle.order.specs.declared.Ordering.the-variants.{Less}
 use Rattle.policy.specs.declared.FairBackend.{FairBackend}
 use Rattle.policy.specs.declared.FairBackend.the-variants as backend
@@ -153,7 +153,7 @@ module _ (w : CpuWindow) (now : ℕ) (d : Demand) where
   before-by i j a b x n k m h t e f g = go (shutOut x d) refl
     where
       go : (y : Bool) → shutOut x d ≡ y → Before i j a k
-      go true z = absurd (let q : key.None ≡ key.Some k m = sym (f ∙ rw z) ∙ g in let y : _≡_ {A = ℕ} 0 1 = cc in omega arith)
+      go true z = let q : key.None ≡ key.Some k m = sym (f ∙ rw z) ∙ g in never cc
       go false z =
           let q : key.Some (dispatch (tierOf w now (b .parameters) x d .urgency) (tierOf w now (b .parameters) x d .rank) n b) (tierOf w now (b .parameters) x d .mode) ≡ key.Some k m = sym (f ∙ rw z) ∙ g in
           let p : dispatch (tierOf w now (b .parameters) x d .urgency) (tierOf w now (b .parameters) x d .rank) n b ≡ k = cc in
@@ -218,12 +218,12 @@ module _ (i j : ℕ) (a b : ThreadRecord) where
 
   alike-pass : Alike a b → ((e : b .parameters .policy ≡ policy.Fair) → (f : FairBackend) × (a .parameters .«fair_backend» ≡ f) × (b .parameters .«fair_backend» ≡ f))
       → compareTreeKeys (readyIndexKey a i) (readyIndexKey b j) ≡ Less → PassWithin (lowest-of b) (lowest-of a)
-  alike-pass (both-fifo p q e f r) g h = subst (λ x. PassWithin x (lowest-of a)) (sym (no-pass b (policy.Fifo q) f (λ z. let y : _≡_ {A = ℕ} 0 1 = cc in omega arith))) tt
+  alike-pass (both-fifo p q e f r) g h = subst (λ x. PassWithin x (lowest-of a)) (sym (no-pass b (policy.Fifo q) f (λ z. never cc))) tt
   alike-pass (both-fair e f r) g h =
       let c = g f in
       subst (λ x. PassWithin x (lowest-of a)) (sym (fair-pass b f))
       (subst (λ x. PassWithin (pass.Some (candidateKey (b .runtime) (b .parameters) (b .«ready_turn») .pass)) x) (sym (fair-pass a e)) (pass-order (c .0) e f (c .1) (c .2) h))
-  alike-pass (both-budget e f r l) g h = subst (λ x. PassWithin x (lowest-of a)) (sym (no-pass b policy.Budget f (λ z. let y : _≡_ {A = ℕ} 0 1 = cc in omega arith))) tt
+  alike-pass (both-budget e f r l) g h = subst (λ x. PassWithin x (lowest-of a)) (sym (no-pass b policy.Budget f (λ z. never cc))) tt
 
   -- The head of a tree asks for what every other thread of it asks for.
   pub alike-within : Alike a b → ((e : b .parameters .policy ≡ policy.Fair) → (f : FairBackend) × (a .parameters .«fair_backend» ≡ f) × (b .parameters .«fair_backend» ≡ f))

@@ -6,7 +6,7 @@ use mathlib.Core.List.{List}
 use native.Mathlib.Omega.{arith}
 use lib.Dec.{eqb, ltb}
 use borrow.Author.Tests.{eq-eqb, ne-eqb, lt-ltb, le-ltb}
-use Rattle.refusal.specs.Cases.{choose}
+use Rattle.refusal.specs.Cases.{never, choose}
 use Rattle.policy.specs.declared.FairBackend.{FairBackend}
 use Rattle.policy.specs.declared.FairBackend.the-variants as backend
 use Rattle.policy.specs.declared.SchedulingParameters.{SchedulingParameters}
@@ -44,13 +44,13 @@ admitted-accepts c p f h = go (acceptsBudget c p) refl h
   where
     go : (x : Bool) → acceptsBudget c p ≡ x → choose x (onPolicy (p .policy) (λ priority. true) (sameBackend (p .«fair_backend») f) true false) false ≡ true → acceptsBudget c p ≡ true
     go true e h = e
-    go false e h = absurd (let z : _≡_ {A = ℕ} 0 1 = cc in omega arith)
+    go false e h = never cc
 
 same-backend : (a b : FairBackend) → sameBackend a b ≡ true → a ≡ b
 unfolding sameBackend onBackend
 same-backend backend.Stride backend.Stride e = refl
-same-backend backend.Stride backend.RoundRobin e = absurd (let z : _≡_ {A = ℕ} 0 1 = cc in omega arith)
-same-backend backend.RoundRobin backend.Stride e = absurd (let z : _≡_ {A = ℕ} 0 1 = cc in omega arith)
+same-backend backend.Stride backend.RoundRobin e = never cc
+same-backend backend.RoundRobin backend.Stride e = never cc
 same-backend backend.RoundRobin backend.RoundRobin e = refl
 
 fair-admitted : (c : ArbitrationConfig) (p : SchedulingParameters) (f : FairBackend) → acceptsBudget c p ≡ true → p .policy ≡ policy.Fair → admitted c p f ≡ sameBackend (p .«fair_backend») f

@@ -7,7 +7,7 @@ use mathlib.Core.List.{List}
 use native.Mathlib.Omega.{arith}
 use lib.ListN.{length, getD}
 use borrow.Author.Tests.{lt-ltb}
-use Rattle.refusal.specs.Cases.{choose, given}
+use Rattle.refusal.specs.Cases.{never, choose, given}
 use Rattle.order.specs.declared.Ordering.the-variants.{Less}
 use Rattle.policy.specs.declared.SchedulingParameters.{SchedulingParameters}
 use Rattle.policy.specs.declared.SchedulingPolicy.the-variants as policy
@@ -152,9 +152,9 @@ module _ {cpu : CpuIndex} {queued : ℕ → Bool} {q : CpuRunQueue} {t : List Th
       (λ f. (P .backend, backend-of (O .id) (O .is-queued) (fair-too (alike j e O) f), backend-of j e f)) (precedes-now (O .id) j (O .is-queued) e (O .precedes z))) (O .asks))
     where
       fair-too : {a b : ThreadRecord} → Alike a b → b .parameters .policy ≡ policy.Fair → a .parameters .policy ≡ policy.Fair
-      fair-too (both-fifo p q e f r) g = absurd (let z : policy.Fifo q ≡ policy.Fair = sym f ∙ g in let y : _≡_ {A = ℕ} 0 1 = cc in omega arith)
+      fair-too (both-fifo p q e f r) g = let z : policy.Fifo q ≡ policy.Fair = sym f ∙ g in never cc
       fair-too (both-fair e f r) g = e
-      fair-too (both-budget e f r l) g = absurd (let z : policy.Budget ≡ policy.Fair = sym f ∙ g in let y : _≡_ {A = ℕ} 0 1 = cc in omega arith)
+      fair-too (both-budget e f r l) g = let z : policy.Budget ≡ policy.Fair = sym f ∙ g in never cc
 
   inside : (j : ℕ) → queued j ≡ true → j < length t
   inside j e = queued-inside S j e
@@ -163,7 +163,7 @@ module _ {cpu : CpuIndex} {queued : ℕ → Bool} {q : CpuRunQueue} {t : List Th
   head-queued k i l e = go (getD (G .links) k link.None) e (G .each k l (omega arith))
     where
       go : (x : Link) → x ≡ link.Some i → Found (T .table) (G .table) (T .sound .place) now (G .found) k x → (queued i ≡ true) × (bareAt (G .table) i ≡ refreshedTo now (bareAt (T .table) i))
-      go link.None z (nobody-found n) = absurd (let y : _≡_ {A = ℕ} 0 1 = cc in omega arith)
+      go link.None z (nobody-found n) = never cc
       go (link.Some x) z (found-head m p f o c) =
           let y : m ≡ i = cc in
           subst (λ n. (queued n ≡ true) × (bareAt (G .table) n ≡ refreshedTo now (bareAt (T .table) n))) y (placed-back m (omega arith), o)
@@ -256,7 +256,7 @@ module _ {cpu : CpuIndex} {queued : ℕ → Bool} {q : CpuRunQueue} {t : List Th
     where
       go : (x : Link) → getD (G .links) k link.None ≡ x → getD (G .links) k link.None ≡ link.None
       go link.None e = e
-      go (link.Some i) e = absurd (let z : true ≡ false = sym (head-queued k i l e .0) ∙ n i in let y : _≡_ {A = ℕ} 0 1 = cc in omega arith)
+      go (link.Some i) e = let z : true ≡ false = sym (head-queued k i l e .0) ∙ n i in never cc
 
   guaranteed : Answered queued t now w current (peekNext t q cpu now w current)
   guaranteed = record {

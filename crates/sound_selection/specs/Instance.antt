@@ -3,7 +3,7 @@ use Prim.Native.Nat.{ℕ, zero, suc, _+_}
 use mathlib.Core.Path.{_≡_, refl}
 use mathlib.Core.Bool.{Bool, true, false}
 use mathlib.Core.List.{[], _∷_}
-use Rattle.refusal.specs.Cases.{choose, ifLess, ifEqual, given}
+use Rattle.refusal.specs.Cases.{never, choose, ifLess, ifEqual, given}
 use Rattle.order.specs.Order.{compareNumbers, thenBy, compareParts, onOrdering}
 use Rattle.time.specs.declared.Epoch.the-variants as epoch
 use Rattle.time.specs.Time.{rises, periodStart, checkedAdd, periodEnd, onDeadline}
@@ -105,7 +105,7 @@ crane-computed = record { root = refl; waits = refl; queued = refl; undue = refl
 three : {A : Type 0} (j : ℕ) → including 2 (including 1 (including 0 nobody)) j ≡ true → (j ≡ 0 → A) → (j ≡ 1 → A) → (j ≡ 2 → A) → A
 three {A} j e f g h = same-or-not j 2 h (λ x. same-or-not j 1 g (λ y. same-or-not j 0 f
     (λ z. absurd (let q : false ≡ true = sym (included-other 2 (including 1 (including 0 nobody)) j x ∙ included-other 1 (including 0 nobody) j y ∙ included-other 0 nobody j z) ∙ e in
-    let w : _≡_ {A = ℕ} 0 1 = cc in omega arith))))
+    never cc))))
 
 -- The premises hold.
 crane-premises : PremisesIn crane-state 7000000 window
@@ -120,7 +120,7 @@ crane-premises = record {
   filing = λ j e b. three j (subst (λ (f : ℕ → Bool). f j ≡ true) (crane-computed .queued) e)
       (λ z. subst (λ n. budgetAvailable (refreshedTo 7000000 (recordOf (crane-state .table) n) .runtime) ≡ filedReady (crane-state .queue) (crane-state .table) 0 n) (sym z) (crane-computed .left .0 ∙ sym (crane-computed .filed .0)))
       (λ z. subst (λ n. budgetAvailable (refreshedTo 7000000 (recordOf (crane-state .table) n) .runtime) ≡ filedReady (crane-state .queue) (crane-state .table) 0 n) (sym z) (crane-computed .left .1 ∙ sym (crane-computed .filed .1)))
-      (λ z. absurd (let q : true ≡ false = sym b ∙ ap (λ n. isBudget (recordOf (crane-state .table) n .parameters .policy)) z ∙ crane-computed .fifo in let w : _≡_ {A = ℕ} 0 1 = cc in omega arith));
+      (λ z. let q : true ≡ false = sym b ∙ ap (λ n. isBudget (recordOf (crane-state .table) n .parameters .policy)) z ∙ crane-computed .fifo in never cc);
 }
 
 -- So demand 3 speaks of this run: the thread that is named has the least key of the three.

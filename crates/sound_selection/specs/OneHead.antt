@@ -4,10 +4,9 @@ use mathlib.Core.Path.{_≡_, refl, sym, ap, _∙_, subst}
 use mathlib.Core.Bool.{Bool, true, false}
 use mathlib.Core.Logic.{_≢_}
 use mathlib.Core.List.{List}
-use native.Mathlib.Omega.{arith}
 use borrow.Author.Tests.{eq-eqb}
 use Rattle.refusal.specs.Answer.{value}
-use Rattle.refusal.specs.Cases.{choose, given, ifEqual}
+use Rattle.refusal.specs.Cases.{never, choose, given, ifEqual}
 use Rattle.policy.specs.declared.BudgetOption.the-variants as option
 use Rattle.policy.specs.declared.BudgetParameters.{BudgetParameters}
 use Rattle.policy.specs.declared.SchedulingPolicy.the-variants as policy
@@ -92,7 +91,7 @@ module _ {cpu : CpuIndex} {queued : ℕ → Bool} {q : CpuRunQueue} {t : List Th
     other-records : (j : ℕ) → queued j ≡ false → recordAt stored j ≡ recordAt t j
     unfolding recordAt
     other-records j f = reading-other t i (withRuntime y) (λ (r : ThreadRecord). read.Got r) read.Damaged j
-        (λ z. let w : true ≡ false = sym e ∙ ap queued (sym z) ∙ f in let x : _≡_ {A = ℕ} 0 1 = cc in omega arith)
+        (λ z. let w : true ≡ false = sym e ∙ ap queued (sym z) ∙ f in never cc)
 
     headed-budget : Headed S now i
     headed-budget = record {

@@ -8,6 +8,7 @@ use native.Mathlib.Omega.{arith}
 use lib.ListN.{length, set}
 use lib.Seq.{getD-set-other}
 use borrow.Author.Tests.{lt-ltb}
+use Rattle.refusal.specs.Cases.{never}
 use Rattle.refusal.specs.Answer.{value}
 use Rattle.policy.specs.declared.BudgetOption.the-variants as option
 use Rattle.policy.specs.declared.BudgetParameters.{BudgetParameters}
@@ -156,7 +157,7 @@ module _ {cpu : CpuIndex} {queued : ℕ → Bool} {q : CpuRunQueue} {t : List Th
 
   one-moved-of : Refreshes now (recordOf t i) → OneMoved S now role i moves
   unfolding isBudget onPolicy
-  one-moved-of (plain p n e) = absurd (let z : true ≡ false = (rw (there .0) at p) in let y : _≡_ {A = ℕ} 0 1 = cc in omega arith)
+  one-moved-of (plain p n e) = let z : true ≡ false = (rw (there .0) at p) in never cc
   one-moved-of (budgeted x p e f g h k) =
       let y = runtime.Budget (budget.refreshed x now p) in
       one-moved-by y p g k

@@ -7,7 +7,7 @@ use native.Mathlib.Omega.{arith}
 use lib.Dec.{ltb}
 use lib.ListN.{length}
 use borrow.Author.Tests.{lt-ltb, le-ltb}
-use Rattle.refusal.specs.Cases.{choose, ifLess}
+use Rattle.refusal.specs.Cases.{never, choose, ifLess}
 use Rattle.order.specs.declared.Ordering.{Ordering}
 use Rattle.order.specs.declared.Ordering.the-variants.{Less, Equal, Greater}
 use Rattle.order.specs.Order.{compareNumbers, thenBy, compareParts, onOrdering}
@@ -47,7 +47,7 @@ appended (x ∷ a) (y ∷ b) u v e =
 pub first-parts : (a b u v : List ℕ) → length a ≡ length b → compareParts (a ++ u) (b ++ v) ≡ Less → AtMost a b
 unfolding thenBy flipped
 first-parts a b u v e f = compared a b less same
-    (λ h. absurd (let z : Less ≡ Greater = sym f ∙ appended a b u v e ∙ ap (λ x. thenBy x (compareParts u v)) (turned-about b a ∙ ap flipped h) in let y : _≡_ {A = ℕ} 0 1 = cc in omega arith))
+    (λ h. let z : Less ≡ Greater = sym f ∙ appended a b u v e ∙ ap (λ x. thenBy x (compareParts u v)) (turned-about b a ∙ ap flipped h) in never cc)
 
 -- Equal first parts do not bear.
 pub same-first : (x : ℕ) (a b : List ℕ) → compareParts (x ∷ a) (x ∷ b) ≡ compareParts a b
@@ -93,12 +93,12 @@ module _ (r old : ReadyThread) where
     where
       go : (o : Ordering) → compareParts (pairParts (r .key) (r .id .0)) (pairParts (old .key) (old .id .0)) ≡ o → isLess o ≡ true → AtMost (pairParts (r .key) (r .id .0)) (pairParts (old .key) (old .id .0))
       go Less h k = less h
-      go Equal h k = absurd (let z : _≡_ {A = ℕ} 0 1 = cc in omega arith)
-      go Greater h k = absurd (let z : _≡_ {A = ℕ} 0 1 = cc in omega arith)
+      go Equal h k = never cc
+      go Greater h k = never cc
 
   before-no : comesBefore r old ≡ false → AtMost (pairParts (old .key) (old .id .0)) (pairParts (r .key) (r .id .0))
   before-no e = compared (pairParts (r .key) (r .id .0)) (pairParts (old .key) (old .id .0))
-      (λ h. absurd (let z : false ≡ true = sym e ∙ before-tells ∙ ap isLess h in let y : _≡_ {A = ℕ} 0 1 = cc in omega arith))
+      (λ h. let z : false ≡ true = sym e ∙ before-tells ∙ ap isLess h in never cc)
       (λ h. same (sym h))
       (λ h. less h)
 
@@ -138,5 +138,5 @@ later k l i j d (less e) = go (compareKeys k l) refl (sym (pair-compare k l i j)
     go : (o : Ordering) → compareKeys k l ≡ o → thenBy o (compareNumbers i j) ≡ Less → Later k i l j
     go Less h f = greater-key h
     go Equal h f = higher-number h (subst (λ x. Says x i j) f (says i j))
-    go Greater h f = absurd (let z : _≡_ {A = ℕ} 0 1 = cc in omega arith)
+    go Greater h f = never cc
 later k l i j d (same e) = absurd (d (let z : i ≡ j = cc in z))

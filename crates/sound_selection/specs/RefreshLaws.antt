@@ -6,7 +6,7 @@ use mathlib.Core.List.{List}
 use native.Mathlib.Omega.{arith}
 use borrow.Author.Tests.{le-ltb}
 use Rattle.refusal.specs.Answer.{Answer, value, refused}
-use Rattle.refusal.specs.Cases.{choose, given}
+use Rattle.refusal.specs.Cases.{never, choose, given}
 use Rattle.time.specs.declared.Epoch.the-variants as epoch
 use Rattle.time.specs.Time.{rises}
 use Rattle.policy.specs.declared.BudgetOption.{BudgetOption}
@@ -33,9 +33,6 @@ use Rattle.rows.specs.TableLaws.{budget-key-kept, after-set-runtime}
 use Rattle.queue.specs.Queue.{isBudget}
 use Rattle.renewal.specs.Renewal.{refreshRecord}
 use Rattle.sound_selection.specs.Claim.{refreshedTo}
-
-never : {A : Type 0} → _≡_ {A = ℕ} 0 1 → A
-never e = absurd (omega arith)
 
 -- A budget's runtime in a new epoch, and in the same one or an older.
 abbrev refilled : BudgetRuntime → ℕ → BudgetParameters → BudgetRuntime

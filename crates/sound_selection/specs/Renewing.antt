@@ -7,7 +7,7 @@ use mathlib.Core.List.{List}
 use native.Mathlib.Omega.{arith}
 use lib.ListN.{length}
 use Rattle.refusal.specs.Answer.{value}
-use Rattle.refusal.specs.Cases.{choose, given}
+use Rattle.refusal.specs.Cases.{never, choose, given}
 use Rattle.time.specs.declared.Epoch.the-variants as epoch
 use Rattle.thread.specs.declared.CpuIndex.{CpuIndex}
 use Rattle.thread.specs.declared.ThreadRecord.{ThreadRecord}
@@ -66,7 +66,7 @@ module _ {cpu : CpuIndex} {queued : ℕ → Bool} {q : CpuRunQueue} {t : List Th
     shift = λ j. stays refl refl;
     others = λ j f. refl;
     still = λ f j. refl;
-    clear = λ f. absurd (let z : true ≡ false = sym h ∙ f in let y : _≡_ {A = ℕ} 0 1 = cc in omega arith);
+    clear = λ f. let z : true ≡ false = sym h ∙ f in never cc;
   }
 
   -- The three roles, one after the other.
@@ -131,7 +131,7 @@ module _ {cpu : CpuIndex} {queued : ℕ → Bool} {q : CpuRunQueue} {t : List Th
       len = C .renewed .len ∙ B .renewed .len ∙ A .renewed .len;
       shift = whole-shift;
       others = λ j f. C .renewed .others j f ∙ B .renewed .others j f ∙ A .renewed .others j f;
-      still = λ f. absurd (let z : true ≡ false = sym f ∙ h in let y : _≡_ {A = ℕ} 0 1 = cc in omega arith);
+      still = λ f. let z : true ≡ false = sym f ∙ h in never cc;
       clear = λ f. emptied;
     }
 

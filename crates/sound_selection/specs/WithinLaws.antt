@@ -3,8 +3,7 @@ use Prim.Native.Nat.{ℕ}
 use mathlib.Core.Path.{_≡_, refl, sym, ap, _∙_, subst}
 use mathlib.Core.Bool.{Bool, true, false}
 use mathlib.Core.List.{List}
-use native.Mathlib.Omega.{arith}
-use Rattle.refusal.specs.Cases.{choose, given}
+use Rattle.refusal.specs.Cases.{never, choose, given}
 use Rattle.order.specs.declared.Ordering.{Ordering}
 use Rattle.order.specs.declared.Ordering.the-variants.{Less, Equal, Greater}
 use Rattle.order.specs.Order.{compareParts, onOrdering}
@@ -29,7 +28,7 @@ at-most-trans (same e) (same f) = same (e ∙ f)
 -- Less one way is not Less the other way.
 pub not-both-less : (a b : List ℕ) → compareParts a b ≡ Less → compareParts b a ≡ Less → ⊥
 unfolding flipped
-not-both-less a b e f = let z : Less ≡ Greater = sym f ∙ turned-about a b ∙ ap flipped e in let y : _≡_ {A = ℕ} 0 1 = cc in omega arith
+not-both-less a b e f = let z : Less ≡ Greater = sym f ∙ turned-about a b ∙ ap flipped e in never cc
 
 pub at-most-both : {a b : List ℕ} → AtMost a b → AtMost b a → a ≡ b
 at-most-both {a} {b} (less e) (less f) = absurd (not-both-less a b e f)

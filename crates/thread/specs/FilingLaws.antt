@@ -1,5 +1,5 @@
 -- Laws of filing: going by the tree that a record is filed in, and that there are twelve.
-use Prim.Native.Nat.{ℕ, _+_, _<_, _≤_}
+use Prim.Native.Nat.{ℕ, _≤_}
 use native.Mathlib.Omega.{arith}
 use mathlib.Core.Path.{_≡_, refl, sym, _∙_}
 use Rattle.policy.specs.declared.SchedulingRole.{SchedulingRole}
@@ -23,9 +23,5 @@ unfolding roleIndex onRole
 role-index-le role.Ordinary = omega arith
 role-index-le role.Priority = omega arith
 role-index-le role.Protected = omega arith
-
--- The numbers of the twelve trees are words.
-pub tree-number-fits : (base : ℕ) {n : ℕ} (r : SchedulingRole) → n ≡ roleIndex r → base ≤ 9 → base + n < 18446744073709551616
-tree-number-fits base {n} r e h = let bound : n ≤ 2 = rw e (role-index-le r) in omega arith
 
 pub ruleset filings = (no-index, some-index)

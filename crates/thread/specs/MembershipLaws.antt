@@ -3,9 +3,8 @@ use Prim.Native.Nat.{ℕ}
 use mathlib.Core.Path.{_≡_, refl, sym, ap, _∙_}
 use mathlib.Core.Bool.{Bool, true, false}
 use lib.Dec.{eqb}
-use native.Mathlib.Omega.{arith}
 use borrow.Author.Tests.{eq-eqb, eqb-true}
-use Rattle.refusal.specs.Cases.{choose, ifEqual}
+use Rattle.refusal.specs.Cases.{never, choose, ifEqual}
 use Rattle.thread.specs.declared.CpuIndex.{CpuIndex}
 use Rattle.thread.specs.declared.CpuOption.{CpuOption}
 use Rattle.thread.specs.declared.CpuOption.the-variants as cpu
@@ -63,7 +62,7 @@ equal-true n m a h = go (eqb n m) refl h
   where
     go : (b : Bool) → eqb n m ≡ b → choose b a false ≡ true → (n ≡ m) × (a ≡ true)
     go true e k = (eqb-true n m e, k)
-    go false e k = absurd (let z : _≡_ {A = ℕ} 0 1 = cc in omega arith)
+    go false e k = never cc
 
 equal-self : {A : Type 0} (n : ℕ) (a b : A) → ifEqual n n a b ≡ a
 unfolding ifEqual choose
@@ -72,11 +71,11 @@ equal-self n a b = rw (eq-eqb n n refl)
 pub is-none-true : (l : Link) → isNone l ≡ true → l ≡ link.None
 unfolding isNone onLink
 is-none-true link.None h = refl
-is-none-true (link.Some n) h = absurd (let z : _≡_ {A = ℕ} 0 1 = cc in omega arith)
+is-none-true (link.Some n) h = never cc
 
 pub points-to-true : (l : Link) (id : ℕ) → pointsTo l id ≡ true → l ≡ link.Some id
 unfolding pointsTo onLink
-points-to-true link.None id h = absurd (let z : _≡_ {A = ℕ} 0 1 = cc in omega arith)
+points-to-true link.None id h = never cc
 points-to-true (link.Some n) id h = ap link.Some (equal-true n id true h .0)
 
 pub points-to-self : (id : ℕ) → pointsTo (link.Some id) id ≡ true
@@ -86,10 +85,10 @@ points-to-self id = equal-self id true false
 pub is-unqueued-true : (m : QueueMembership) → isUnqueued m ≡ true → m ≡ membership.None
 unfolding isUnqueued onMembership
 is-unqueued-true membership.None h = refl
-is-unqueued-true (membership.ReadyRealTime c p) h = absurd (let z : _≡_ {A = ℕ} 0 1 = cc in omega arith)
-is-unqueued-true (membership.ReadyFair c) h = absurd (let z : _≡_ {A = ℕ} 0 1 = cc in omega arith)
-is-unqueued-true (membership.Waiting q) h = absurd (let z : _≡_ {A = ℕ} 0 1 = cc in omega arith)
-is-unqueued-true membership.Terminated h = absurd (let z : _≡_ {A = ℕ} 0 1 = cc in omega arith)
+is-unqueued-true (membership.ReadyRealTime c p) h = never cc
+is-unqueued-true (membership.ReadyFair c) h = never cc
+is-unqueued-true (membership.Waiting q) h = never cc
+is-unqueued-true membership.Terminated h = never cc
 
 pub same-membership-self : (m : QueueMembership) → sameMembership m m ≡ true
 unfolding sameMembership isUnqueued isReadyRealTime isReadyFair isWaiting isTerminated onMembership
@@ -109,23 +108,23 @@ same-membership-true (membership.ReadyRealTime c p) (membership.ReadyRealTime d 
 same-membership-true (membership.ReadyFair c) (membership.ReadyFair d) h = rw (equal-true (c .0) (d .0) true h .0)
 same-membership-true (membership.Waiting p) (membership.Waiting q) h = rw (equal-true p q true h .0)
 same-membership-true membership.Terminated membership.Terminated h = refl
-same-membership-true membership.None (membership.ReadyRealTime d q) h = absurd (let z : _≡_ {A = ℕ} 0 1 = cc in omega arith)
-same-membership-true membership.None (membership.ReadyFair d) h = absurd (let z : _≡_ {A = ℕ} 0 1 = cc in omega arith)
-same-membership-true membership.None (membership.Waiting q) h = absurd (let z : _≡_ {A = ℕ} 0 1 = cc in omega arith)
-same-membership-true membership.None membership.Terminated h = absurd (let z : _≡_ {A = ℕ} 0 1 = cc in omega arith)
-same-membership-true (membership.ReadyRealTime c p) membership.None h = absurd (let z : _≡_ {A = ℕ} 0 1 = cc in omega arith)
-same-membership-true (membership.ReadyRealTime c p) (membership.ReadyFair d) h = absurd (let z : _≡_ {A = ℕ} 0 1 = cc in omega arith)
-same-membership-true (membership.ReadyRealTime c p) (membership.Waiting q) h = absurd (let z : _≡_ {A = ℕ} 0 1 = cc in omega arith)
-same-membership-true (membership.ReadyRealTime c p) membership.Terminated h = absurd (let z : _≡_ {A = ℕ} 0 1 = cc in omega arith)
-same-membership-true (membership.ReadyFair c) membership.None h = absurd (let z : _≡_ {A = ℕ} 0 1 = cc in omega arith)
-same-membership-true (membership.ReadyFair c) (membership.ReadyRealTime d q) h = absurd (let z : _≡_ {A = ℕ} 0 1 = cc in omega arith)
-same-membership-true (membership.ReadyFair c) (membership.Waiting q) h = absurd (let z : _≡_ {A = ℕ} 0 1 = cc in omega arith)
-same-membership-true (membership.ReadyFair c) membership.Terminated h = absurd (let z : _≡_ {A = ℕ} 0 1 = cc in omega arith)
-same-membership-true (membership.Waiting p) membership.None h = absurd (let z : _≡_ {A = ℕ} 0 1 = cc in omega arith)
-same-membership-true (membership.Waiting p) (membership.ReadyRealTime d q) h = absurd (let z : _≡_ {A = ℕ} 0 1 = cc in omega arith)
-same-membership-true (membership.Waiting p) (membership.ReadyFair d) h = absurd (let z : _≡_ {A = ℕ} 0 1 = cc in omega arith)
-same-membership-true (membership.Waiting p) membership.Terminated h = absurd (let z : _≡_ {A = ℕ} 0 1 = cc in omega arith)
-same-membership-true membership.Terminated membership.None h = absurd (let z : _≡_ {A = ℕ} 0 1 = cc in omega arith)
-same-membership-true membership.Terminated (membership.ReadyRealTime d q) h = absurd (let z : _≡_ {A = ℕ} 0 1 = cc in omega arith)
-same-membership-true membership.Terminated (membership.ReadyFair d) h = absurd (let z : _≡_ {A = ℕ} 0 1 = cc in omega arith)
-same-membership-true membership.Terminated (membership.Waiting q) h = absurd (let z : _≡_ {A = ℕ} 0 1 = cc in omega arith)
+same-membership-true membership.None (membership.ReadyRealTime d q) h = never cc
+same-membership-true membership.None (membership.ReadyFair d) h = never cc
+same-membership-true membership.None (membership.Waiting q) h = never cc
+same-membership-true membership.None membership.Terminated h = never cc
+same-membership-true (membership.ReadyRealTime c p) membership.None h = never cc
+same-membership-true (membership.ReadyRealTime c p) (membership.ReadyFair d) h = never cc
+same-membership-true (membership.ReadyRealTime c p) (membership.Waiting q) h = never cc
+same-membership-true (membership.ReadyRealTime c p) membership.Terminated h = never cc
+same-membership-true (membership.ReadyFair c) membership.None h = never cc
+same-membership-true (membership.ReadyFair c) (membership.ReadyRealTime d q) h = never cc
+same-membership-true (membership.ReadyFair c) (membership.Waiting q) h = never cc
+same-membership-true (membership.ReadyFair c) membership.Terminated h = never cc
+same-membership-true (membership.Waiting p) membership.None h = never cc
+same-membership-true (membership.Waiting p) (membership.ReadyRealTime d q) h = never cc
+same-membership-true (membership.Waiting p) (membership.ReadyFair d) h = never cc
+same-membership-true (membership.Waiting p) membership.Terminated h = never cc
+same-membership-true membership.Terminated membership.None h = never cc
+same-membership-true membership.Terminated (membership.ReadyRealTime d q) h = never cc
+same-membership-true membership.Terminated (membership.ReadyFair d) h = never cc
+same-membership-true membership.Terminated (membership.Waiting q) h = never cc

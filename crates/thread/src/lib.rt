@@ -1,19 +1,12 @@
-// A thread's record: links, memberships, keys, filing and the judgement of it. After task/thread.rs, task/wait.rs and scheduler/queue.rs.
+// A thread's record: its parts, links, memberships and the order of tree keys; its filing and the judgement of it are definitions (specs). After task/thread.rs, task/wait.rs and scheduler/queue.rs.
 ghost use mathlib.Core.Path.{_≡_};
-ghost use Rattle.thread.specs.Membership.{emptyQueue, isNone, pointsTo, isUnqueued, isReadyRealTime, isReadyFair, isWaiting, isTerminated, sameMembership, readyCpu, isReadyOn};
-ghost use Rattle.thread.specs.TreeKey.{algorithmKey, treeKey, readyIndexKey, compareFromTurn, compareFromBand, compareFromLow, compareTreeKeys};
-ghost use Rattle.thread.specs.Judgement.{hasBudget, isBadBudget, isBadRecord};
-ghost use Rattle.thread.specs.Filing.{budgetAvailable, roleIndex, indexFor};
+ghost use Rattle.thread.specs.Membership.{emptyQueue, isNone, pointsTo, isUnqueued, isReadyRealTime, isReadyFair, isWaiting, isTerminated, sameMembership, readyCpu};
+ghost use Rattle.thread.specs.TreeKey.{compareFromTurn, compareFromBand, compareFromLow, compareTreeKeys};
 use algorithms::PolicyRuntime;
 use algorithms::Wide;
-use algorithms::same_kind;
 use order::Ordering;
 use order::compare_numbers;
-use policy::BudgetOption;
-use policy::FairBackend;
 use policy::SchedulingParameters;
-use policy::SchedulingPolicy;
-use policy::SchedulingRole;
 
 // A thread's number: its record's place in the table.
 pub struct ThreadId(pub u64);
@@ -299,69 +292,6 @@ pub fn ready_cpu(membership: QueueMembership) -> CpuOption
     }
 }
 
-// Whether the membership is ready on this processor.
-pub fn is_ready_on(membership: QueueMembership, cpu: CpuIndex) -> bool
-    ensures { λ r. ⌜ r ≡ isReadyOn membership cpu ⌝ }
-{
-    let CpuOption::Some(other) = ready_cpu(membership) else {
-        return false;
-    };
-    if other.0 == cpu.0 {
-        return true;
-    }
-    false
-}
-
-// The priority for FIFO, the pass for Stride, otherwise the turn.
-fn algorithm_key(parameters: SchedulingParameters, runtime: PolicyRuntime, turn: u64) -> Wide
-    ensures { λ r. ⌜ r ≡ algorithmKey parameters runtime turn ⌝ }
-{
-    let policy = parameters.policy;
-    let backend = parameters.fair_backend;
-    let by_turn = Wide { high: 0, low: turn };
-    match policy {
-        SchedulingPolicy::Fifo { priority } => Wide {
-            high: 0,
-            low: priority.0 as u64,
-        },
-        SchedulingPolicy::Fair => match backend {
-            FairBackend::Stride => {
-                let key = runtime.candidate_key(parameters, turn);
-                key.pass
-            }
-            FairBackend::RoundRobin => by_turn,
-        },
-        SchedulingPolicy::Budget => by_turn,
-        SchedulingPolicy::Idle => by_turn,
-    }
-}
-
-// `ready_index_key` of a record's parts, for whoever has only these at hand.
-pub fn tree_key(
-    parameters: SchedulingParameters,
-    runtime: PolicyRuntime,
-    turn: u64,
-    id: u64,
-) -> TreeKey
-    ensures { λ r. ⌜ r ≡ treeKey parameters runtime turn id ⌝ }
-{
-    let band = parameters.band;
-    TreeKey {
-        algorithm: algorithm_key(parameters, runtime, turn),
-        band: band.0,
-        turn,
-        id,
-    }
-}
-
-pub fn ready_index_key(thread: ThreadRecord, id: u64) -> TreeKey
-    ensures { λ r. ⌜ r ≡ readyIndexKey thread id ⌝ }
-{
-    let parameters = thread.parameters;
-    let runtime = thread.runtime;
-    tree_key(parameters, runtime, thread.ready_turn, id)
-}
-
 // Turn and number. Here and below, a later part is looked at only where all before it are equal; a test on the numbers leaves no Ordering to take apart again.
 fn compare_from_turn(a: TreeKey, b: TreeKey) -> Ordering
     ensures { λ r. ⌜ r ≡ compareFromTurn a b ⌝ }
@@ -414,93 +344,4 @@ pub fn compare_tree_keys(a: TreeKey, b: TreeKey) -> Ordering
         return Ordering::Greater;
     }
     compare_from_low(a, b)
-}
-
-fn has_budget(budget: BudgetOption) -> bool
-    ensures { λ r. ⌜ r ≡ hasBudget budget ⌝ }
-{
-    match budget {
-        BudgetOption::None => false,
-        BudgetOption::Some(_) => true,
-    }
-}
-
-fn is_bad_budget(budget: BudgetOption) -> bool
-    ensures { λ r. ⌜ r ≡ isBadBudget budget ⌝ }
-{
-    match budget {
-        BudgetOption::None => true,
-        BudgetOption::Some(parameters) => {
-            if parameters.is_sound() {
-                return false;
-            }
-            true
-        }
-    }
-}
-
-// Whether policy, budget and runtime disagree, or the budget is bad.
-pub fn is_bad_record(thread: ThreadRecord) -> bool
-    ensures { λ r. ⌜ r ≡ isBadRecord thread ⌝ }
-{
-    let parameters = thread.parameters;
-    let policy = parameters.policy;
-    let budget = parameters.budget;
-    let runtime = thread.runtime;
-    if !same_kind(runtime, policy) {
-        return true;
-    }
-    match policy {
-        SchedulingPolicy::Fifo { priority: _ } => has_budget(budget),
-        SchedulingPolicy::Fair => has_budget(budget),
-        SchedulingPolicy::Budget => is_bad_budget(budget),
-        SchedulingPolicy::Idle => has_budget(budget),
-    }
-}
-
-// Whether the runtime is a budget's with time left. After `ReadySnapshot::budget_available`.
-pub fn budget_available(runtime: PolicyRuntime) -> bool
-    ensures { λ r. ⌜ r ≡ budgetAvailable runtime ⌝ }
-{
-    match runtime {
-        PolicyRuntime::Fifo => false,
-        PolicyRuntime::Fair(_) => false,
-        PolicyRuntime::Budget(budget) => {
-            if budget.remaining_ns == 0 {
-                return false;
-            }
-            true
-        }
-        PolicyRuntime::Idle => false,
-    }
-}
-
-fn role_index(role: SchedulingRole) -> u64
-    ensures { λ r. ⌜ r ≡ roleIndex role ⌝ }
-{
-    match role {
-        SchedulingRole::Ordinary => 0,
-        SchedulingRole::Priority => 1,
-        SchedulingRole::Protected => 2,
-    }
-}
-
-// The tree's number among the twelve.
-pub fn index_for(parameters: SchedulingParameters, runtime: PolicyRuntime) -> IndexFor
-    ensures { λ r. ⌜ r ≡ indexFor parameters runtime ⌝ }
-{
-    let policy = parameters.policy;
-    let its_role = parameters.role;
-    let role = role_index(its_role);
-    match policy {
-        SchedulingPolicy::Fifo { priority: _ } => IndexFor::Index(role),
-        SchedulingPolicy::Fair => IndexFor::Index(3 + role),
-        SchedulingPolicy::Budget => {
-            if budget_available(runtime) {
-                return IndexFor::Index(6 + role);
-            }
-            IndexFor::Index(9 + role)
-        }
-        SchedulingPolicy::Idle => IndexFor::None,
-    }
 }

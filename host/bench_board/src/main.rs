@@ -4,7 +4,7 @@
 //! the front), select (selections within one period, a thread removed and enqueued between), period (each selection in another period, no thread exhausted), renewal (a selection at a change of period with every
 //! budget thread exhausted, each on a queue of its own) or cycle (a whole cycle of a board within one period, every thread but the running one prepared and enqueued before). KIND is stride (every thread in one tree), mixed (every policy and role) or budget. Threads and order of
 //! calls are the same for both sides, and so is what is printed: all numbers of named threads and deadlines together. `instructions` counts what the functions `bench_..` take. With --times each row is run on both sides, one after the
-//! other, N times; the median of the ratios is printed with the least and the greatest.
+//! other, N times; printed are the ratio of both sides' fastest runs, which other work on the machine disturbs least, and the median of the ratios of neighbouring runs with the least and the greatest.
 
 mod sides;
 
@@ -144,41 +144,52 @@ fn bench(side: &str, call: &str, kind: &str, queued: u64, calls: u64) -> Option<
 }
 
 /// The rows that are timed, with the number of calls for a queue of 16.
-const TIMED: [(&str, &str, u64); 11] = [
-    ("turns", "stride", 20_000),
-    ("turns", "mixed", 20_000),
-    ("front", "stride", 20_000),
-    ("front", "mixed", 20_000),
-    ("select", "stride", 20_000),
-    ("select", "mixed", 20_000),
-    ("period", "stride", 20_000),
-    ("period", "mixed", 20_000),
+const TIMED: [(&str, &str, u64); 12] = [
+    ("turns", "stride", 5_000),
+    ("turns", "mixed", 5_000),
+    ("front", "stride", 5_000),
+    ("front", "mixed", 5_000),
+    ("select", "stride", 5_000),
+    ("select", "mixed", 5_000),
+    ("period", "stride", 5_000),
+    ("period", "mixed", 5_000),
+    ("renewal", "mixed", 200),
     ("renewal", "budget", 200),
-    ("cycle", "stride", 5_000),
-    ("cycle", "mixed", 5_000),
+    ("cycle", "stride", 2_000),
+    ("cycle", "mixed", 2_000),
 ];
 
-/// The ratios of one row in order, port to Rust.
-fn ratios(call: &str, kind: &str, queued: u64, calls: u64, times: u64) -> Option<Vec<f64>> {
+/// How long the runs of one row took on both sides, each in order, and the ratios of neighbouring runs, port to Rust.
+struct Timed {
+    port: Vec<u128>,
+    rust: Vec<u128>,
+    ratios: Vec<f64>,
+}
+
+fn timed(call: &str, kind: &str, queued: u64, calls: u64, times: u64) -> Option<Timed> {
     let records = records(call, kind, queued)?;
-    let mut all = Vec::new();
+    let (mut port, mut rust, mut ratios) = (Vec::new(), Vec::new(), Vec::new());
     for _ in 0..times {
-        let (port, ours) = run::<Port>(call, &records, calls)?;
-        let (rust, theirs) = run::<Rust>(call, &records, calls)?;
+        let (ours_named, ours) = run::<Port>(call, &records, calls)?;
+        let (theirs_named, theirs) = run::<Rust>(call, &records, calls)?;
         assert_eq!(
-            port, rust,
+            ours_named, theirs_named,
             "{call} {kind} {queued}: both sides name the same"
         );
-        all.push(ours as f64 / theirs as f64);
+        port.push(ours);
+        rust.push(theirs);
+        ratios.push(ours as f64 / theirs as f64);
     }
-    all.sort_by(f64::total_cmp);
-    Some(all)
+    port.sort();
+    rust.sort();
+    ratios.sort_by(f64::total_cmp);
+    Some(Timed { port, rust, ratios })
 }
 
 fn times(times: u64) -> Option<()> {
     println!(
-        "{:<26}{:>8}{:>8}{:>10}",
-        "nanoseconds, port / Rust", "median", "least", "greatest"
+        "{:<26}{:>8}{:>8}{:>8}{:>10}",
+        "nanoseconds, port / Rust", "fastest", "median", "least", "greatest"
     );
     for (call, kind, calls) in TIMED {
         for queued in [16, 256, 4096] {
@@ -186,12 +197,13 @@ fn times(times: u64) -> Option<()> {
                 "renewal" => (calls * 16 / queued).max(2),
                 _ => calls,
             };
-            let all = ratios(call, kind, queued, calls, times)?;
-            let (least, greatest) = (all.first()?, all.last()?);
+            let Timed { port, rust, ratios } = timed(call, kind, queued, calls, times)?;
+            let fastest = *port.first()? as f64 / *rust.first()? as f64;
+            let (least, greatest) = (ratios.first()?, ratios.last()?);
             let name = format!("{call}, {queued}, {kind}");
             println!(
-                "{name:<26}{:>8.2}{least:>8.2}{greatest:>10.2}",
-                all[all.len() / 2]
+                "{name:<26}{fastest:>8.2}{:>8.2}{least:>8.2}{greatest:>10.2}",
+                ratios[ratios.len() / 2]
             );
         }
     }

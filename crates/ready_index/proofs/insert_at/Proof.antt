@@ -1,4 +1,5 @@
 -- The way down is made first, and only then is the record stored and the path rebuilt.
+use Rattle.ready_index.specs.CasesLaws.{made-anew}
 use Rattle.ready_index.specs.LoopLaws.{walk-within}
 use Rattle.ready_index.specs.WaysLaws.{ways}
 use borrow.Author.Needs.{needs}
@@ -22,6 +23,7 @@ insert-at-spec =
     (λ c. search needs)
     (λ c. search ways depth 8)
     (λ c κs. search walk-within)
+    (λ c κs. search needs)
     (λ c. search needs)
     (λ c. search needs)
-    (λ c. search ways depth 8))
+    (λ c. search (ways, made-anew) depth 8))

@@ -35,5 +35,6 @@ rebuild-spec =
     (λ c. arrived _ (search ascent depth 8))
     (λ c. search needs)
     (λ c. (omega arith, search needs, search ascent depth 8))
+    (λ c κs. search needs)
     (λ c. search needs)
     (λ c. arrived _ (search ascent depth 8)))

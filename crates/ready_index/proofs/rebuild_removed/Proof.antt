@@ -18,5 +18,6 @@ rebuild-removed-spec =
     (λ c. search needs)
     (λ c. search needs)
     (λ c. search answers depth 8)
+    (λ c κs. search needs)
     (λ c. search needs)
     (λ c. search answers depth 8))

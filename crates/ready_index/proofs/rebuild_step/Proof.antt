@@ -1,4 +1,4 @@
--- One link is stored, and the node is balanced.
+-- One link is stored, and the node is balanced by the links that it then has.
 use Rattle.ready_index.specs.CasesLaws.{answers}
 use Rattle.ready_index.specs.InPlaceLaws.{step-up}
 use borrow.Author.Needs.{needs}
@@ -10,6 +10,20 @@ rebuild-step-spec =
     tie.close
     (tie.spec
     (λ c. search needs)
+    (λ c κs. search needs)
+    (λ c. search needs)
+    (λ c. search needs)
+    (λ c. search needs)
+    (λ c. search (answers, step-up) depth 8)
+    (λ c. search needs)
+    (λ c κs. search needs)
+    (λ c. search needs)
+    (λ c. search needs)
+    (λ c. search needs)
+    (λ c. search (answers, step-up) depth 8)
+    (λ c κs. search needs)
+    (λ c. search needs)
+    (λ c. search (answers, step-up) depth 8)
     (λ c κs. search needs)
     (λ c. search needs)
     (λ c. search needs)

@@ -1,10 +1,13 @@
 -- A node whose sides are even is left with its links; any other is balanced.
-use Rattle.rotations.specs.InPlaceLaws.{in-place}
+use Rattle.rotations.specs.CasesLaws.{turnings}
+use Rattle.rotations.specs.InPlace.{balanceBy}
+use Rattle.rotations.specs.InPlaceLaws.{handed-on}
 use borrow.Author.Needs.{needs}
 use Rattle.rotations.proofs.rebalance.Statement.{statement}
 use Rattle.rotations.proofs.rebalance.Tie as tie
 
 pub rebalance-spec : {M : Type 1} → statement M
+unfolding balanceBy
 rebalance-spec =
     tie.close
     (tie.spec
@@ -12,25 +15,20 @@ rebalance-spec =
     (λ c. search needs)
     (λ c. search needs)
     (λ c. search needs)
-    (λ c. search in-place depth 12)
+    (λ c. search (turnings, handed-on) depth 8)
     (λ c κs. search needs)
     (λ c. search needs)
     (λ c. search needs)
     (λ c. search needs)
-    (λ c. search in-place depth 12)
+    (λ c. search (turnings, handed-on) depth 8)
+    (λ c κs. search needs)
+    (λ c κs. search needs)
+    (λ c. search needs)
+    (λ c. search (turnings, handed-on) depth 8)
     (λ c κs. search needs)
     (λ c. search needs)
     (λ c. search needs)
     (λ c. search needs)
-    (λ c. search in-place depth 12)
-    (λ c κs. search needs)
-    (λ c κs. search needs)
+    (λ c. search (turnings, handed-on) depth 8)
     (λ c. search needs)
-    (λ c. search in-place depth 12)
-    (λ c κs. search needs)
-    (λ c. search needs)
-    (λ c. search needs)
-    (λ c. search needs)
-    (λ c. search in-place depth 12)
-    (λ c. search needs)
-    (λ c. search in-place depth 12))
+    (λ c. search (turnings, handed-on) depth 8))
