@@ -1,6 +1,6 @@
 -- The laws by which the entries meet their contracts: an answer's value was stored, or its refusal's number is told.
 use Prim.Native.Nat.{ℕ, _%_}
-use mathlib.Core.Path.{_≡_, refl, sym}
+use mathlib.Core.Path.{_≡_, refl, sym, _∙_, ap, ap₂}
 use mathlib.Core.List.{List, [], _∷_}
 use mathlib.Core.Option.{Option, none, some}
 use Rattle.refusal.specs.declared.Refusal.{Refusal}
@@ -45,7 +45,7 @@ use Rattle.algorithms.specs.declared.RuntimeDeadline.the-variants as due
 use Rattle.algorithms.specs.Answers.{runtimeAnswer, runtimeDeadline}
 use Rattle.policy_words.specs.PolicyWords.{word, epochFrom, policyFrom, roleFrom, backendFrom, budgetFrom, parametersOf}
 use Rattle.record_entries.specs.RecordWords.{budgetOf, budgetRuntimeOf, runtimeOptionOf, runtimeKeyOf, priorityOptionOf, classNumber, weightNumber}
-use Rattle.record_entries.specs.Entries.{told, toldOf, parametersTold}
+use Rattle.record_entries.specs.Entries.{Told, told, toldOf, parametersTold}
 
 module _ (before : BudgetParameters) {x : BudgetMade} {z : Answer BudgetParameters} where
   pub budget-made : {b : BudgetParameters} (ns period burst : ℕ) → budgetMade x ≡ z → x ≡ made.Made b → ns ≡ b .«budget_ns» → period ≡ b .«period_ns» → burst ≡ b .«burst_ns»
@@ -195,3 +195,27 @@ pub ruleset entries = (
   due-stored,
   due-refused,
 )
+
+-- What f answers on some arguments, it answers on those that they are equal to: on what the words stand for.
+pub on-one : {A R : Type 0} (f : A → R) (y : R) (a x : A) → y ≡ f a → a ≡ x → y ≡ f x
+on-one f y a x h e = h ∙ ap f e
+
+pub on-two : {A B R : Type 0} (f : A → B → R) (y : R) (a x : A) (b z : B) → y ≡ f a b → a ≡ x → b ≡ z → y ≡ f x z
+on-two f y a x b z h e₁ e₂ = h ∙ ap₂ f e₁ e₂
+
+pub on-three : {A B C R : Type 0} (f : A → B → C → R) (y : R) (a u : A) (b v : B) (c w : C) → y ≡ f a b c → a ≡ u → b ≡ v → c ≡ w → y ≡ f u v w
+on-three f y a u b v c w h e₁ e₂ e₃ = h ∙ (λ i. f (e₁ i) (e₂ i) (e₃ i))
+
+pub on-four : {A B C D R : Type 0} (f : A → B → C → D → R) (y : R) (a u : A) (b v : B) (c w : C) (d x : D) → y ≡ f a b c d → a ≡ u → b ≡ v → c ≡ w → d ≡ x → y ≡ f u v w x
+on-four f y a u b v c w d x h e₁ e₂ e₃ e₄ = h ∙ (λ i. f (e₁ i) (e₂ i) (e₃ i) (e₄ i))
+
+pub on-five : {A B C D E R : Type 0} (f : A → B → C → D → E → R) (y : R) (a u : A) (b v : B) (c w : C) (d x : D) (e z : E)
+    → y ≡ f a b c d e → a ≡ u → b ≡ v → c ≡ w → d ≡ x → e ≡ z → y ≡ f u v w x z
+on-five f y a u b v c w d x e z h e₁ e₂ e₃ e₄ e₅ = h ∙ (λ i. f (e₁ i) (e₂ i) (e₃ i) (e₄ i) (e₅ i))
+
+-- What an answer leaves, an equal one leaves.
+pub told-by : {A : Type 0} {y : Told A} {x z : Answer A} (before : A) → y ≡ toldOf before x → x ≡ z → y ≡ toldOf before z
+told-by before h e = h ∙ ap (toldOf before) e
+
+pub parameters-by : {y : Told SchedulingParameters} {x z : ParametersOption} (before : SchedulingParameters) → y ≡ parametersTold before x → x ≡ z → y ≡ parametersTold before z
+parameters-by before h e = h ∙ ap (parametersTold before) e

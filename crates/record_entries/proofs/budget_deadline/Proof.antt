@@ -1,4 +1,6 @@
 -- The words stand for the arguments, the call answers by its own contract, and its answer is stored.
+use Rattle.budget.specs.Runtime.{deadlineJudged}
+use Rattle.record_entries.specs.EntryLaws.{told-by, on-four}
 use borrow.Author.Needs.{needs}
 use Rattle.record_entries.proofs.budget_deadline.Statement.{statement}
 use Rattle.record_entries.proofs.budget_deadline.Tie as tie
@@ -11,4 +13,4 @@ budget-deadline-spec =
     (λ c κs. search needs)
     (λ c κs. search needs)
     (λ c κs. search needs)
-    (λ c. cc))
+    (λ c. search (told-by, on-four deadlineJudged) depth 8))

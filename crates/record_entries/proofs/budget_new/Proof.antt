@@ -1,4 +1,6 @@
 -- The words stand for the arguments, the call answers by its own contract, and its answer is stored.
+use Rattle.budget.specs.Runtime.{made}
+use Rattle.record_entries.specs.EntryLaws.{told-by, on-one}
 use borrow.Author.Needs.{needs}
 use Rattle.record_entries.proofs.budget_new.Statement.{statement}
 use Rattle.record_entries.proofs.budget_new.Tie as tie
@@ -10,4 +12,4 @@ budget-new-spec =
     (λ c κs. search needs)
     (λ c κs. search needs)
     (λ c κs. search needs)
-    (λ c. cc))
+    (λ c. search (told-by, on-one made) depth 8))

@@ -1,4 +1,6 @@
 -- The words stand for the arguments, the call answers by its own contract, and its answer is stored.
+use Rattle.budget.specs.Runtime.{reconfiguredJudged}
+use Rattle.record_entries.specs.EntryLaws.{told-by, on-three}
 use borrow.Author.Needs.{needs}
 use Rattle.record_entries.proofs.budget_reconfigure.Statement.{statement}
 use Rattle.record_entries.proofs.budget_reconfigure.Tie as tie
@@ -12,4 +14,4 @@ budget-reconfigure-spec =
     (λ c κs. search needs)
     (λ c κs. search needs)
     (λ c κs. search needs)
-    (λ c. cc))
+    (λ c. search (told-by, on-three reconfiguredJudged) depth 8))

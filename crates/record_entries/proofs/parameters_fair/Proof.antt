@@ -1,4 +1,6 @@
 -- The words stand for the arguments, and what the constructor makes is stored.
+use Rattle.record_entries.specs.EntryLaws.{parameters-by, on-five}
+use Rattle.policy.specs.Parameters.{newFair}
 use borrow.Author.Needs.{needs}
 use Rattle.record_entries.proofs.parameters_fair.Statement.{statement}
 use Rattle.record_entries.proofs.parameters_fair.Tie as tie
@@ -11,4 +13,4 @@ parameters-fair-spec =
     (λ c κs. search needs)
     (λ c κs. search needs)
     (λ c κs. search needs)
-    (λ c. cc))
+    (λ c. search (parameters-by, on-five newFair) depth 8))

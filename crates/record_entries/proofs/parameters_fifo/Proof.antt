@@ -1,4 +1,7 @@
 -- The words stand for the arguments, and what the constructor makes is stored.
+use mathlib.Core.Path.{_∙_}
+use Rattle.policy.specs.Parameters.{ofFifo}
+use Rattle.record_entries.specs.EntryLaws.{on-three}
 use borrow.Author.Needs.{needs}
 use Rattle.record_entries.proofs.parameters_fifo.Statement.{statement}
 use Rattle.record_entries.proofs.parameters_fifo.Tie as tie
@@ -10,4 +13,4 @@ parameters-fifo-spec =
     (λ c κs. search needs)
     (λ c κs. search needs)
     (λ c κs. search needs)
-    (λ c. cc))
+    (λ c. search (_∙_, on-three ofFifo) depth 8))

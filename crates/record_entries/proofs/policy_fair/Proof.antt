@@ -1,4 +1,5 @@
 -- What the constructor makes is stored.
+use mathlib.Core.Path.{_∙_}
 use borrow.Author.Needs.{needs}
 use Rattle.record_entries.proofs.policy_fair.Statement.{statement}
 use Rattle.record_entries.proofs.policy_fair.Tie as tie
@@ -9,4 +10,4 @@ policy-fair-spec =
     (tie.spec
     (λ c κs. search needs)
     (λ c κs. search needs)
-    (λ c. cc))
+    (λ c. search _∙_))

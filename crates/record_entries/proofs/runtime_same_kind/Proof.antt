@@ -1,4 +1,6 @@
 -- The words stand for runtime and policy.
+use Rattle.record_entries.specs.EntryLaws.{on-two}
+use Rattle.algorithms.specs.Runtime.{sameKind}
 use borrow.Author.Needs.{needs}
 use Rattle.record_entries.proofs.runtime_same_kind.Statement.{statement}
 use Rattle.record_entries.proofs.runtime_same_kind.Tie as tie
@@ -12,4 +14,4 @@ runtime-same-kind-spec =
     (λ c. search needs)
     (λ c κs. search needs)
     (λ c κs. search needs)
-    (λ c. cc))
+    (λ c. search (on-two sameKind) depth 8))
