@@ -15,9 +15,9 @@ use Rattle.arbitration.specs.declared.DispatchMode.{DispatchMode}
 use Rattle.arbitration.specs.declared.DispatchMode.the-variants as mode
 use Rattle.arbitration.specs.declared.KeyOption.{KeyOption}
 use Rattle.arbitration.specs.declared.KeyOption.the-variants as key
-use Rattle.policy_words.specs.PolicyWords.{word, epochFrom}
+use Rattle.policy_words.specs.PolicyWords.{word, epochFrom, parametersOf}
 use Rattle.policy_words.specs.ByWords.{by-words}
-use Rattle.window_words.specs.WindowWords.{flagFrom, modeFrom, orderOf, configOf, windowOf, configured, progressed, dispatchKeyOf, keyOptionOf}
+use Rattle.window_words.specs.WindowWords.{flagFrom, modeFrom, orderOf, configOf, windowOf, configured, progressed, demandOf, candidateOf, dispatchKeyOf, keyOptionOf}
 
 pub set-flag : {b : Bool} → b ≡ true → flagFrom 1 ≡ b
 unfolding flagFrom ifEqual choose
@@ -57,6 +57,39 @@ module _ {k : KeyOption} where
   key-words w h e = e ∙ sym h
 
 pub ruleset word-laws = (set-flag, clear-flag, strict-word, priority-word, protected-word, ordinary-word, borrow-word, no-key-words, key-words)
+
+-- The parts that the words stand for make the whole.
+module _ (w : List ℕ) where
+  pub order-read : {priority budget fair borrow : ℕ} → priority ≡ word w 3 % 256 → budget ≡ word w 4 % 256 → fair ≡ word w 5 % 256 → borrow ≡ word w 6 % 256
+      → record { «priority_rank» = priority; «budget_rank» = budget; «fair_rank» = fair; «borrow_rank» = borrow } ≡ orderOf w
+  unfolding orderOf
+  order-read e₁ e₂ e₃ e₄ = rw (e₁, e₂, e₃, e₄)
+
+  pub config-read : {order : ArbitrationOrder} {prefer : Bool} → order ≡ orderOf w → prefer ≡ flagFrom (word w 7)
+      → record { «period_ns» = word w 0; «priority_allowance_ns» = word w 1; «protected_floor_ns» = word w 2; order = order; «prefer_fair» = prefer } ≡ configOf w
+  unfolding configOf
+  config-read e f = rw (e, f)
+
+  pub window-read : {config : ArbitrationConfig} {epoch : Epoch} → config ≡ configOf w → epoch ≡ epochFrom (word w 8) (word w 9)
+      → record { config = config; epoch = epoch; «priority_remaining_ns» = word w 10; «protected_remaining_ns» = word w 11 } ≡ windowOf w
+  unfolding windowOf
+  window-read e f = rw (e, f)
+
+  pub demand-read : {protected fair sensitive eligible any : Bool}
+      → protected ≡ flagFrom (word w 0) → fair ≡ flagFrom (word w 1) → sensitive ≡ flagFrom (word w 2) → eligible ≡ flagFrom (word w 3) → any ≡ flagFrom (word w 4)
+      → record { protected = protected; fair = fair; «window_sensitive» = sensitive; «eligible_budget» = eligible; «any_budget» = any } ≡ demandOf w
+  unfolding demandOf
+  demand-read e₁ e₂ e₃ e₄ e₅ = rw (e₁, e₂, e₃, e₄, e₅)
+
+  pub candidate-read : {parameters : SchedulingParameters} {available : Bool} → parameters ≡ parametersOf w → available ≡ flagFrom (word w 14)
+      → record { parameters = parameters; «fair_pass» = record { high = word w 12; low = word w 13 }; turn = word w 16; «budget_available» = available } ≡ candidateOf w
+  unfolding candidateOf
+  candidate-read e f = rw (e, f)
+
+  pub dispatch-key-read : {urgency rank algorithm band : ℕ} → urgency ≡ word w 2 % 256 → rank ≡ word w 3 % 256 → algorithm ≡ word w 4 % 256 → band ≡ word w 7 % 256
+      → record { urgency = urgency; rank = rank; «algorithm_rank» = algorithm; algorithm = record { high = word w 5; low = word w 6 }; band = band; turn = word w 8 } ≡ dispatchKeyOf w
+  unfolding dispatchKeyOf
+  dispatch-key-read e₁ e₂ e₃ e₄ = rw (e₁, e₂, e₃, e₄)
 
 pub config-stored : (r : List ℕ) (c : ArbitrationConfig) (priority budget fair borrow prefer : ℕ)
     → length r ≡ 12

@@ -1,11 +1,10 @@
 -- Every part is read from the definition's words.
-use Rattle.window_words.specs.WindowWords.{candidateOf}
+use Rattle.window_words.specs.WordLaws.{candidate-read}
 use borrow.Author.Needs.{needs}
 use Rattle.window_words.proofs.candidate_of.Statement.{statement}
 use Rattle.window_words.proofs.candidate_of.Tie as tie
 
 pub candidate-of-spec : {M : Type 1} → statement M
-unfolding candidateOf
 candidate-of-spec =
     tie.close
     (tie.spec
@@ -15,4 +14,4 @@ candidate-of-spec =
     (λ c. search needs)
     (λ c. search needs)
     (λ c. search needs)
-    (λ c. cc))
+    (λ c. search candidate-read depth 8))

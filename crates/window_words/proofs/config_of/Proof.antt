@@ -1,11 +1,10 @@
 -- Every part is read from the definition's words.
-use Rattle.window_words.specs.WindowWords.{configOf}
+use Rattle.window_words.specs.WordLaws.{config-read}
 use borrow.Author.Needs.{needs}
 use Rattle.window_words.proofs.config_of.Statement.{statement}
 use Rattle.window_words.proofs.config_of.Tie as tie
 
 pub config-of-spec : {M : Type 1} → statement M
-unfolding configOf
 config-of-spec =
     tie.close
     (tie.spec
@@ -15,4 +14,4 @@ config-of-spec =
     (λ c. search needs)
     (λ c. search needs)
     (λ c. search needs)
-    (λ c. cc))
+    (λ c. search config-read depth 8))

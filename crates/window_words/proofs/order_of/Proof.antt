@@ -1,11 +1,10 @@
 -- Every part is read from the definition's words.
-use Rattle.window_words.specs.WindowWords.{orderOf}
+use Rattle.window_words.specs.WordLaws.{order-read}
 use borrow.Author.Needs.{needs}
 use Rattle.window_words.proofs.order_of.Statement.{statement}
 use Rattle.window_words.proofs.order_of.Tie as tie
 
 pub order-of-spec : {M : Type 1} → statement M
-unfolding orderOf
 order-of-spec =
     tie.close
     (tie.spec
@@ -17,4 +16,4 @@ order-of-spec =
     (λ c κs. search needs)
     (λ c. search needs)
     (λ c κs. search needs)
-    (λ c. cc))
+    (λ c. search order-read depth 8))

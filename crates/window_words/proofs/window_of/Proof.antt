@@ -1,11 +1,10 @@
 -- Every part is read from the definition's words.
-use Rattle.window_words.specs.WindowWords.{windowOf}
+use Rattle.window_words.specs.WordLaws.{window-read}
 use borrow.Author.Needs.{needs}
 use Rattle.window_words.proofs.window_of.Statement.{statement}
 use Rattle.window_words.proofs.window_of.Tie as tie
 
 pub window-of-spec : {M : Type 1} → statement M
-unfolding windowOf
 window-of-spec =
     tie.close
     (tie.spec
@@ -15,4 +14,4 @@ window-of-spec =
     (λ c κs. search needs)
     (λ c. search needs)
     (λ c. search needs)
-    (λ c. cc))
+    (λ c. search window-read depth 8))
