@@ -10,6 +10,9 @@ use Rattle.refusal.specs.Cases.{choose, given}
 use Rattle.time.specs.declared.Deadline.{Deadline}
 use Rattle.time.specs.declared.Deadline.the-variants as deadlines
 use Rattle.time.specs.Time.{rises, periodEnd}
+use Rattle.order.specs.declared.Ordering.{Ordering}
+use Rattle.policy.specs.declared.FairBackend.{FairBackend}
+use Rattle.policy.specs.declared.SchedulingParameters.{SchedulingParameters}
 use Rattle.budget.specs.declared.DeadlineAnswer.{DeadlineAnswer}
 use Rattle.budget.specs.declared.DeadlineAnswer.the-variants as deadline
 use Rattle.budget.specs.Answers.{deadlineAnswer}
@@ -27,12 +30,14 @@ use Rattle.arbitration.specs.declared.KeyOption.{KeyOption}
 use Rattle.arbitration.specs.declared.WindowMade.{WindowMade}
 use Rattle.arbitration.specs.declared.WindowMade.the-variants as window
 use Rattle.arbitration.specs.Answers.{configMade, windowMade, keyAnswer}
-use Rattle.window_config.specs.Config.{soundConfig}
+use Rattle.window_config.specs.Config.{soundConfig, preferring, acceptsBudget, admitted}
 use Rattle.arbitration.specs.Window.{newWindow, refreshed, protectionDeadline, nextDeadline}
-use Rattle.arbitration.specs.Key.{keyOf}
+use Rattle.arbitration.specs.Key.{compareKeys, keyOf}
 use Rattle.arbitration.specs.Calls.{With, with, judged, periodDeadlineCall, protectionCall, keyCall, nextDeadlineCall}
-use Rattle.window_words.specs.WindowWords.{modeFrom, configOf, windowOf, configured, progressed, demandOf, candidateOf}
-use Rattle.window_entries.specs.Entries.{Left, left, leftOf, storedOver, newConfigOf, configLeft, windowLeft}
+use Rattle.dispatch_keys.specs.declared.DispatchKey.{DispatchKey}
+use Rattle.policy_words.specs.PolicyWords.{parametersOf, backendFrom}
+use Rattle.window_words.specs.WindowWords.{modeFrom, configOf, windowOf, configured, progressed, demandOf, candidateOf, dispatchKeyOf}
+use Rattle.window_entries.specs.Entries.{Left, left, leftOf, storedOver, newConfigOf, configLeft, windowLeft, orderingNumber}
 
 -- The window of an accepted step has the configuration of w; that of a refused one is w.
 abbrev Keeps : {A : Type 0} → CpuWindow → With A → Type 0
@@ -159,6 +164,26 @@ module _ (w : List ℕ) (g : ArbitrationConfig) {x : WindowMade} where
   unfolding windowLeft
   window-refused n e h m f = rw (sym e, sym h, m, f) refl
 
+-- A call on what the words were read as is one on what they stand for.
+module _ (w row : List ℕ) {c : ArbitrationConfig} {p : SchedulingParameters} {r : Bool} where
+  pub accepts-read : c ≡ configOf w → p ≡ parametersOf row → r ≡ acceptsBudget c p → r ≡ acceptsBudget (configOf w) (parametersOf row)
+  accepts-read e e₁ h = rw (sym e, sym e₁) h
+
+  pub admits-read : (backend : ℕ) {b : FairBackend} → c ≡ configOf w → p ≡ parametersOf row → b ≡ backendFrom backend → r ≡ admitted c p b
+      → r ≡ admitted (configOf w) (parametersOf row) (backendFrom backend)
+  admits-read backend e e₁ e₂ h = rw (sym e, sym e₁, sym e₂) h
+
+pub preference-stored : (w : List ℕ) (prefer : Bool) {c k : ArbitrationConfig} {v : CpuWindow} → c ≡ configOf w → k ≡ preferring c prefer → v ≡ configured (windowOf w) k
+    → v ≡ configured (windowOf w) (preferring (configOf w) prefer)
+preference-stored w prefer e f h = rw (sym e, sym f) h
+
+pub period-read : (w : List ℕ) {v : CpuWindow} {n : ℕ} → v ≡ windowOf w → n ≡ v .config .«period_ns» → n ≡ windowOf w .config .«period_ns»
+period-read w e h = rw (sym e) h
+
+pub keys-compared : (a b : List ℕ) {x y : DispatchKey} {o : Ordering} {n : ℕ} → x ≡ dispatchKeyOf a → y ≡ dispatchKeyOf b → o ≡ compareKeys x y → n ≡ orderingNumber o
+    → n ≡ orderingNumber (compareKeys (dispatchKeyOf a) (dispatchKeyOf b))
+keys-compared a b e f h k = rw (sym e, sym f, sym h) k
+
 pub ruleset entries = (
   period-left,
   protection-left,
@@ -172,4 +197,9 @@ pub ruleset entries = (
   config-refused,
   window-made,
   window-refused,
+  accepts-read,
+  admits-read,
+  preference-stored,
+  period-read,
+  keys-compared,
 )

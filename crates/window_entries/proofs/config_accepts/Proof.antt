@@ -1,4 +1,5 @@
 -- The words stand for the arguments, and the call answers by its own contract.
+use Rattle.window_entries.specs.EntryLaws.{entries}
 use borrow.Author.Needs.{needs}
 use Rattle.window_entries.proofs.config_accepts.Statement.{statement}
 use Rattle.window_entries.proofs.config_accepts.Tie as tie
@@ -10,4 +11,4 @@ config-accepts-spec =
     (λ c κs. search needs)
     (λ c κs. search needs)
     (λ c κs. search needs)
-    (λ c. cc))
+    (λ c. search entries depth 8))

@@ -1,4 +1,5 @@
 -- The words stand for the arguments, and the call answers by its own contract.
+use Rattle.window_entries.specs.EntryLaws.{entries}
 use borrow.Author.Needs.{needs}
 use Rattle.window_entries.proofs.config_admits.Statement.{statement}
 use Rattle.window_entries.proofs.config_admits.Tie as tie
@@ -11,4 +12,4 @@ config-admits-spec =
     (λ c κs. search needs)
     (λ c κs. search needs)
     (λ c κs. search needs)
-    (λ c. cc))
+    (λ c. search entries depth 8))

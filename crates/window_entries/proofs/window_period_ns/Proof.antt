@@ -1,4 +1,5 @@
 -- The words stand for the arguments, and the call answers by its own contract.
+use Rattle.window_entries.specs.EntryLaws.{entries}
 use borrow.Author.Needs.{needs}
 use Rattle.window_entries.proofs.window_period_ns.Statement.{statement}
 use Rattle.window_entries.proofs.window_period_ns.Tie as tie
@@ -9,4 +10,4 @@ window-period-ns-spec =
     (tie.spec
     (λ c κs. search needs)
     (λ c κs. search needs)
-    (λ c. cc))
+    (λ c. search entries depth 8))
