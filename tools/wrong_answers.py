@@ -4,10 +4,12 @@
 A wrong answer is a line `# fn PATH: the wrong answer in words` with the `file:`, `old:` and `new:` lines below it that put it into the function PATH of a crate. They stand
 - in crates/NAME/must-fail/*.edit, which `rt ci` tries. Several share one edit and so one check of the crate, where no edited function calls another. An edit without such a line changes a definition or a promise, and is
   judged whole by rt; its first line says the wrong answer.
-- in crates/NAME/wrong-answers, any number of them, which --try puts in, as many at once as do not touch each other, and asks `rt dev` of a copy of the repository under target/wrong-answers. There the old text need stand once in the named function only.
+- in crates/NAME/wrong-answers, any number of them. There the old text need stand once in the named function only.
+--try puts in those of both, as many at once as do not touch each other, and asks `rt dev` of a copy of the repository under target/wrong-answers.
 The check says of each function whether it is proved: the named one must not be, by itself and not only because it calls another that is not. That it is a fact that fails and not the form of the proof is asked in two ways: what the check says of
 the proof must be that a fact was not found; and where a proof is written for the function, the edited function must take the same steps in the same order (STEPS, by its MIR), so that it leaves the same list of things to prove and the proof
-still fits it: --shape asks this alone, in a second a round. Where none is written, the check finds the proof by itself, whatever the shape. The log of each round of --try is kept below target/wrong-answers/said.
+still fits it: --shape asks this alone, in a second a round. Where none is written, the check finds the proof by itself, whatever the shape. A refused answer is decided where the prover did not stop at a bound of its own (BOUNDS) before it had tried all that its rules give; --try names those
+that are not, and the public functions with fewer than two that are. The log of each round of --try is kept below target/wrong-answers/said.
 
 With no word, after `rt ci` or `rt must-fail`: the logs are looked at; the last line is 'N wrong answers refused, 0 not', and the exit status is 0 then; so it is with --try. --list writes docs/WRONG-ANSWERS.md,
 --check asks whether that page is current and has two wrong answers or more for each public function; `--check NAME..` asks the second alone, of these crates."""
@@ -88,9 +90,15 @@ def why_not(said, crate, function):
     return 'refused for the form of its proof: ' + ' '.join(form)[:400] if form or not told else None
 
 
+# What the check says where a tactic stopped at a bound of its own: congruence at its own, a search at its steps, its count or its depth.
+BOUNDS = re.compile(r'met a bound of its own|broke off|was spent|Not every way was tried|stopped \d+ lemmas deep')
+
+
 def at_bound(said, crate, function):
-    """Whether the prover met a bound of its own at the goal, so that it did not decide it."""
-    return any('met a bound of its own' in fault for fault in faults(said, crate, function))
+    """Whether the prover stopped at a bound of its own, so that it did not look at everything that its rules give: the answer is refused, but not decided."""
+    told = faults(said, crate, function)
+    notes = re.findall(rf'^note: what antt said of a `search` in the proof that rattle made: .*(?:\n  .*)*(?=(?:\nnote: .*(?:\n  .*)*)*\nfn {crate}::{function}: no proof)', said, re.MULTILINE)
+    return any(BOUNDS.search(fault) for fault in told + notes)
 
 
 def has_proof(crate, function):
@@ -272,7 +280,7 @@ def tried(crate, number, one, whole, shape_alone):
 
 
 def try_by_hand(crates, shape_alone):
-    refused, others, bounds = 0, 0, 0
+    refused, others, bounds, decided = 0, 0, 0, []
     shutil.rmtree(f'{COPY}/crates', ignore_errors=True)
     os.makedirs(COPY, exist_ok=True)
     for part in ['crates', 'crates.txt']:
@@ -282,9 +290,7 @@ def try_by_hand(crates, shape_alone):
         shutil.rmtree(f'{COPY}/target/{part}', ignore_errors=True)
         subprocess.run(['cp', '-r', f'target/{part}', f'{COPY}/target'], check=True)
     for crate in crates:
-        whole, answers = shapes(crate), by_hand(crate)
-        if shape_alone:
-            answers = answers + [answer for _, owner, _, several in edits() if owner == crate for answer in several if answer[0]]
+        whole, answers = shapes(crate), by_hand(crate) + [answer for _, owner, _, several in edits() if owner == crate for answer in several if answer[0]]
         for number, one in enumerate(rounds(crate, answers), 1):
             wrong, met = tried(crate, number, one, whole, shape_alone)
             refused, others, bounds = refused + len(one) - len(wrong), others + len(wrong), bounds + len(met)
@@ -293,8 +299,11 @@ def try_by_hand(crates, shape_alone):
                 print(f'  {function}: {words}: {why}', flush=True)
             for function, words in met:
                 print(f'  {function}: {words}: refused, but not decided: the prover met a bound of its own', flush=True)
-    if bounds:
-        print(f'of {bounds} of the refused the prover met a bound of its own at the goal')
+            apart = [(function, words) for function, words, _ in wrong] + met
+            decided += [f'{crate}::{function}' for function, words, _ in one if (function, words) not in apart]
+    if not shape_alone:
+        few = [f'{crate}::{function}' for crate in crates for function in public(crate) if decided.count(f'{crate}::{function}') < 2]
+        print(f'{bounds} of the refused are not decided; {len(few)} of {sum(len(public(crate)) for crate in crates)} public functions have fewer than two that are decided', *few)
     verdict(refused, others, 'keep the shape' if shape_alone else 'refused')
 
 
