@@ -33,3 +33,6 @@ module _ {A : Type 0} {y : A} {t : List ThreadRecord} (a : List ThreadRecord →
   turned-damaged f e m h = rw (sym e) (rw m h)
 
 pub ruleset turnings = (cases, leaning, memberships, tables, height-got, height-damaged, turned-root, turned-damaged)
+
+-- Going by links, two heights and the lean alone.
+pub ruleset by-lean = (leaning, tables, height-got, height-damaged)

@@ -6,7 +6,7 @@ use native.Mathlib.Omega.{arith}
 use Prim.Native.Nat.{ℕ, _+_}
 use lib.Dec.{ltb}
 use borrow.Author.Tests.{lt-ltb, le-ltb}
-use Rattle.refusal.specs.Cases.{never, choose, ifLess, given}
+use Rattle.refusal.specs.Cases.{never, choose, ifLess, given, holds, fails}
 use Rattle.avl.specs.declared.Lean.{Lean}
 use Rattle.avl.specs.declared.Lean.the-variants.{Left, Right, Even}
 use Rattle.avl.specs.Rotation.{leanOf, onLean}
@@ -23,6 +23,7 @@ use Rattle.rotations.specs.declared.HeightRead.the-variants as read
 use Rattle.rotations.specs.declared.Turned.{Turned}
 use Rattle.rotations.specs.declared.Turned.the-variants as turned
 use Rattle.rotations.specs.Cases.{onHeight}
+use Rattle.rotations.specs.CasesLaws.{height-got, height-damaged}
 use Rattle.rotations.specs.Balance.{height, larger, update, balance}
 use Rattle.rotations.specs.InPlace.{isEven, heightStored, balanceBy}
 
@@ -77,3 +78,6 @@ module _ (t : List ThreadRecord) (i : ℕ) {l : Links} (e : linksAt t i ≡ link
 -- An answer handed on.
 pub handed-on : {r x : Turned} {s : List ThreadRecord} (t : List ThreadRecord) (i : ℕ) → out r s ≡ balance t i → r ≡ x → out x s ≡ balance t i
 handed-on t i e m = rw (sym m) e
+
+-- Going by two heights and by whether they are even: few laws, so that a search for what is not so comes to its end.
+pub ruleset by-links = (height-got, height-damaged, holds, fails, handed-on)

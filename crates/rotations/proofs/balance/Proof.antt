@@ -1,5 +1,5 @@
 -- The links and the two heights are read in order, and the lean decides.
-use Rattle.rotations.specs.CasesLaws.{turnings}
+use Rattle.rotations.specs.CasesLaws.{by-lean}
 use Rattle.rotations.specs.Balance.{balance}
 use borrow.Author.Needs.{needs}
 use Rattle.rotations.proofs.balance.Statement.{statement}
@@ -14,17 +14,17 @@ balance-spec =
     (λ c. search needs)
     (λ c. search needs)
     (λ c. search needs)
-    (λ c. search turnings depth 8)
+    (λ c. search by-lean depth 8)
     (λ c κs. search needs)
     (λ c. search needs)
     (λ c. search needs)
     (λ c. search needs)
-    (λ c. search turnings depth 8)
+    (λ c. search by-lean depth 8)
     (λ c κs. search needs)
     (λ c. search needs)
     (λ c. search needs)
     (λ c. search needs)
-    (λ c. search turnings depth 8)
+    (λ c. search by-lean depth 8)
     (λ c κs. search needs)
     (λ c. search needs)
     (λ c κs. search needs)
@@ -35,10 +35,10 @@ balance-spec =
     (λ c. search needs)
     (λ c. search needs)
     (λ c. search needs)
-    (λ c. search turnings depth 8)
+    (λ c. search by-lean depth 8)
     (λ c. search needs)
-    (λ c. search turnings depth 8)
+    (λ c. search by-lean depth 8)
     (λ c. search needs)
-    (λ c. search turnings depth 8)
+    (λ c. search by-lean depth 8)
     (λ c. search needs)
-    (λ c. search turnings depth 8))
+    (λ c. search by-lean depth 8))
