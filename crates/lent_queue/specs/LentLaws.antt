@@ -26,7 +26,7 @@ use Rattle.queue.specs.declared.Judgement.the-variants as judged
 use Rattle.queue.specs.declared.Plan.{Plan}
 use Rattle.queue.specs.declared.Planned.{Planned}
 use Rattle.queue.specs.declared.Planned.the-variants as planned
-use Rattle.queue.specs.Queue.{Step, emptyRoot, rootOf, marked, stored, newQueue, enqueueCall, removeCall}
+use Rattle.queue.specs.Queue.{Step, emptyRoot, rootOf, marked, stored, newQueue, fairLen, enqueueCall, removeCall}
 use Rattle.queue.specs.Plan.{judgement, insertionPlan, insertBy, removeFiled}
 use Rattle.queue.specs.Answers.{judgementAnswer, plannedAnswer}
 use Rattle.queue.specs.PlanLaws.{kept, enqueue-planned, enqueue-refused, remove-judged, remove-refused}
@@ -128,6 +128,10 @@ module _ (rows : List (List ℕ)) where
   pub list-of-row : (p : ℕ) {r : ThreadQueue} → r ≡ listFrom (getD rows p []) → p < 256 → r ≡ getD (queueOf rows .realtime) p emptyQueue
   list-of-row p e h = e ∙ list-read p h
 
+-- The fair list's length, of the list as it was read.
+pub fair-length : {n : ℕ} {l : ThreadQueue} (q : CpuRunQueue) → l ≡ q .fair → n ≡ l .len → n ≡ fairLen q
+fair-length q e h = h ∙ ap (λ (l : ThreadQueue). l .len) e
+
 pub list-words : (w : List ℕ) {l : ThreadQueue} → linkFrom (word w 0) (word w 1) ≡ l .head → linkFrom (word w 2) (word w 3) ≡ l .tail → word w 4 ≡ l .len → listFrom w ≡ l
 unfolding listFrom
 list-words w head tail len = rw (head, tail, len)
@@ -162,6 +166,6 @@ pub new-rows : queueOf (replicate 270 (replicate 5 0)) ≡ newQueue
 unfolding queueOf listFrom rootFrom haltedFrom linkFrom epochFrom ifEqual choose
 new-rows = refl
 
-pub ruleset stores = (real-time-stored, fair-stored, root-stored, counts-stored, mark-stored, root-of-row, list-of-row, list-words)
+pub ruleset stores = (real-time-stored, fair-stored, root-stored, counts-stored, mark-stored, root-of-row, list-of-row, fair-length, list-words)
 
 pub ruleset lending = (real-time-parts, fair-parts, enqueue-planned-by, enqueue-refused-by, remove-judged-by, remove-refused-by)

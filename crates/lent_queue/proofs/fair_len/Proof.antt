@@ -1,4 +1,5 @@
 -- The length of the fair list.
+use Rattle.lent_queue.specs.LentLaws.{stores}
 use borrow.Author.Needs.{needs}
 use Rattle.lent_queue.proofs.fair_len.Statement.{statement}
 use Rattle.lent_queue.proofs.fair_len.Tie as tie
@@ -8,4 +9,4 @@ fair-len-spec =
     tie.close
     (tie.spec
     (λ c κs. search needs)
-    (λ c. cc))
+    (λ c. search stores depth 8))

@@ -11,4 +11,4 @@ fair-list-spec =
     (tie.spec
     (λ c. search needs)
     (λ c κs. search needs)
-    (λ c. cc))
+    (λ c. search))
