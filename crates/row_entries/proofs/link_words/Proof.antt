@@ -11,5 +11,5 @@ link-words-spec =
     (tie.spec
     (λ c. search needs)
     (λ c. search needs)
-    (λ c. rw (c .enum-told .given .1) cc)
-    (λ c. rw (c .before .link .given .1) cc))
+    (λ c. rw (c .enum-told .given .1) search)
+    (λ c. rw (c .before .link .given .1) search))

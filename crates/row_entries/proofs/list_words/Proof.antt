@@ -1,11 +1,10 @@
 -- Each arm is the definition's clause for its variant.
-use Rattle.row_entries.specs.Words.{listWords}
+use Rattle.row_entries.specs.WordsLaws.{wordings}
 use borrow.Author.Needs.{needs}
 use Rattle.row_entries.proofs.list_words.Statement.{statement}
 use Rattle.row_entries.proofs.list_words.Tie as tie
 
 pub list-words-spec : {M : Type 1} → statement M
-unfolding listWords
 list-words-spec =
     tie.close
     (tie.spec
@@ -14,5 +13,5 @@ list-words-spec =
     (λ c κs. search needs)
     (λ c. search needs)
     (λ c κs. search needs)
-    (λ c. rw (c .before .before .before .answer .given .1) cc)
-    (λ c. rw (c .before .before .answer2 .given .1) cc))
+    (λ c. search wordings depth 8)
+    (λ c. search wordings depth 8))

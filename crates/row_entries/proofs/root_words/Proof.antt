@@ -1,5 +1,6 @@
 -- Each arm is the definition's clause for its variant.
 use Rattle.row_entries.specs.Words.{rootWords}
+use Rattle.row_entries.specs.WordsLaws.{wordings}
 use borrow.Author.Needs.{needs}
 use Rattle.row_entries.proofs.root_words.Statement.{statement}
 use Rattle.row_entries.proofs.root_words.Tie as tie
@@ -12,5 +13,5 @@ root-words-spec =
     (λ c. search needs)
     (λ c κs. search needs)
     (λ c. search needs)
-    (λ c. rw (c .before .before .answer .given .1) cc)
-    (λ c. rw (c .enum-told .given .1) cc))
+    (λ c. search wordings depth 8)
+    (λ c. rw (c .enum-told .given .1) search))

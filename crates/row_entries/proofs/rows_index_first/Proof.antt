@@ -1,4 +1,5 @@
 -- The numbers stand for the arguments, the call answers by its own contract, and the answer goes back into numbers.
+use Rattle.row_entries.specs.WordsLaws.{wordings}
 use borrow.Author.Needs.{needs}
 use Rattle.row_entries.proofs.rows_index_first.Statement.{statement}
 use Rattle.row_entries.proofs.rows_index_first.Tie as tie
@@ -10,4 +11,4 @@ rows-index-first-spec =
     (λ c κs. search needs)
     (λ c κs. search needs)
     (λ c κs. search needs)
-    (λ c. cc))
+    (λ c. search wordings depth 8))
