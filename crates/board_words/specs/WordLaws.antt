@@ -14,6 +14,7 @@ use Rattle.window_config.specs.declared.ConfigMade.the-variants as config
 use Rattle.window_config.specs.Config.{newConfig, preferring}
 use Rattle.arbitration.specs.declared.Candidate.{Candidate}
 use Rattle.arbitration.specs.declared.CpuWindow.{CpuWindow}
+use Rattle.arbitration.specs.declared.Demand.{Demand}
 use Rattle.arbitration.specs.declared.DispatchMode.{DispatchMode}
 use Rattle.arbitration.specs.declared.KeyOption.the-variants as key
 use Rattle.arbitration.specs.Answers.{configMade}
@@ -30,7 +31,7 @@ use Rattle.selection.specs.declared.ReadyOption.the-variants as ready
 use Rattle.selection.specs.declared.ReadyThread.{ReadyThread}
 use Rattle.selection.specs.declared.Selection.{Selection}
 use Rattle.window_words.specs.WindowWords.{flagFrom, candidateOf, dispatchKeyOf}
-use Rattle.board_words.specs.BoardWords.{readyOf, demandFrom, passFrom, selectionFrom, currentOf, turnsOf, choiceOf, madeWindow}
+use Rattle.board_words.specs.BoardWords.{readyOf, demandFrom, passFrom, selectionFrom, currentOf, turnsOf, choiceOf, contention, madeWindow}
 
 -- The words of a thread stand for it.
 pub thread-words : (r : ReadyThread) (p : List ℕ) (urgency rank algorithm band : ℕ)
@@ -92,6 +93,9 @@ ready-made e = ap ready-key.Some e
 pub key-made : {k x : DispatchKey} {m n : DispatchMode} → k ≡ x → m ≡ n → key.Some k m ≡ key.Some x n
 key-made e f = rw (e, f)
 
+pub contention-read : {a b c x y z : Bool} {d e : Demand} → a ≡ x → b ≡ y → c ≡ z → d ≡ e → record { competition = a; «budget_peer» = b; ready = c; demand = d } ≡ contention x y z e
+contention-read e f g h = rw (e, f, g, h)
+
 pub choice-words : (c : Choice) (a b : ℕ) → flagFrom a ≡ c .«should_switch» → flagFrom b ≡ c .front → choiceOf (a ∷ b ∷ []) ≡ c
 unfolding choiceOf
 choice-words c a b h i = λ z. record { «should_switch» = h z; front = i z }
@@ -121,6 +125,7 @@ pub ruleset word-laws = (
   turns-stored,
   ready-made,
   key-made,
+  contention-read,
   choice-words,
   made-of,
   none-made,

@@ -1,4 +1,5 @@
 -- Every part is the one given.
+use Rattle.board_words.specs.WordLaws.{word-laws}
 use borrow.Author.Needs.{needs}
 use Rattle.board_words.proofs.contention_of.Statement.{statement}
 use Rattle.board_words.proofs.contention_of.Tie as tie
@@ -11,4 +12,4 @@ contention-of-spec =
     (λ c κs. search needs)
     (λ c κs. search needs)
     (λ c κs. search needs)
-    (λ c. cc))
+    (λ c. search word-laws depth 8))

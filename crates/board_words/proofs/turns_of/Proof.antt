@@ -11,4 +11,4 @@ turns-of-spec =
     (tie.spec
     (λ c. search needs)
     (λ c. search needs)
-    (λ c. cc))
+    (λ c. search))
