@@ -5,11 +5,12 @@ use mathlib.Core.Path.{_≡_, refl, sym, ap, _∙_}
 use mathlib.Core.Bool.{Bool, true, false}
 use mathlib.Core.List.{List}
 use lib.Dec.{ltb, eqb}
-use lib.ListN.{length, length-map}
+use lib.ListN.{length, length-map, replicate}
 use borrow.Author.Tests.{lt-ltb, le-ltb, ltb-true, ltb-false}
 use Rattle.refusal.specs.Answer.{Answer, value, refused, numberOf}
 use Rattle.refusal.specs.declared.Refusal.{Refusal}
 use Rattle.refusal.specs.Cases.{choose, given, ifLess, ifEqual, andThen}
+use Rattle.time.specs.declared.Epoch.the-variants as epoch
 use Rattle.policy.specs.declared.SchedulingParameters.{SchedulingParameters}
 use Rattle.policy.specs.declared.SchedulingPolicy.{SchedulingPolicy}
 use Rattle.policy.specs.declared.SchedulingPolicy.the-variants as policy
@@ -19,10 +20,11 @@ use Rattle.thread.specs.declared.CpuIndex.{CpuIndex}
 use Rattle.thread.specs.declared.Link.{Link}
 use Rattle.thread.specs.declared.QueueMembership.{QueueMembership}
 use Rattle.thread.specs.declared.QueueMembership.the-variants as membership
+use Rattle.thread.specs.declared.ThreadQueue.{ThreadQueue}
 use Rattle.thread.specs.declared.ThreadRecord.{ThreadRecord}
 use Rattle.thread.specs.declared.IndexFor.{IndexFor}
 use Rattle.thread.specs.declared.IndexFor.the-variants as indexed
-use Rattle.thread.specs.Membership.{onMembership, isUnqueued}
+use Rattle.thread.specs.Membership.{onMembership, isUnqueued, emptyQueue}
 use Rattle.thread.specs.Judgement.{isBadRecord}
 use Rattle.thread.specs.Filing.{budgetAvailable, roleIndex, indexFor, onIndex}
 use Rattle.thread.specs.FilingLaws.{role-index-le}
@@ -49,13 +51,18 @@ use Rattle.queue_work.specs.declared.Worked.the-variants as work
 use Rattle.queue_work.specs.declared.Parts.{Parts}
 use Rattle.queue_work.specs.Work.{Work, done, turnedDown, halts, workOf, insertWork, removeWork}
 use Rattle.queue.specs.Queue as queue
-use Rattle.queue.specs.Queue.{Step, step, maxRecords, rootOf, partsOf, withParts, marked, isFifo, isBudget, membershipFor, partner, onContained, enqueueCall, removeCall, removeReady, removeFrom, treeWith}
+use Rattle.queue.specs.Queue.{Step, step, emptyRoot, newQueue, maxRecords, rootOf, partsOf, withParts, marked, isFifo, isBudget, membershipFor, partner, onContained, enqueueCall, removeCall, removeReady, removeFrom, treeWith}
 use Rattle.queue.specs.Answers.{judgementAnswer, treeAnswer, plannedAnswer}
 use Rattle.queue.specs.Plan.{filedOf, judgement, planInsertion, insertionPlan, treeFound, planReady, planRemoval, removalPlan, settled, insertBy, removeBy, removeFiled}
 
 -- A refusal leaves table and queue as they were.
 abbrev pub kept : List ThreadRecord → CpuRunQueue → ℕ → Out (Step (Unit {0}))
 kept t q n = out (step (refused n) q) t
+
+-- A new queue, by lists that are empty.
+pub new-made : {list fair : ThreadQueue} → list ≡ emptyQueue → fair ≡ emptyQueue
+    → record { realtime = replicate 256 list; «realtime_len» = 0; fair = fair; indices = replicate 12 emptyRoot; «budget_epoch» = epoch.None; «budget_threads» = 0; halted = false } ≡ newQueue
+new-made e f = rw (e, f)
 
 module _ (t : List ThreadRecord) (q : CpuRunQueue) (id : ℕ) where
   judged-apart : (f : ThreadRecord → ℕ → Out (Step (Unit {0}))) (g : Filed → Out (Step (Unit {0}))) → ((r : ThreadRecord) (k : ℕ) → f r k ≡ g (filedOf r k))

@@ -1,4 +1,5 @@
 -- Each list and each root is the empty one.
+use Rattle.queue.specs.PlanLaws.{new-made}
 use borrow.Author.Needs.{needs}
 use Rattle.queue.proofs.CpuRunQueue.new.Statement.{statement}
 use Rattle.queue.proofs.CpuRunQueue.new.Tie as tie
@@ -9,4 +10,4 @@ new-spec =
     (tie.spec
     (λ c κs. search needs)
     (λ c κs. search needs)
-    (λ c. cc))
+    (λ c. search new-made depth 8))
