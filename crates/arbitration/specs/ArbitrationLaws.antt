@@ -1,11 +1,17 @@
--- Laws for going by a mode and by a candidate's algorithm.
-use mathlib.Core.Path.{_≡_, sym, _∙_}
+-- Laws for going by a mode and by a candidate's algorithm, and of what is charged.
+use Prim.Native.Nat.{ℕ, _-_}
+use mathlib.Core.Path.{_≡_, refl, sym, _∙_}
+use mathlib.Core.Bool.{Bool}
+use Rattle.refusal.specs.Cases.{choose}
+use Rattle.time.specs.Time.{chargeOf}
+use Rattle.policy.specs.declared.SchedulingParameters.{SchedulingParameters}
+use Rattle.arbitration.specs.declared.CpuWindow.{CpuWindow}
 use Rattle.arbitration.specs.declared.DispatchMode.{DispatchMode}
 use Rattle.arbitration.specs.declared.DispatchMode.the-variants as mode
 use Rattle.arbitration.specs.declared.AlgorithmOption.{AlgorithmOption}
 use Rattle.arbitration.specs.declared.AlgorithmOption.the-variants as algorithm
 use Rattle.arbitration.specs.declared.Algorithm.{Algorithm}
-use Rattle.arbitration.specs.Window.{onMode}
+use Rattle.arbitration.specs.Window.{onMode, refreshed, usesAllowance, isProtected, charged}
 use Rattle.arbitration.specs.Key.{onAlgorithm}
 
 module _ {A : Type 0} {y : A} {x : DispatchMode} (a b c d e : A) where
@@ -28,6 +34,14 @@ module _ {A : Type 0} {y : A} {x : DispatchMode} (a b c d e : A) where
   pub by-borrow : x ≡ mode.Borrow → y ≡ e → y ≡ onMode x a b c d e
   unfolding onMode
   by-borrow m h = rw m h
+
+-- A charged window, by what each part was charged.
+pub charged-parts : (w : CpuWindow) (start end : ℕ) (p : SchedulingParameters) (m : DispatchMode) {fresh : CpuWindow} {u v : Bool} {charge toAllowance toFloor allowance floor : ℕ}
+    → fresh ≡ refreshed w end → charge ≡ chargeOf start end (fresh .config .«period_ns») → u ≡ usesAllowance m (p .role) → v ≡ isProtected (p .role)
+    → toAllowance ≡ choose u charge 0 → toFloor ≡ choose v charge 0 → allowance ≡ fresh .«priority_remaining_ns» - toAllowance → floor ≡ fresh .«protected_remaining_ns» - toFloor
+    → record { config = fresh .config; epoch = fresh .epoch; «priority_remaining_ns» = allowance; «protected_remaining_ns» = floor } ≡ charged w start end p m
+unfolding charged
+charged-parts w start end p m e f g h i j k l = rw (k, l, i, j, f, g, h, e)
 
 module _ {A : Type 0} {y : A} {r x : AlgorithmOption} (a : A) (f : Algorithm → A) where
   pub no-algorithm : r ≡ x → r ≡ algorithm.None → y ≡ a → y ≡ onAlgorithm x a f

@@ -6,5 +6,5 @@ pub mod Key
 pub mod Calls
 -- Each answer's number in document 01, or its values.
 pub mod Answers
--- Laws for going by a mode and by an algorithm.
+-- Laws for going by a mode and by an algorithm, and of what is charged.
 pub mod ArbitrationLaws

@@ -10,6 +10,7 @@ use Rattle.thread.specs.declared.CpuIndex.{CpuIndex}
 use Rattle.thread.specs.declared.Link.{Link}
 use Rattle.thread.specs.declared.Links.{Links}
 use Rattle.thread.specs.declared.QueueLinks.{QueueLinks}
+use Rattle.thread.specs.declared.QueueMembership.{QueueMembership}
 use Rattle.thread.specs.declared.ThreadRecord.{ThreadRecord}
 use Rattle.thread.specs.TreeKey.{algorithmKey, treeKey, readyIndexKey}
 use Rattle.thread.specs.Records.{withParameters, withRuntime, withTurn, withLinks, withLeft, withRight, withHeight, withQueueLinks, withCpu}
@@ -110,6 +111,18 @@ cpu-stored r c n size e =
     r size
 
 -- The parts that the words of a row stand for make the row's.
+pub links-read : (w : List ℕ) {left right : Link} {height : ℕ}
+    → left ≡ linkFrom (word w 17) (word w 18) → right ≡ linkFrom (word w 19) (word w 20) → height ≡ word w 21 % 256
+    → record { left = left; right = right; height = height } ≡ linksOf w
+unfolding linksOf
+links-read w e₁ e₂ e₃ = rw (e₁, e₂, e₃)
+
+pub queue-links-read : (w : List ℕ) {previous next : Link} {membership : QueueMembership}
+    → previous ≡ linkFrom (word w 22) (word w 23) → next ≡ linkFrom (word w 24) (word w 25) → membership ≡ membershipFrom (word w 26) (word w 27) (word w 28)
+    → record { previous = previous; next = next; membership = membership } ≡ queueLinksOf w
+unfolding queueLinksOf
+queue-links-read w e₁ e₂ e₃ = rw (e₁, e₂, e₃)
+
 pub record-read : (w : List ℕ) {parameters : SchedulingParameters} {runtime : PolicyRuntime} {links : Links} {queueLinks : QueueLinks} {cpu : ℕ}
     → parameters ≡ parametersOf w → runtime ≡ runtimeOf w → links ≡ linksOf w → queueLinks ≡ queueLinksOf w → cpu ≡ word w 29 % 256
     → record {

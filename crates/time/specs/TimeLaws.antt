@@ -1,10 +1,10 @@
 -- Laws of epochs, periods and deadlines: what callers use instead of the definitions' text.
-use Prim.Native.Nat.{ℕ, _≤_, min}
+use Prim.Native.Nat.{ℕ, _-_, _≤_, min, max}
 use native.Mathlib.Omega.{arith}
 use mathlib.Core.Path.{_≡_, refl, sym, _∙_}
 use mathlib.Core.Bool.{Bool, true}
 use lib.Dec.{ltb}
-use Rattle.time.specs.Time.{rises, periodStart, earliestOf, onDeadline}
+use Rattle.time.specs.Time.{rises, periodStart, chargeOf, checkedAdd, periodEnd, earliestOf, onDeadline}
 use Rattle.time.specs.declared.Epoch.{Epoch}
 use Rattle.time.specs.declared.Epoch.the-variants as epoch
 use Rattle.time.specs.declared.Deadline.{Deadline}
@@ -13,6 +13,15 @@ use Rattle.time.specs.declared.Deadline.the-variants as deadline
 pub period-start-le : (now period : ℕ) → periodStart now period ≤ now
 unfolding periodStart
 period-start-le now period = omega arith
+
+-- A period's end and a charge, by the start of the period.
+pub end-from-start : (now period : ℕ) {start : ℕ} {r : Deadline} → start ≡ periodStart now period → r ≡ checkedAdd start period → r ≡ periodEnd now period
+unfolding periodEnd
+end-from-start now period e h = rw (sym e) h
+
+pub charge-from-start : (start end period : ℕ) {s m r : ℕ} → s ≡ periodStart end period → m ≡ max start s → r ≡ end - m → r ≡ chargeOf start end period
+unfolding chargeOf
+charge-from-start start end period e f h = h ∙ rw (f, e)
 
 pub rises-from-none : {x : Epoch} (e : ℕ) → x ≡ epoch.None → true ≡ rises x e
 unfolding rises

@@ -1,11 +1,10 @@
 -- Every part is read from the definition's words.
-use Rattle.codec.specs.Codec.{linksOf}
+use Rattle.codec.specs.RowLaws.{links-read}
 use borrow.Author.Needs.{needs}
 use Rattle.codec.proofs.links_of.Statement.{statement}
 use Rattle.codec.proofs.links_of.Tie as tie
 
 pub links-of-spec : {M : Type 1} → statement M
-unfolding linksOf
 links-of-spec =
     tie.close
     (tie.spec
@@ -17,4 +16,4 @@ links-of-spec =
     (λ c κs. search needs)
     (λ c. search needs)
     (λ c κs. search needs)
-    (λ c. cc))
+    (λ c. search links-read depth 8))

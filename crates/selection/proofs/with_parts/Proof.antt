@@ -8,4 +8,4 @@ unfolding withSelectionParts
 with-parts-spec =
     tie.close
     (tie.spec
-    (λ c. cc))
+    (λ c. search))

@@ -1,10 +1,9 @@
-use Rattle.arbitration.specs.Window.{charged}
+use Rattle.arbitration.specs.ArbitrationLaws.{charged-parts}
 use borrow.Author.Needs.{needs}
 use Rattle.arbitration.proofs.CpuWindow.charged.Statement.{statement}
 use Rattle.arbitration.proofs.CpuWindow.charged.Tie as tie
 
 pub charged-spec : {M : Type 1} → statement M
-unfolding charged
 charged-spec =
     tie.close
     (tie.spec
@@ -16,4 +15,4 @@ charged-spec =
     (λ c κs. search needs)
     (λ c κs. search needs)
     (λ c κs. search needs)
-    (λ c. cc))
+    (λ c. search charged-parts depth 8))

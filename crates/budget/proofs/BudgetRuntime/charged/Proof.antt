@@ -1,10 +1,9 @@
-use Rattle.budget.specs.Runtime.{charged}
+use Rattle.budget.specs.BudgetLaws.{charged-parts}
 use borrow.Author.Needs.{needs}
 use Rattle.budget.proofs.BudgetRuntime.charged.Statement.{statement}
 use Rattle.budget.proofs.BudgetRuntime.charged.Tie as tie
 
 pub charged-spec : {M : Type 1} → statement M
-unfolding charged
 charged-spec =
     tie.close
     (tie.spec
@@ -13,4 +12,4 @@ charged-spec =
     (λ c κs. search needs)
     (λ c κs. search needs)
     (λ c κs. search needs)
-    (λ c. cc))
+    (λ c. search charged-parts depth 8))

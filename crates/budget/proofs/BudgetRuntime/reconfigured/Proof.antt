@@ -1,10 +1,9 @@
-use Rattle.budget.specs.Runtime.{reconfigured}
+use Rattle.budget.specs.BudgetLaws.{reconfigured-parts}
 use borrow.Author.Needs.{needs}
 use Rattle.budget.proofs.BudgetRuntime.reconfigured.Statement.{statement}
 use Rattle.budget.proofs.BudgetRuntime.reconfigured.Tie as tie
 
 pub reconfigured-spec : {M : Type 1} → statement M
-unfolding reconfigured
 reconfigured-spec =
     tie.close
     (tie.spec
@@ -14,4 +13,4 @@ reconfigured-spec =
     (λ c κs. search needs)
     (λ c κs. search needs)
     (λ c κs. search needs)
-    (λ c. cc))
+    (λ c. search reconfigured-parts depth 8))
