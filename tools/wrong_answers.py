@@ -95,10 +95,10 @@ BOUNDS = re.compile(r'met a bound of its own|broke off|was spent|Not every way w
 
 
 def at_bound(said, crate, function):
-    """Whether the prover stopped at a bound of its own, so that it did not look at everything that its rules give: the answer is refused, but not decided."""
+    """Whether the prover stopped at a bound of its own at each fact that it did not find, so that it never looked at everything that its rules give: the answer is refused, but not decided."""
     told = faults(said, crate, function)
     notes = re.findall(rf'^note: what antt said of a `search` in the proof that rattle made: .*(?:\n  .*)*(?=(?:\nnote: .*(?:\n  .*)*)*\nfn {crate}::{function}: no proof)', said, re.MULTILINE)
-    return any(BOUNDS.search(fault) for fault in told + notes)
+    return bool(told) and all(BOUNDS.search(fault) for fault in notes or told)
 
 
 def has_proof(crate, function):
