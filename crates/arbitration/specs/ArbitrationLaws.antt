@@ -1,9 +1,10 @@
--- Laws for going by a mode and by a candidate's algorithm, and of what is charged.
-use Prim.Native.Nat.{ℕ, _-_}
+-- Laws for going by a mode and by a candidate's algorithm, of a refresh, and of what is charged.
+use Prim.Native.Nat.{ℕ, _-_, _/_}
 use mathlib.Core.Path.{_≡_, refl, sym, _∙_}
-use mathlib.Core.Bool.{Bool}
-use Rattle.refusal.specs.Cases.{choose}
-use Rattle.time.specs.Time.{chargeOf}
+use mathlib.Core.Bool.{Bool, true, false}
+use Rattle.refusal.specs.Cases.{choose, given}
+use Rattle.time.specs.declared.Epoch.the-variants as epoch
+use Rattle.time.specs.Time.{rises, chargeOf}
 use Rattle.policy.specs.declared.SchedulingParameters.{SchedulingParameters}
 use Rattle.arbitration.specs.declared.CpuWindow.{CpuWindow}
 use Rattle.arbitration.specs.declared.DispatchMode.{DispatchMode}
@@ -34,6 +35,19 @@ module _ {A : Type 0} {y : A} {x : DispatchMode} (a b c d e : A) where
   pub by-borrow : x ≡ mode.Borrow → y ≡ e → y ≡ onMode x a b c d e
   unfolding onMode
   by-borrow m h = rw m h
+
+-- A refresh leaves the configuration.
+pub refreshed-config : (w : CpuWindow) (now : ℕ) → refreshed w now .config ≡ w .config
+unfolding refreshed given choose
+refreshed-config w now = go (rises (w .epoch) (now / w .config .«period_ns»))
+  where
+    go : (x : Bool)
+        → choose x
+        (record { config = w .config; epoch = epoch.Some (now / w .config .«period_ns»); «priority_remaining_ns» = w .config .«priority_allowance_ns»; «protected_remaining_ns» = w .config .«protected_floor_ns» })
+        w .config
+        ≡ w .config
+    go true = refl
+    go false = refl
 
 -- A charged window, by what each part was charged.
 pub charged-parts : (w : CpuWindow) (start end : ℕ) (p : SchedulingParameters) (m : DispatchMode) {fresh : CpuWindow} {u v : Bool} {charge toAllowance toFloor allowance floor : ℕ}

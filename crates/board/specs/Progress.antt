@@ -8,12 +8,12 @@ use lib.ListN.{length, getD}
 use Rattle.refusal.specs.Answer.{Answer, value, refused}
 use Rattle.refusal.specs.Cases.{choose, given, ifLess}
 use Rattle.time.specs.declared.Epoch.the-variants as epoch
-use Rattle.time.specs.Time.{rises}
 use Rattle.window_config.specs.declared.ArbitrationConfig.{ArbitrationConfig}
 use Rattle.arbitration.specs.declared.CpuWindow.{CpuWindow}
 use Rattle.arbitration.specs.declared.Demand.{Demand}
 use Rattle.window_config.specs.Config.{soundConfig}
 use Rattle.arbitration.specs.Window.{refreshed}
+use Rattle.arbitration.specs.ArbitrationLaws.{refreshed-config}
 use Rattle.thread.specs.declared.CpuIndex.{CpuIndex}
 use Rattle.thread.specs.declared.Link.{Link}
 use Rattle.thread.specs.declared.Link.the-variants as link
@@ -35,18 +35,6 @@ use Rattle.selection.specs.Heads.{Heads, noHeads, gatherHeads, readyWith, Chose
 use Rattle.selection.specs.Peek.{Peeked, peeked, chosen, peekRunning, peekParts, selectionParts, restored, peekNext}
 use Rattle.window_words.specs.WindowWords.{progressed}
 
-refresh-keeps : (w : CpuWindow) (now : ℕ) → refreshed w now .config ≡ w .config
-unfolding refreshed given choose
-refresh-keeps w now = go (rises (w .epoch) (now / w .config .«period_ns»))
-  where
-    go : (x : Bool)
-        → choose x
-        (record { config = w .config; epoch = epoch.Some (now / w .config .«period_ns»); «priority_remaining_ns» = w .config .«priority_allowance_ns»; «protected_remaining_ns» = w .config .«protected_floor_ns» })
-        w .config
-        ≡ w .config
-    go true = refl
-    go false = refl
-
 module _ (t : List ThreadRecord) (heads : List Link) (now : ℕ) (d : Demand) where
   abbrev Least-keeps : ℕ → Type 0
   Least-keeps n = (w : CpuWindow) (best : ReadyOption) → leastOf n t heads now d w best .window .config ≡ w .config
@@ -57,7 +45,7 @@ module _ (t : List ThreadRecord) (heads : List Link) (now : ℕ) (d : Demand) wh
     where
       go : (x : Link) → onLink {A = Chosen} x (leastOf n t heads now d w best) (λ id. leastOf n t heads now d (refreshed w now) (readyWith t id (refreshed w now) now d best)) .window .config ≡ w .config
       go link.None = rest w best
-      go (link.Some id) = rest (refreshed w now) (readyWith t id (refreshed w now) now d best) ∙ refresh-keeps w now
+      go (link.Some id) = rest (refreshed w now) (readyWith t id (refreshed w now) now d best) ∙ refreshed-config w now
 
   least-keeps : (n : ℕ) → Least-keeps n
   unfolding leastOf

@@ -20,7 +20,7 @@ use Rattle.policy.specs.declared.SchedulingParameters.{SchedulingParameters}
 use Rattle.policy.specs.PolicyCases.{onBudget, no-budget, some-budget}
 use Rattle.policy.specs.Budget.{soundBudget}
 use Rattle.budget.specs.Runtime.{judged, refreshedJudged}
-use Rattle.codec.specs.Codec.{word, budgetFrom, parametersOf, runtimeOf, decoded}
+use Rattle.codec.specs.Codec.{word, parametersOf, runtimeOf, decoded}
 use Rattle.algorithms.specs.declared.PolicyRuntime.{PolicyRuntime}
 use Rattle.algorithms.specs.declared.RuntimeAnswer.{RuntimeAnswer}
 use Rattle.algorithms.specs.declared.RuntimeAnswer.the-variants as runtime
@@ -31,6 +31,7 @@ use Rattle.thread.specs.declared.Link.the-variants as link
 use Rattle.thread.specs.declared.ThreadRecord.{ThreadRecord}
 use Rattle.thread.specs.Judgement.{isBadRecord}
 use Rattle.thread.specs.Membership.{onLink, isNone}
+use Rattle.thread.specs.MembershipLaws.{is-none-true}
 use Rattle.thread.specs.Records.{withRuntime}
 use Rattle.rows.specs.declared.RecordRead.{RecordRead}
 use Rattle.rows.specs.declared.RecordRead.the-variants as read
@@ -350,11 +351,6 @@ set-same [] k d = refl
 set-same (x ∷ l) zero d = refl
 set-same {A} (x ∷ l) (suc k) d = ap {B = List A} (λ r. x ∷ r) (set-same l k d)
 
-is-none : (l : Link) → isNone l ≡ true → l ≡ link.None
-unfolding isNone onLink choose
-is-none link.None h = refl
-is-none (link.Some n) h = ap (λ b. choose b link.None (link.Some n)) h
-
 no-exhausted : (moves : ℕ) (t : List ThreadRecord) (ready : Link) (now : ℕ) → moveAll moves t link.None ready now ≡ out (leaves (value tt) (budgetTrees link.None ready moves)) t
 unfolding moveAll headOf index.first leastLink onAnswer onLink
 no-exhausted zero t ready now = refl
@@ -376,7 +372,7 @@ module _ (rows : List (List ℕ)) (role moves : ℕ) (t : List ThreadRecord) (no
       → out (leaves (value moves) (rootsOf rows)) t ≡ roleRenewed role moves t (rootsOf rows) now
   unfolding roleRenewed onOut onLeaves
   role-empty {exhausted} e test h =
-      let none : link.None ≡ rootAt theRoots (9 + role) = sym (is-none exhausted (sym test ∙ h)) ∙ e in
+      let none : link.None ≡ rootAt theRoots (9 + role) = sym (is-none-true exhausted (sym test ∙ h)) ∙ e in
       rw (sym none, no-exhausted moves t (rootAt theRoots (6 + role)) now) (ap (λ l. out (leaves (value moves) l) t) (sym (same-trees link.None none)))
 
   module _ {s : Moved} {exhausted ready : Link} {t₁ : List ThreadRecord} {trees : BudgetTrees} {roots₁ : List Root} where

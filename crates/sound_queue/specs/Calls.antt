@@ -17,6 +17,7 @@ use Rattle.thread.specs.declared.ThreadRecord.{ThreadRecord}
 use Rattle.thread.specs.Membership.{isUnqueued}
 use Rattle.thread.specs.Judgement.{isBadRecord}
 use Rattle.codec.specs.Codec.{policyFrom, parametersOf, decoded}
+use Rattle.thread.specs.MembershipLaws.{is-unqueued-true}
 use Rattle.rows.specs.Table.{Out, out, table, recordOf, recordAt, changed}
 use Rattle.rows.specs.TableLaws.{length-changed, reading-other}
 use Rattle.rows.specs.declared.RecordRead.the-variants as read
@@ -32,7 +33,7 @@ use Rattle.sound_queue.specs.PartsLaws.{in-a-list, listed-not-idle, fili
 use Rattle.sound_queue.specs.SoundLaws.{queued-inside, queued-membership}
 use Rattle.sound_queue.specs.Enqueueing.{judged-passes, enqueued}
 use Rattle.sound_queue.specs.Removing.{removed, in-no-tree}
-use Rattle.sound_queue.specs.Verdict.{Verdict, refuses, passes, verdict, unqueued-none}
+use Rattle.sound_queue.specs.Verdict.{Verdict, refuses, passes, verdict}
 use Rattle.sound_queue.specs.Reached.{nobody, Reached}
 use Rattle.sound_queue.specs.Reached as reached
 use Rattle.sound_queue.specs.Outside as outside
@@ -80,7 +81,7 @@ module _ {cpu : CpuIndex} {queued : ℕ → Bool} {q : CpuRunQueue} {t : List Th
         → Fine cpu queued (including i queued) i q t (enqueueCall front t q i cpu)
     unfolding enqueueCall choose ifEqual
     judged-enqueue front p l b d true e true g = made (enqueued S i
-        (record { below = l; judged = b; notIdle = d; unqueued = unqueued-none _ e; assigned = eqb-true (recordOf t i .cpu .0) (cpu .0) g; fits = p }) front)
+        (record { below = l; judged = b; notIdle = d; unqueued = is-unqueued-true _ e; assigned = eqb-true (recordOf t i .cpu .0) (cpu .0) g; fits = p }) front)
     judged-enqueue front p l b d true e false g =
         let F = filing (recordOf t i .parameters) (recordOf t i .runtime) d in
         unchanged 2 (judged-passes t q i (F .tree) _ (S .forest .small) (S .running) l b (F .is) ∙ rw (e, g))

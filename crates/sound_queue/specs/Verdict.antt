@@ -12,10 +12,7 @@ use Rattle.refusal.specs.Answer.{refused}
 use Rattle.refusal.specs.Cases.{never, choose, ifLess}
 use Rattle.policy.specs.declared.SchedulingPolicy.{SchedulingPolicy}
 use Rattle.policy.specs.declared.SchedulingPolicy.the-variants as policy
-use Rattle.thread.specs.declared.QueueMembership.{QueueMembership}
-use Rattle.thread.specs.declared.QueueMembership.the-variants as membership
 use Rattle.thread.specs.declared.ThreadRecord.{ThreadRecord}
-use Rattle.thread.specs.Membership.{onMembership, isUnqueued}
 use Rattle.thread.specs.Judgement.{isBadRecord}
 use Rattle.thread.specs.Filing.{onIndex}
 use Rattle.rows.specs.Table.{Out, out, recordOf}
@@ -61,12 +58,3 @@ verdict t q i n h = inside (decLe (suc i) (length t))
     inside : Dec (suc i ≤ length t) → Verdict t q i
     inside (yes l) = judgement l (isBadRecord (recordOf t i)) refl
     inside (no l) = refuses 4 (λ f. no-thread t q i n h f (omega arith))
-
--- A membership that is none.
-pub unqueued-none : (m : QueueMembership) → isUnqueued m ≡ true → m ≡ membership.None
-unfolding isUnqueued onMembership
-unqueued-none membership.None e = refl
-unqueued-none (membership.ReadyRealTime c p) e = never cc
-unqueued-none (membership.ReadyFair c) e = never cc
-unqueued-none (membership.Waiting w) e = never cc
-unqueued-none membership.Terminated e = never cc

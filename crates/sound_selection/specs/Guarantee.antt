@@ -1,5 +1,5 @@
 -- The guarantee for one selection from any sound queue: under the premises it refuses nothing and names, of all queued threads, the one with the least dispatch key.
-use Prim.Native.Nat.{ℕ, _/_, _<_}
+use Prim.Native.Nat.{ℕ, _<_}
 use mathlib.Core.Path.{_≡_, refl, sym, ap, _∙_, subst}
 use mathlib.Core.Bool.{Bool, true, false}
 use mathlib.Core.Logic.{_≢_}
@@ -7,12 +7,10 @@ use mathlib.Core.List.{List}
 use native.Mathlib.Omega.{arith}
 use lib.ListN.{length, getD}
 use borrow.Author.Tests.{lt-ltb}
-use Rattle.refusal.specs.Cases.{never, choose, given}
+use Rattle.refusal.specs.Cases.{never, given}
 use Rattle.order.specs.declared.Ordering.the-variants.{Less}
 use Rattle.policy.specs.declared.SchedulingParameters.{SchedulingParameters}
 use Rattle.policy.specs.declared.SchedulingPolicy.the-variants as policy
-use Rattle.time.specs.declared.Epoch.the-variants as epoch
-use Rattle.time.specs.Time.{rises}
 use Rattle.window_config.specs.declared.ArbitrationConfig.{ArbitrationConfig}
 use Rattle.arbitration.specs.declared.Candidate.{Candidate}
 use Rattle.arbitration.specs.declared.CpuWindow.{CpuWindow}
@@ -23,6 +21,7 @@ use Rattle.arbitration.specs.declared.KeyOption.{KeyOption}
 use Rattle.arbitration.specs.declared.KeyOption.the-variants as key
 use Rattle.window_config.specs.Config.{acceptsBudget}
 use Rattle.arbitration.specs.Window.{refreshed}
+use Rattle.arbitration.specs.ArbitrationLaws.{refreshed-config}
 use Rattle.arbitration.specs.Key.{keyOf}
 use Rattle.thread.specs.declared.CpuIndex.{CpuIndex}
 use Rattle.thread.specs.declared.Link.{Link}
@@ -59,14 +58,6 @@ use Rattle.sound_selection.specs.HeadPass.{candidate-bare, candidate-sam
 use Rattle.sound_selection.specs.Choosing.{HeadKey, Least, least}
 use Rattle.sound_selection.specs.Selecting.{Turn, turn, after-turn, Pass, pass, choice, answer, select-is, select-left}
 use Rattle.sound_selection.specs.Filing.{admitted-accepts, admitted-backend, parameters-after, classed}
-
-refreshed-config : (w : CpuWindow) (now : ℕ) → refreshed w now .config ≡ w .config
-unfolding refreshed given choose
-refreshed-config w now = go (rises (w .epoch) (now / w .config .«period_ns»))
-  where
-    go : (x : Bool) → (choose x (record { config = w .config; epoch = epoch.Some (now / w .config .«period_ns»); «priority_remaining_ns» = w .config .«priority_allowance_ns»; «protected_remaining_ns» = w .config .«protected_floor_ns» }) w) .config ≡ w .config
-    go true = refl
-    go false = refl
 
 -- A record's candidate does not look at tree links.
 candidate-links : (t : List ThreadRecord) (j : ℕ) → candidateOf (recordOf t j) ≡ candidateOf (bareAt t j)

@@ -12,6 +12,7 @@ use Rattle.order.specs.declared.Ordering.{Ordering}
 use Rattle.order.specs.declared.Ordering.the-variants.{Less, Equal, Greater}
 use Rattle.order.specs.Order.{compareNumbers, thenBy, compareParts, onOrdering}
 use Rattle.order.specs.StrictOrder.{Says, says, compare-equal, flipped, turned-about}
+use Rattle.thread.specs.TreeKeyLaws.{then-nothing}
 use Rattle.dispatch_keys.specs.declared.DispatchKey.{DispatchKey}
 use Rattle.arbitration.specs.Key.{keyParts, compareKeys}
 use Rattle.selection.specs.declared.ReadyOption.{ReadyOption}
@@ -27,12 +28,6 @@ unfolding thenBy
 then-group Less y z = refl
 then-group Equal y z = refl
 then-group Greater y z = refl
-
-then-nothing : (x : Ordering) → thenBy x Equal ≡ x
-unfolding thenBy
-then-nothing Less = refl
-then-nothing Equal = refl
-then-nothing Greater = refl
 
 -- What stands after lists of one length bears only where the lists are equal.
 pub appended : (a b u v : List ℕ) → length a ≡ length b → compareParts (a ++ u) (b ++ v) ≡ thenBy (compareParts a b) (compareParts u v)

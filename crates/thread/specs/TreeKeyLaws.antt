@@ -9,7 +9,7 @@ use Rattle.order.specs.StrictOrder.{compare-less, compare-greater, compare-equa
 use Rattle.thread.specs.declared.TreeKey.{TreeKey}
 use Rattle.thread.specs.TreeKey.{parts, compareFromTurn, compareFromBand, compareFromLow, compareTreeKeys}
 
-then-nothing : (x : Ordering) → thenBy x Equal ≡ x
+pub then-nothing : (x : Ordering) → thenBy x Equal ≡ x
 unfolding thenBy
 then-nothing Less = refl
 then-nothing Equal = refl
