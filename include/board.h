@@ -1,14 +1,19 @@
-/* The scheduling core of a hoist board: the C entries of crate board (libboard.a, by `rt staticlib board`). C99 and C++.
+/* The scheduling core of a hoist board: the C entries of crate board (libboard.a, by `rt staticlib board`). C99 and
+ * C++.
  *
- * Everything is numbers of 64 bits that the caller keeps and lends for the time of one call: the run queue, the table (a row of 32 words for each thread), the
- * CPU window, and slices of words for what a call is handed and what it answers. Nothing is kept between calls, nothing is allocated, and every call ends.
+ * Everything is numbers of 64 bits that the caller keeps and lends for the time of one call: the run queue, the table
+ * (a row of 32 words for each thread), the CPU window, and arrays of words for what a call is handed and what it
+ * answers. Nothing is kept between calls, nothing is allocated, and every call ends.
  *
- * Every call answers a number: 0 where it was made, else a refusal of the enum below. A slice of words is lent as its address and its count; a count that is not
- * the one named above the call is BOARD_BAD_TABLE before anything else, and then nothing is changed. Any words are taken, whatever they are: a flag is set where its
- * word is not 0, a byte is its word's remainder by 256, a number beyond the last of a choice stands for the last. A refusal leaves what the answer's words stand for.
+ * Every call answers a number: 0 where it was made, else a refusal of the enum below. The table is lent as its address
+ * and its count of rows; everything else has the length that the call names, and is lent as its address. Any words are
+ * taken, whatever they are: a flag is set where its word is not 0, a byte is its word's remainder by 256, a number
+ * beyond the last of a choice stands for the last. A refusal leaves what the answer's words stand for.
  *
- * What is asked of the caller: addresses are those of as many words as the count says (an address is not null and is that of a uint64_t also where the count is 0),
- * things that are lent to one call do not overlap, unless the call changes none of them, and one queue and its table are lent to one call at a time.
+ * What is asked of the caller: an address is that of as many words as the call names, or of as many rows as the count
+ * says (the table's address is not null and is that of a uint64_t also where the count is 0), things that are lent to
+ * one call do not overlap, unless the call changes none of them, and one queue and its table are lent to one call at a
+ * time.
  */
 #ifndef BOARD_H
 #define BOARD_H
@@ -20,10 +25,12 @@
 extern "C" {
 #endif
 
-/* Why a call was not made. Where several hold the first of 10, 5, 9, 4, 11, 2 for Idle, 3, 2 for the processor, 1 is answered; 7 and 8 come last. */
+/* Why a call was not made. Where several hold the first of 10, 5, 9, 4, 11, 2 for Idle, 3, 2 for the processor, 1 is
+   answered; 7 and 8 come last. */
 enum board_refusal {
     BOARD_MADE = 0,
-    BOARD_DAMAGED = 1,       /* lists, trees or links are not sound: nothing changed, but selection keeps its stores so far */
+    /* lists, trees or links are not sound: nothing changed, but selection keeps its stores so far */
+    BOARD_DAMAGED = 1,
     BOARD_BAD_STATE = 2,     /* an Idle thread, or on enqueue one of another processor */
     BOARD_ALREADY = 3,       /* the thread is in a list already, on enqueue and preparing */
     BOARD_NO_THREAD = 4,     /* the thread's number is not below the count of rows */
@@ -32,7 +39,7 @@ enum board_refusal {
     BOARD_BACK_IN_TIME = 7,  /* accounting with the end before the start */
     BOARD_TURNS_SPENT = 8,   /* a turn counter is at its end */
     BOARD_HALTED = 9,        /* the queue cannot go on; it is marked, and from then on every call on it is refused so */
-    BOARD_BAD_TABLE = 10,    /* more than BOARD_MOST_RECORDS rows, or a slice of another length */
+    BOARD_BAD_TABLE = 10,    /* more than BOARD_MOST_RECORDS rows */
     BOARD_BAD_RECORD = 11    /* policy, budget and runtime disagree, or the budget is bad */
 };
 
@@ -54,7 +61,8 @@ enum board_refusal {
 #define BOARD_SWITCH_WORDS 2
 #define BOARD_DEADLINE_WORDS 2
 
-/* A run queue of one processor: 256 priority lists, the fair list, twelve roots, counts, epoch and mark. Made by board_new, changed by the calls alone. */
+/* A run queue of one processor: 256 priority lists, the fair list, twelve roots, counts, epoch and mark. Made by
+   board_new, changed by the calls alone. */
 typedef struct board_queue {
     uint64_t rows[BOARD_QUEUE_ROWS][BOARD_QUEUE_ROW_WORDS];
 } board_queue;
@@ -72,7 +80,9 @@ typedef struct board_path {
 #define BOARD_ROW_WEIGHT 4
 #define BOARD_ROW_QUANTUM 5
 #define BOARD_ROW_BACKEND 6    /* of Fair: BOARD_BACKEND_.. */
-#define BOARD_ROW_HAS_BUDGET 7 /* set exactly where the policy is Budget; then budget and burst are 1 to the period, and the period 1 to 1,000,000,000 */
+/* set exactly where the policy is Budget; then budget and burst are 1 to the period, and the period 1 to 1,000,000,000
+   */
+#define BOARD_ROW_HAS_BUDGET 7
 #define BOARD_ROW_BUDGET 8
 #define BOARD_ROW_PERIOD 9
 #define BOARD_ROW_BURST 10
@@ -89,7 +99,8 @@ typedef struct board_path {
 #define BOARD_ROW_MEMBERSHIP 26 /* BOARD_MEMBER_.. */
 #define BOARD_ROW_CPU 29       /* the assigned processor */
 
-/* Words of a row that stands for the running thread as a candidate: 0 to 10 and the turn as above, the pass, and whether it has time left. */
+/* Words of a row that stands for the running thread as a candidate: 0 to 10 and the turn as above, the pass, and
+   whether it has time left. */
 #define BOARD_CURRENT_PASS_HIGH 12
 #define BOARD_CURRENT_PASS_LOW 13
 #define BOARD_CURRENT_HAS_TIME 14
@@ -150,7 +161,8 @@ typedef struct board_path {
 #define BOARD_MODE_ORDINARY 3
 #define BOARD_MODE_BORROW 4
 
-/* Words of a selection. Words 0 to 8 serve board_switch as `ready`, with the thread's number in the place of the mode; words 11 to 15 are a demand. */
+/* Words of a selection. Words 0 to 8 serve board_switch as `ready`, with the thread's number in the place of the mode;
+   words 11 to 15 are a demand. */
 #define BOARD_SELECTION_IS 0     /* whether a thread is named */
 #define BOARD_SELECTION_THREAD 1 /* its number */
 #define BOARD_SELECTION_KEY 0    /* its key: the places of BOARD_KEY_URGENCY and on hold */
@@ -178,55 +190,77 @@ typedef struct board_path {
 /* A new queue, empty. Answers 0. */
 uint64_t board_new(board_queue *q);
 
-/* Puts a thread at the end, or at the front, of its list and into its tree. Answers 0, 10, 9, 4, 11, 2, 3 or 1. Refused: nothing is changed, but where the queue halts now, which leaves the
- * stores up to there and the mark. */
-uint64_t board_enqueue(board_queue *q, uint64_t (*t)[BOARD_ROW_WORDS], size_t rows, board_path *path, uint64_t id, uint8_t cpu);
-uint64_t board_enqueue_front(board_queue *q, uint64_t (*t)[BOARD_ROW_WORDS], size_t rows, board_path *path, uint64_t id, uint8_t cpu);
+/* Puts a thread at the end, or at the front, of its list and into its tree. Answers 0, 10, 9, 4, 11, 2, 3 or 1.
+ * Refused:
+ * nothing is changed, but where the queue halts now, which leaves the stores up to there and the mark. */
+uint64_t board_enqueue(board_queue *q, uint64_t (*t)[BOARD_ROW_WORDS], size_t rows, board_path *path, uint64_t id,
+                       uint8_t cpu);
+uint64_t board_enqueue_front(board_queue *q, uint64_t (*t)[BOARD_ROW_WORDS], size_t rows, board_path *path, uint64_t id,
+                             uint8_t cpu);
 
-/* Takes a thread out of its list and its tree. Answers 0, 10, 9, 4, 11, 2 or 1 (also where it is not queued here). Refused: as board_enqueue. */
-uint64_t board_remove(board_queue *q, uint64_t (*t)[BOARD_ROW_WORDS], size_t rows, board_path *path, uint64_t id, uint8_t cpu);
+/* Takes a thread out of its list and its tree. Answers 0, 10, 9, 4, 11, 2 or 1 (also where it is not queued here).
+ * Refused: as board_enqueue. */
+uint64_t board_remove(board_queue *q, uint64_t (*t)[BOARD_ROW_WORDS], size_t rows, board_path *path, uint64_t id,
+                      uint8_t cpu);
 
-/* How many threads of FIFO, of Fair and Budget together, and of Budget are queued, into 3 words. Answers 0 or 10. */
-uint64_t board_lengths(const board_queue *q, uint64_t *answer, size_t answer_words);
+/* How many threads of FIFO, of Fair and Budget together, and of Budget are queued. Answers 0. */
+uint64_t board_lengths(const board_queue *q, uint64_t answer[BOARD_LENGTHS_WORDS]);
 
-/* A new window of 12 words from a configuration of 8. Answers 0, 10 or 5; refused, the window is as it was. */
-uint64_t board_window(uint64_t *window, size_t window_words, const uint64_t *config, size_t config_words);
+/* A new window from a configuration. Answers 0 or 5; refused, the window is as it was. */
+uint64_t board_window(uint64_t window[BOARD_WINDOW_WORDS], const uint64_t config[BOARD_CONFIG_WORDS]);
 
-/* Names, of all queued threads, the one with the least key, into 19 words; where the period changed, exhausted budget threads are refreshed and filed as ready first. `current` (32 words) is the
- * running thread as a candidate where `running` is set. The window (12 words) is refreshed, unless the queue is empty. Answers 0, 10, 5, 9, 1 or 11. Refused by 10, 5 or an earlier 9: nothing is
+/* Names, of all queued threads, the one with the least key; where the period changed, exhausted budget threads are
+ * refreshed and filed as ready first. `current` is the running thread as a candidate where `running` is set. The window
+ * is refreshed, unless the queue is empty. Answers 0, 10, 5, 9, 1 or 11. Refused by 10, 5 or an earlier 9: nothing is
  * changed; by 1, 11 or a first 9: the stores so far stay, and the selection's words are as they were. */
-uint64_t board_select(board_queue *q, uint64_t (*t)[BOARD_ROW_WORDS], size_t rows, board_path *path, uint8_t cpu, uint64_t now_ns, uint64_t *window, size_t window_words, uint64_t running,
-                      const uint64_t *current, size_t current_words, uint64_t *answer, size_t answer_words);
+uint64_t board_select(board_queue *q, uint64_t (*t)[BOARD_ROW_WORDS], size_t rows, board_path *path, uint8_t cpu,
+                      uint64_t now_ns, uint64_t window[BOARD_WINDOW_WORDS], uint64_t running,
+                      const uint64_t current[BOARD_ROW_WORDS], uint64_t answer[BOARD_SELECTION_WORDS]);
 
-/* Before an enqueue: refreshes the thread's budget and gives it its turn, by the two counters. Answers 0, 10, 4, 11, 3 or 8; refused, table and counters are as they were. */
-uint64_t board_prepare(uint64_t (*t)[BOARD_ROW_WORDS], size_t rows, uint64_t id, uint64_t front, uint64_t now_ns, uint64_t *turns, size_t turns_words);
+/* Before an enqueue: refreshes the thread's budget and gives it its turn, by the two counters. Answers 0, 10, 4, 11, 3
+ * or
+ * 8; refused, table and counters are as they were. */
+uint64_t board_prepare(uint64_t (*t)[BOARD_ROW_WORDS], size_t rows, uint64_t id, uint64_t front, uint64_t now_ns,
+                       uint64_t turns[BOARD_TURNS_WORDS]);
 
-/* Charges the running thread and the window (12 words) for the time from `start` to `end`, under the mode of its key. Answers 0, 10, 5, 4, 11 or 7; refused, nothing is changed. */
-uint64_t board_account(uint64_t (*t)[BOARD_ROW_WORDS], size_t rows, uint64_t id, uint64_t *window, size_t window_words, uint64_t mode, uint64_t start, uint64_t end);
+/* Charges the running thread and the window for the time from `start` to `end`, under the mode of its key. Answers 0,
+ * 10,
+ * 5, 4, 11 or 7; refused, nothing is changed. */
+uint64_t board_account(uint64_t (*t)[BOARD_ROW_WORDS], size_t rows, uint64_t id, uint64_t window[BOARD_WINDOW_WORDS],
+                       uint64_t mode, uint64_t start, uint64_t end);
 
-/* Refreshes the thread's budget and, where `running` is set, writes it as a candidate into `current` (32 words), as board_select and board_key take it; where it is not, `current` stays. Answers
- * 0, 10, 4 or 11; refused, nothing is changed. */
-uint64_t board_candidate(uint64_t (*t)[BOARD_ROW_WORDS], size_t rows, uint64_t id, uint64_t running, uint64_t now_ns, uint64_t *current, size_t current_words);
+/* Refreshes the thread's budget and, where `running` is set, writes it as a candidate into `current`, as board_select
+ * and
+ * board_key take it; where it is not, `current` stays. Answers 0, 10, 4 or 11; refused, nothing is changed. */
+uint64_t board_candidate(uint64_t (*t)[BOARD_ROW_WORDS], size_t rows, uint64_t id, uint64_t running, uint64_t now_ns,
+                         uint64_t current[BOARD_ROW_WORDS]);
 
-/* Whether the thread's slice or burst is spent, into 1 word. The table is only read. Answers 0, 10, 4 or 11. */
-uint64_t board_expired(uint64_t (*t)[BOARD_ROW_WORDS], size_t rows, uint64_t id, uint64_t *answer, size_t answer_words);
+/* Whether the thread's slice or burst is spent. The table is only read. Answers 0, 10, 4 or 11. */
+uint64_t board_expired(uint64_t (*t)[BOARD_ROW_WORDS], size_t rows, uint64_t id, uint64_t answer[BOARD_EXPIRED_WORDS]);
 
 /* Ends a turn: the thread's burst is whole again. Answers 0, 10, 4 or 11; refused, nothing is changed. */
 uint64_t board_finish(uint64_t (*t)[BOARD_ROW_WORDS], size_t rows, uint64_t id);
 
-/* The running thread's key (9 words) under a demand (5 words) and a window (12 words), which is refreshed. Answers 0, 10 or 5; refused, nothing is changed. */
-uint64_t board_key(uint64_t *window, size_t window_words, uint64_t now_ns, const uint64_t *current, size_t current_words, const uint64_t *demand, size_t demand_words, uint64_t *key,
-                   size_t key_words);
+/* The running thread's key under a demand and a window, which is refreshed. Answers 0 or 5; refused, nothing is
+   changed. */
+uint64_t board_key(uint64_t window[BOARD_WINDOW_WORDS], uint64_t now_ns, const uint64_t current[BOARD_ROW_WORDS],
+                   const uint64_t demand[BOARD_DEMAND_WORDS], uint64_t key[BOARD_KEY_WORDS]);
 
-/* Whether the running thread, of key `key` and row or candidate `current` (32 words), gives way to the ready thread (9 words), into 2 words. `expired`: its turn is over; `yielding`: it gives way by
- * itself; `tail`: it was placed at the end of its list. Answers 0 or 10. */
-uint64_t board_switch(const uint64_t *ready, size_t ready_words, const uint64_t *key, size_t key_words, const uint64_t *current, size_t current_words, uint64_t expired, uint64_t yielding,
-                      uint64_t tail, uint64_t *answer, size_t answer_words);
+/* Whether the running thread, of key `key` and row or candidate `current`, gives way to the ready thread. `expired`:
+ * its
+ * turn is over; `yielding`: it gives way by itself; `tail`: it was placed at the end of its list. Answers 0. */
+uint64_t board_switch(const uint64_t ready[BOARD_KEY_WORDS], const uint64_t key[BOARD_KEY_WORDS],
+                      const uint64_t current[BOARD_ROW_WORDS], uint64_t expired, uint64_t yielding, uint64_t tail,
+                      uint64_t answer[BOARD_SWITCH_WORDS]);
 
-/* When to look again, into 2 words, for the running thread of key `key` (9 words): `competition`: other threads are queued; `budget_peer`: budget threads among them; `ready`: one of them is
- * named. The window (12 words) is refreshed, and the thread's budget. Answers 0, 10, 5, 4 or 11; refused, nothing is changed. */
-uint64_t board_deadline(uint64_t (*t)[BOARD_ROW_WORDS], size_t rows, uint64_t id, uint64_t now_ns, const uint64_t *key, size_t key_words, uint64_t *window, size_t window_words,
-                        uint64_t competition, uint64_t budget_peer, uint64_t ready, const uint64_t *demand, size_t demand_words, uint64_t *answer, size_t answer_words);
+/* When to look again, for the running thread of key `key`: `competition`: other threads are queued; `budget_peer`:
+ * budget
+ * threads among them; `ready`: one of them is named. The window is refreshed, and the thread's budget. Answers 0, 10,
+ * 5, 4 or 11; refused, nothing is changed. */
+uint64_t board_deadline(uint64_t (*t)[BOARD_ROW_WORDS], size_t rows, uint64_t id, uint64_t now_ns,
+                        const uint64_t key[BOARD_KEY_WORDS], uint64_t window[BOARD_WINDOW_WORDS], uint64_t competition,
+                        uint64_t budget_peer, uint64_t ready, const uint64_t demand[BOARD_DEMAND_WORDS],
+                        uint64_t answer[BOARD_DEADLINE_WORDS]);
 
 #ifdef __cplusplus
 }

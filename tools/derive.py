@@ -1,24 +1,34 @@
 #!/usr/bin/env python3
-"""tools/derive.py [--check | --again], from the repository's root: writes the borrow derivations of crate records, whose functions take a slice of thread records.
+"""tools/derive.py [--check | --again], from the repository's root: writes the borrow derivations of crate records,
+whose functions take a slice of thread records.
 
-The prover prints no derivation for a slice of structs, but the rules that a derivation cites hold for any element type. So a copy of the crate is made under
-target/derive in which the element is an array of 16-bit numbers of the same size, the contracts say nothing and the other crates' functions are stubs of
-the same signature. The prover prints the derivations of that, and here the struct is put back in, by the names of proofs/Elem.antt. Nothing of this is trusted: what is
-written is checked in crate records as any proof is. Of each function F there are proofs/KindsF.antt and ReadsF.antt, which callers cite, and proofs/F/Proof/Lts.antt and
-Tie.antt; Proof.antt is written by hand (where there is none yet, with holes). What was written, and from what (the copy and this tool), is kept by its sums in crates/records/proofs/derived.txt: --check writes nothing, compares
-these sums and says by its exit status whether all are current; --again has everything printed anew and compares the text, a minute's work."""
+The prover prints no derivation for a slice of structs, but the rules that a derivation cites hold for any element type.
+So a copy of the crate is made under target/derive in which the element is an array of 16-bit numbers of the same size,
+the contracts say nothing and the other crates' functions are stubs of the same signature. The prover prints the
+derivations of that, and here the struct is put back in, by the names of proofs/Elem.antt. Nothing of this is trusted:
+what is written is checked in crate records as any proof is. Of each function F there are proofs/KindsF.antt and
+ReadsF.antt, which callers cite, and proofs/F/Proof/Lts.antt and Tie.antt; Proof.antt is written by hand (where there is
+none yet, with holes).
+
+The struct's size is what the prover says (`size-is` in what `rt goals` writes of its crate); it is asked again where
+the struct or a type in it has changed. The size, and by their sums what was written and from what (the copy and this
+tool), are kept in crates/records/proofs/derived.txt: --check writes nothing, compares these sums and says by its exit
+status whether all are current; --again has everything printed anew and compares the text, a minute's work."""
 import glob, hashlib, os, re, shutil, subprocess, sys
 
 LAYER, STRUCT = 'records', 'ThreadRecord'
-SIZE = 200  # bytes: `size-is` in proofs/ThreadRecord/Laws.antt of what `rt goals thread` writes; a wrong one is refused when records is checked
-HALVES = SIZE // 2
 ROOT, TWIN = os.getcwd(), os.path.join(os.getcwd(), 'target/derive')
 BASE = f'Rattle.{LAYER}.proofs'
+SUMS = f'crates/{LAYER}/proofs/derived.txt'
+HALVES = None  # the 16-bit numbers that are as long as the struct; a wrong number is refused when records is checked
 
 
 def items(text):
-    """The items of a source file that `rt fmt` has laid out, without comments."""
-    lines, item = re.sub(r'[ \t]*//.*', '', text).split('\n'), []
+    """The items of a source file that `rt fmt` has laid out, without comments; a clause stands in one line."""
+    text = re.sub(r'[ \t]*//.*', '', text)
+    text = re.sub(r'^( *(?:requires|ensures) \{)(.*?⌝ \})$', lambda g: g.group(1) + ' ' + ' '.join(g.group(2).split()),
+                  text, flags=re.M | re.S)
+    lines, item = text.split('\n'), []
     for line in lines:
         if line or item:
             item.append(line)
@@ -40,8 +50,13 @@ def signature(item):
     return re.split(r'\n(?=    (?:requires|ensures)|\{)', item)[0]
 
 
+def emptied(line):
+    """A clause that says nothing."""
+    return re.sub(r'⌜.*⌝', '⌜ 0 ≤ 0 ⌝', line)
+
+
 def clauses(item):
-    return [re.sub(r'⌜.*⌝', '⌜ 0 ≤ 0 ⌝', line) for line in item.split('\n') if re.match(r'    (requires|ensures) ', line)]
+    return [emptied(line) for line in item.split('\n') if re.match(r'    (requires|ensures) ', line)]
 
 
 def element(text):
@@ -72,8 +87,8 @@ def value(kind, here, libs):
         return f'[{value(array.group(1), here, libs)}; {array.group(2)}]'
     own = [i for file in libs[here].values() for i in file if declared(i)[1] == kind]
     if not own:
-        home = next(g.group(1) for file in libs[here].values() for i in file for g in [re.match(rf'(?:pub )?use (\w+)::{kind};', i)] if g and g.group(1) in libs)
-        return value(kind, home, libs)
+        uses = [re.match(rf'(?:pub )?use (\w+)::{kind};', i) for file in libs[here].values() for i in file]
+        return value(kind, next(g.group(1) for g in uses if g and g.group(1) in libs), libs)
     form, name = declared(own[0])
     body = own[0].split(name, 1)[1].strip().rstrip(';')
     chosen = min(parts(body[1:-1]), key=lambda v: '(' in v or '{' in v) if form == 'enum' else name + body
@@ -83,12 +98,33 @@ def value(kind, here, libs):
     if bracket == '(':
         return f'{path}{head}(' + ', '.join(value(f, here, libs) for f in fields) + ')'
     if bracket == '{':
-        return f'{path}{head} {{ ' + ', '.join(f'{f.split(":")[0]}: {value(f.split(":")[1], here, libs)}' for f in fields) + ' }'
+        given = [f'{name}: {value(kind, here, libs)}' for name, kind in (f.split(':') for f in fields)]
+        return f'{path}{head} {{ ' + ', '.join(given) + ' }'
     return path + head
 
 
+def shapes():
+    """What each `pub type` of the repository's crates stands for, lengths as numbers."""
+    texts = [open(path).read() for path in sorted(glob.glob('crates/*/src/*.rt'))]
+    length = r'^pub const (\w+_(?:WORDS|ROWS)|MAX_PATH): usize = (\d+);$'
+    lengths = dict(g for text in texts for g in re.findall(length, text, re.M))
+    found = dict(g for text in texts for g in re.findall(r'^pub type (\w+) = (.*);$', text, re.M))
+    for _ in range(len(found)):
+        known = {**lengths, **found}
+        found = {name: re.sub(r'\w+', lambda g: known.get(g.group(0), g.group(0)), found[name]) for name in found}
+    return found
+
+
 def sources(crate):
-    return {path: list(items(open(path).read())) for path in glob.glob(f'crates/{crate}/src/*.rt')}
+    """The items of a crate's files, with shapes in place of their names."""
+    kinds = shapes()
+
+    def plain(text):
+        text = re.sub(rf'^(?:pub )?(?:use [\w:]+::|type )(?:{"|".join(kinds)})\b.*;\n', '', text, flags=re.M)
+        return re.sub(rf'\b(?:{"|".join(kinds)})\b', lambda g: kinds[g.group(0)], text)
+
+    return {path: list(items(plain(open(path).read()) if kinds else open(path).read()))
+            for path in glob.glob(f'crates/{crate}/src/*.rt')}
 
 
 def write(path, text):
@@ -106,9 +142,19 @@ def kept(item, needed, local):
     return last in local if found.group(1) == 'mod' else last in needed and last != STRUCT
 
 
+def reached(crate, deps):
+    """The crates of the repository that a crate reaches, in the order of crates.txt."""
+    found, left = set(), [crate]
+    while left:
+        new = [d for d in deps[left.pop()] if d in deps and d not in found]
+        found |= set(new)
+        left += new
+    return [name for name in deps if name in found]
+
+
 def make_twin(deps):
     layer = sources(LAYER)
-    libs = {crate: sources(crate) for crate in deps[LAYER]}
+    libs = {crate: sources(crate) for crate in reached(LAYER, deps)}
     every = {declared(i)[1]: i for files in libs.values() for file in files.values() for i in file if declared(i)[0]}
     asked = ' '.join(i for file in layer.values() for i in file if not i.startswith('ghost'))
     needed, open_names = set(), {name for crate, name in re.findall(r'(\w+)::(\w+)', asked) if crate in libs} - {STRUCT}
@@ -128,7 +174,8 @@ def make_twin(deps):
                     continue
                 if form == 'fn':
                     answer = re.search(r'\) -> (.*)$', signature(item))
-                    body = '    ' + value(element(answer.group(1)), crate, libs).replace(f'{crate}::', 'crate::') + '\n' if answer else ''
+                    body = f'    {value(element(answer.group(1)), crate, libs)}\n' if answer else ''
+                    body = body.replace(f'{crate}::', 'crate::')
                     item = '\n'.join([element(signature(item)), *clauses(item)]) + '\n{\n' + body + '}'
                 stub.append(item)
             if stub:
@@ -139,19 +186,22 @@ def make_twin(deps):
         crates.append(crate)
         for path in set(stubs) | {f'crates/{crate}/src/lib.rt'}:
             stub = stubs.get(path, [])
-            heads = [i for i in files[path] if kept(i, needed & (names(' '.join(stub)) | needed if i.startswith('pub') else names(' '.join(stub))), local)]
+            said = names(' '.join(stub))
+            heads = [i for i in files[path] if kept(i, needed if i.startswith('pub') else needed & said, local)]
             write(f'{TWIN}/{path}', 'ghost use Prim.Native.Nat.{_≤_};\n' + '\n'.join(heads + stub) + '\n')
     for path, file in layer.items():
         out = ['ghost use Prim.Native.Nat.{_≤_};']
         for item in file:
             if item.startswith('ghost') or item == f'use thread::{STRUCT};':
                 continue
-            out.append('\n'.join(re.sub(r'⌜.*⌝', '⌜ 0 ≤ 0 ⌝', line) for line in element(item).split('\n')))
+            out.append('\n'.join(emptied(line) for line in element(item).split('\n')))
         write(f'{TWIN}/{path}', '\n'.join(out) + '\n')
-    write(f'{TWIN}/crates.txt', ''.join(f"{c}: {' '.join(d for d in deps[c] if d in crates)}\n" for c in crates + [LAYER]))
+    lists = {c: [d for d in reached(c, deps) if d in crates] for c in crates + [LAYER]}
+    write(f'{TWIN}/crates.txt', ''.join(f"{c}: {' '.join(used)}\n" for c, used in lists.items()))
     functions = [declared(i)[1] for file in layer.values() for i in file if declared(i)[0] == 'fn']
     for f in functions:  # so that callers' derivations are printed too; it never leaves this folder
-        write(f'{TWIN}/crates/{LAYER}/proofs/{f}/Proof.antt', f"use {BASE}.{f}.Statement.{{statement}}\n\naxiom pub {f.replace('_', '-')}-spec : {{M : Type 1}} → statement M\n")
+        write(f'{TWIN}/crates/{LAYER}/proofs/{f}/Proof.antt', f"use {BASE}.{f}.Statement.{{statement}}\n\n"
+              f"axiom pub {f.replace('_', '-')}-spec : {{M : Type 1}} → statement M\n")
     return functions
 
 
@@ -159,9 +209,19 @@ def camel(f):
     return ''.join(w.capitalize() for w in f.split('_'))
 
 
-MODULES = dict(A='denote.Array', KA='borrow.Kind.Array', RR='borrow.Rule.Array.Rows', RW='borrow.Rule.Array.Whole', RI='borrow.Rule.Array.Init', RF='borrow.Table.Referent',
-               CP='borrow.Table.Copies', S='mir.Syntax', P='mathlib.Core.Path', L='mathlib.Core.List', PL='denote.Plain')
-USES, NUMBER, ELEM, LAWS = '𝓤 H A W', '(<RF>.rtF (<RF>.fInt <S>.w16))', '(<KA>.eInt <S>.w16)', '(<KA>.eInt-laws <S>.w16)'
+# the modules of a function's derivation, each with the place where it is written
+PARTS = [
+    ('Kinds', lambda f: f'Kinds{camel(f)}'), ('Reads', lambda f: f'Reads{camel(f)}'),
+    ('Lts', lambda f: f'{f}/Proof/Lts'), ('Tie', lambda f: f'{f}/Proof/Tie'),
+]
+
+
+MODULES = dict(
+    A='denote.Array', KA='borrow.Kind.Array', RR='borrow.Rule.Array.Rows', RW='borrow.Rule.Array.Whole',
+    RI='borrow.Rule.Array.Init', RF='borrow.Table.Referent', CP='borrow.Table.Copies', S='mir.Syntax',
+    P='mathlib.Core.Path', L='mathlib.Core.List', PL='denote.Plain')
+USES, NUMBER = '𝓤 H A W', '(<RF>.rtF (<RF>.fInt <S>.w16))'
+ELEM, LAWS = '(<KA>.eInt <S>.w16)', '(<KA>.eInt-laws <S>.w16)'
 ARRAY = '<S>.tyArray (<S>.tyInt <S>.w16) KKK'
 # what a derivation says of an array of 16-bit numbers, and what proofs/Elem.antt says of the struct in its place
 PLACES = [
@@ -212,11 +272,16 @@ def with_struct(s, functions):
         at = end
     s = put(''.join(out) + s[at:], ARRAY, 'El.mir')
     # what a read of an element takes for what lies past the end
-    s = re.sub(r'(\.[kt]-[a-z-]*copy-out\s+(?:(?:𝓤|H|A|W|E|𝓣)\s+)*El\.T)(.*?\(λ x\. x\)\s+)' + re.escape(alias['L'] + '.[]') + r'(\s+\(λ x\. Unit\))', r'\1\2El.nil\3', s, flags=re.S)
+    read = r'(\.[kt]-[a-z-]*copy-out\s+(?:(?:𝓤|H|A|W|E|𝓣)\s+)*El\.T)(.*?\(λ x\. x\)\s+)'
+    past = re.escape(alias['L'] + '.[]') + r'(\s+\(λ x\. Unit\))'
+    s = re.sub(read + past, r'\1\2El.nil\3', s, flags=re.S)
     for f in functions:
-        for part, new in (('Kinds', f'Kinds{camel(f)}'), ('Reads', f'Reads{camel(f)}'), ('Lts', f'{f}.Proof.Lts'), ('Tie', f'{f}.Proof.Tie')):
-            s = re.sub(r'^use ' + re.escape(f'{BASE}.{f}.{part}') + r'(?: as (\S+))?$', lambda g: f'use {BASE}.{new} as {g.group(1) or part}', s, flags=re.M)
-    return named(s, alias).replace("-- the `use` lines below are this print's own: the module states none of them\n", f'use {BASE}.Elem as El\nuse {BASE}.Types as Types\n', 1)
+        for part, place in PARTS:
+            new = place(f).replace('/', '.')
+            s = re.sub(r'^use ' + re.escape(f'{BASE}.{f}.{part}') + r'(?: as (\S+))?$',
+                       lambda g: f'use {BASE}.{new} as {g.group(1) or part}', s, flags=re.M)
+    mark = "-- the `use` lines below are this print's own: the module states none of them\n"
+    return named(s, alias).replace(mark, f'use {BASE}.Elem as El\nuse {BASE}.Types as Types\n', 1)
 
 
 TYPES = {}  # the MIR type of each struct and enum that the derivations name, by its name
@@ -270,10 +335,14 @@ def folded(s):
 def skeleton(f, tie):
     """A proof with holes, from the needs that the derivation states."""
     needs = re.findall(r'Need-([^)\s]+)', re.search(r'pub spec\s*:(.*?)Lts\.Closed', tie, re.S).group(1))
-    uses = (f'{f}.Statement.{{statement}}', f'{f}.Proof.Tie as tie', f'Reads{camel(f)} as reads', f'{f}.Proof.Lts as lts')
-    return 'mod Lts\nmod Tie\n' + ''.join(f'use {BASE}.{u}\n' for u in uses) + 'use borrow.Author.Needs.{needs}\n\n' \
-        + ''.join(f"{k} : tie.Need-{k}\n{k} c{' κs' if re.search('-requires(-[0-9]+)?$', k) else ''} = {'?' if k.startswith('returns') else 'search needs'}\n\n" for k in needs) \
-        + f"pub {f.replace('_', '-')}-spec : {{M : Type 1}} → statement M\n{f.replace('_', '-')}-spec = tie.close (tie.spec {' '.join(needs)})\n"
+    uses = (f'{f}.Statement.{{statement}}', f'{f}.Proof.Tie as tie', f'Reads{camel(f)} as reads',
+            f'{f}.Proof.Lts as lts')
+    text = 'mod Lts\nmod Tie\n' + ''.join(f'use {BASE}.{u}\n' for u in uses) + 'use borrow.Author.Needs.{needs}\n\n'
+    for k in needs:
+        given = ' κs' if re.search('-requires(-[0-9]+)?$', k) else ''
+        text += f"{k} : tie.Need-{k}\n{k} c{given} = {'?' if k.startswith('returns') else 'search needs'}\n\n"
+    name = f"{f.replace('_', '-')}-spec"
+    return text + f"pub {name} : {{M : Type 1}} → statement M\n{name} = tie.close (tie.spec {' '.join(needs)})\n"
 
 
 def derivations(functions):
@@ -283,13 +352,16 @@ def derivations(functions):
         sys.exit('derive: no derivation was printed, see target/derive/said.txt')
     made = {}
     for f in functions:
-        for part, place in (('Kinds', f'Kinds{camel(f)}'), ('Reads', f'Reads{camel(f)}'), ('Lts', f'{f}/Proof/Lts'), ('Tie', f'{f}/Proof/Tie')):
+        for part, place in PARTS:
             printed = f'{TWIN}/printed/Rattle.{LAYER}.proofs/proofs/{f}/{part}.antt'
             if not os.path.exists(printed):
                 sys.exit(f'derive: no {part} of {f}, see target/derive/said.txt')
-            made[f'crates/{LAYER}/proofs/{place}.antt'] = folded(with_struct(open(printed).read(), functions))
-    types = ''.join(f'\nabbrev pub {name} : Syntax.Ty\n{name} = {text.replace("Types.", "")}\n' for name, text in TYPES.items())
-    made[f'crates/{LAYER}/proofs/Types.antt'] = '-- The MIR types of the structs and enums that the derivations name.\nuse package.mir.Syntax\nuse mathlib.Core.List\n' + types
+            made[f'crates/{LAYER}/proofs/{place(f)}.antt'] = folded(with_struct(open(printed).read(), functions))
+    types = '-- The MIR types of the structs and enums that the derivations name.\n' \
+        'use package.mir.Syntax\nuse mathlib.Core.List\n'
+    for name, text in TYPES.items():
+        types += f'\nabbrev pub {name} : Syntax.Ty\n{name} = {text.replace("Types.", "")}\n'
+    made[f'crates/{LAYER}/proofs/Types.antt'] = types
     return laid_out(made)
 
 
@@ -317,19 +389,44 @@ def sum_of(paths):
 
 def written():
     """The derivations in the crate."""
-    return {p for p in glob.glob(f'crates/{LAYER}/proofs/**/*.antt', recursive=True) if re.search(r'/(Kinds\w+|Reads\w+|Types|Lts|Tie)\.antt$', p)}
+    proofs = glob.glob(f'crates/{LAYER}/proofs/**/*.antt', recursive=True)
+    return {p for p in proofs if re.search(r'/(Kinds\w+|Reads\w+|Types|Lts|Tie)\.antt$', p)}
 
 
 def sums():
-    """The sums of what the derivations are written from, and of the derivations. It is asked right after `make_twin`, before the prover leaves anything in the copy."""
+    """The sums of what the derivations are written from, and of the derivations. It is asked right after `make_twin`,
+    before the prover leaves anything in the copy."""
     twin = [p for p in glob.glob(f'{TWIN}/**/*', recursive=True) if os.path.isfile(p)]
     return sum_of(twin + ['tools/derive.py']), lambda: sum_of(written())
 
 
-SUMS = f'crates/{LAYER}/proofs/derived.txt'
+def size(deps, ask):
+    """The line of derived.txt on the struct's size. Of the same declarations it stands; else the prover is asked."""
+    declarations, left, found = {}, {STRUCT}, {}
+    for crate in reached(LAYER, deps):
+        for i in (i for file in sources(crate).values() for i in file):
+            if declared(i)[0] in ('struct', 'enum'):
+                declarations.setdefault(declared(i)[1], []).append((crate, i))
+    while left:
+        name = left.pop()
+        found[name] = declarations[name]
+        left |= (names(' '.join(i for _, i in found[name])) & set(declarations)) - set(found)
+    total = hashlib.sha256(repr(sorted(found.items())).encode()).hexdigest()
+    said = re.search(rf'^size (\d+) of {total}$', open(SUMS).read() if os.path.exists(SUMS) else '', re.M)
+    if said or not ask:
+        return int(said.group(1)) if said else None, f'of {total}'
+    home = declarations[STRUCT][0][0]
+    laws = f'target/goals/{home}/Rattle.{home}.proofs/proofs/{STRUCT}/Laws.antt'
+    shutil.rmtree(f'target/goals/{home}', ignore_errors=True)
+    run = subprocess.run(['rt', 'goals', home], capture_output=True, text=True)  # it may lack proofs as yet
+    said = re.search(r'^size-is : .* (\d+)$', open(laws).read() if os.path.exists(laws) else '', re.M)
+    if not said:
+        sys.exit(f'derive: `rt goals {home}` does not say the size of {STRUCT}: ' + (run.stdout + run.stderr)[-500:])
+    return int(said.group(1)), f'of {total}'
 
 
 def main():
+    global HALVES
     deps = {}
     for line in open('crates.txt'):
         line = line.split('#')[0].strip()
@@ -337,14 +434,25 @@ def main():
             name, used = line.split(':')
             deps[name] = used.split()
     shutil.rmtree(TWIN, ignore_errors=True)
+    of_struct, declarations = size(deps, '--check' not in sys.argv[1:])
+    if of_struct is None:
+        sys.exit(f'derive: {STRUCT} has changed, the derivations are not current')
+    if of_struct % 2:
+        sys.exit(f'derive: {STRUCT} has {of_struct} bytes, which no array of 16-bit numbers has')
+    HALVES = of_struct // 2
     functions = make_twin(deps)
     source, derived = sums()
+
+    def record():
+        return f'size {of_struct} {declarations}\nfrom {source}\nwritten {derived()}\n'
+
     if '--check' in sys.argv[1:]:
-        current = os.path.exists(SUMS) and open(SUMS).read() == f'from {source}\nwritten {derived()}\n'
+        current = os.path.exists(SUMS) and open(SUMS).read() == record()
         print(f'derive: the derivations are {"" if current else "not "}current')
         sys.exit(0 if current else 1)
     made = derivations(functions)
-    stale = sorted(written() - set(made)) + sorted(p for p, text in made.items() if not os.path.exists(p) or open(p).read() != text)
+    other = sorted(p for p, text in made.items() if not os.path.exists(p) or open(p).read() != text)
+    stale = sorted(written() - set(made)) + other
     if '--again' in sys.argv[1:]:
         for path in stale:
             print('derive: not current:', path)
@@ -358,9 +466,10 @@ def main():
         proof = f'crates/{LAYER}/proofs/{f}/Proof.antt'
         if not os.path.exists(proof):
             write(proof, skeleton(f, made[f'crates/{LAYER}/proofs/{f}/Proof/Tie.antt']))
-    modules = sorted(os.path.basename(p)[:-5] for p in glob.glob(f'crates/{LAYER}/proofs/*.antt') if not p.endswith('/Lib.antt'))
+    modules = sorted(os.path.basename(p)[:-5] for p in glob.glob(f'crates/{LAYER}/proofs/*.antt'))
+    modules.remove('Lib')
     write(f'crates/{LAYER}/proofs/Lib.antt', ''.join(f'pub mod {m}\n' for m in modules))
-    write(SUMS, f'from {source}\nwritten {derived()}\n')
+    write(SUMS, record())
     print(f'derive: {len(made)} derivation files written')
 
 

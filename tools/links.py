@@ -1,8 +1,10 @@
 #!/usr/bin/env python3
-"""tools/links.py [--check], from the repository's root: the line numbers of the links in README.md and docs/ that name a definition, a theorem or a function.
+"""tools/links.py [--check], from the repository's root: the line numbers of the links in README.md and docs/ that name
+a definition, a theorem or a function.
 
-Such a link is [`NAME`](../crates/CRATE/FILE#L12): line 12 of that file is where NAME is defined. Without --check the numbers are set anew; with it nothing is written, each link that is
-not true is printed, and the exit status is 0 where all are."""
+Such a link is [`NAME`](../crates/CRATE/FILE#L12): line 12 of that file is where NAME is defined. Without --check the
+numbers are set anew; with it nothing is written, each link that is not true is printed, and the exit status is 0 where
+all are."""
 import glob
 import os
 import re
@@ -12,11 +14,12 @@ LINK = re.compile(r'\[`([^`]+)`\]\(((?:\.\./)?crates/[^)#]+)#L(\d*)\)')
 
 
 def defined_at(name, lines):
-    """The line on which a file defines a name: a function, a type, a variant's owner, or a definition or theorem of specs/."""
+    """The line on which a file defines a name: a function, a type, a variant's owner, a definition or a theorem."""
     last = re.escape(name.split('::')[-1].split(' .')[-1])
     forms = [
         rf'(pub )?(extern "C" )?(fn|struct|enum|const|type) {last}\b',
-        rf'((abbrev|unfoldable) )*(pub )?(abbrev |unfoldable |data |record |ruleset )*(pub )?«?{last}»? *(\(|:|=|where|\{{|$)',
+        rf'((abbrev|unfoldable) )*(pub )?(abbrev |unfoldable |data |record |ruleset )*(pub )?'
+        rf'«?{last}»? *(\(|:|=|where|\{{|$)',
         rf'«?{last}»? :',
     ]
     owner = name.split('::')[-2] if '::' in name else None

@@ -1,18 +1,28 @@
 #!/usr/bin/env python3
-"""tools/wrong_answers.py [--list | --check [NAME..] | --try [NAME..] | --shape [NAME..]], from the repository's root: the wrong answers that the contracts rule out, and whether each is refused where it is put.
+"""tools/wrong_answers.py [--list | --check [NAME..] | --try [NAME..] | --shape [NAME..]], from the repository's root:
+the wrong answers that the contracts rule out, and whether each is refused where it is put.
 
-A wrong answer is a line `# fn PATH: the wrong answer in words` with the `file:`, `old:` and `new:` lines below it that put it into the function PATH of a crate. They stand
-- in crates/NAME/must-fail/*.edit, which `rt ci` tries. Several share one edit and so one check of the crate, where no edited function calls another. An edit without such a line changes a definition or a promise, and is
-  judged whole by rt; its first line says the wrong answer.
+A wrong answer is a line `# fn PATH: the wrong answer in words` with the `file:`, `old:` and `new:` lines below it that
+put it into the function PATH of a crate. They stand
+- in crates/NAME/must-fail/*.edit, which `rt ci` tries. Several share one edit and so one check of the crate, where no
+  edited function calls another. An edit without such a line changes a definition or a promise, and is judged whole by
+  rt; its first line says the wrong answer.
 - in crates/NAME/wrong-answers, any number of them. There the old text need stand once in the named function only.
---try puts in those of both, as many at once as do not touch each other, and asks `rt dev` of a copy of the repository under target/wrong-answers.
-The check says of each function whether it is proved: the named one must not be, by itself and not only because it calls another that is not. That it is a fact that fails and not the form of the proof is asked in two ways: what the check says of
-the proof must be that a fact was not found; and where a proof is written for the function, the edited function must take the same steps in the same order (STEPS, by its MIR), so that it leaves the same list of things to prove and the proof
-still fits it: --shape asks this alone, in a second a round. Where none is written, the check finds the proof by itself, whatever the shape. A refused answer is decided where the prover did not stop at a bound of its own (BOUNDS) before it had tried all that its rules give; --try names those
-that are not, and the public functions with fewer than two that are. The log of each round of --try is kept below target/wrong-answers/said.
+--try puts in those of both, as many at once as do not touch each other, and asks `rt dev` of a copy of the repository
+under target/wrong-answers.
+The check says of each function whether it is proved: the named one must not be, by itself and not only because it
+calls another that is not. That it is a fact that fails and not the form of the proof is asked in two ways: what the
+check says of the proof must be that a fact was not found; and where a proof is written for the function, the edited
+function must take the same steps in the same order (STEPS, by its MIR), so that it leaves the same list of things to
+prove and the proof still fits it: --shape asks this alone, in a second a round. Where none is written, the check finds
+the proof by itself, whatever the shape. A refused answer is decided where the prover did not stop at a bound of its
+own (BOUNDS) before it had tried all that its rules give; --try names those that are not, and the public functions with
+fewer than two that are. The log of each round of --try is kept below target/wrong-answers/said.
 
-With no word, after `rt ci` or `rt must-fail`: the logs are looked at; the last line is 'N wrong answers refused, 0 not', and the exit status is 0 then; so it is with --try. --list writes docs/WRONG-ANSWERS.md,
---check asks whether that page is current and has two wrong answers or more for each public function; `--check NAME..` asks the second alone, of these crates."""
+With no word, after `rt ci` or `rt must-fail`: the logs are looked at; the last line is 'N wrong answers refused, 0
+not', and the exit status is 0 then; so it is with --try. --list writes docs/WRONG-ANSWERS.md, --check asks whether
+that page is current and has two wrong answers or more for each public function; `--check NAME..` asks the second
+alone, of these crates."""
 import glob
 import os
 import re
@@ -26,8 +36,11 @@ COPY = 'target/wrong-answers'
 WITHOUT_CONTRACTS = ['steps']
 HEAD = """# Wrong answers that the contracts rule out
 
-Written by `python3 tools/wrong_answers.py --list`. Each wrong answer is put into a copy of its crate, and the prover must refuse it: of a function, that this function is not proved, by itself and not only because it calls another that is not; of a definition or a promise, that the crate is not
-proved. Those with an edit's name are tried by the gate each time (crates/NAME/must-fail). The others stand in crates/NAME/wrong-answers and are tried by hand, `python3 tools/wrong_answers.py --try NAME`; docs/GUARANTEES.md says what was seen of them.
+Written by `python3 tools/wrong_answers.py --list`. Each wrong answer is put into a copy of its crate, and the prover
+must refuse it: of a function, that this function is not proved, by itself and not only because it calls another that is
+not; of a definition or a promise, that the crate is not proved. Those with an edit's name are tried by the gate each
+time (crates/NAME/must-fail). The others stand in crates/NAME/wrong-answers and are tried by hand,
+`python3 tools/wrong_answers.py --try NAME`; docs/GUARANTEES.md says what was seen of them.
 """
 
 
@@ -62,19 +75,24 @@ def by_hand(crate):
 
 
 def unproved(said):
-    """The functions that are not proved by themselves; of one that had no proof written, the check says 'no proof', and of one over a slice of structs, whose derivation is stored, that the borrow checker does not cover it."""
-    return set(re.findall(r'^fn (\S+): (?:not proved$|not proved; the borrow checker does not cover|no proof\b)', said, re.MULTILINE))
+    """The functions that are not proved by themselves; of one that had no proof written, the check says 'no proof', and
+    of one over a slice of structs, whose derivation is stored, that the borrow checker does not cover it."""
+    told = r'^fn (\S+): (?:not proved$|not proved; the borrow checker does not cover|no proof\b)'
+    return set(re.findall(told, said, re.MULTILINE))
 
 
-# What the check says where a fact is not found: by a search whose goal is a statement, by arithmetic, by rewriting, by congruence, by an equation whose ends are others; or of a function whose proof it looks for by itself.
+# What the check says where a fact is not found: by a search whose goal is a statement, by arithmetic, by rewriting, by
+# congruence, by an equation whose ends are others; or of a function whose proof it looks for by itself.
 FACTS = re.compile(
-    r'`search`: no proof of `[^`]*(?:Post|Path|≡|<|≤)|`omega`: the goal does not follow|`rw` has no last argument, so what it leaves must be a path whose two ends are equal|`cc` (?!proves only)'
+    r'`search`: no proof of `[^`]*(?:Post|Path|≡|<|≤)|`omega`: the goal does not follow'
+    r'|`rw` has no last argument, so what it leaves must be a path whose two ends are equal|`cc` (?!proves only)'
     r'|the two (?:values|types) (?:first differ|differ only) where|the two types are `Path |`search` does not close'
 )
 
 
 def faults(said, crate, function):
-    """What the check says of a function's proof, an entry a place, with the lines that belong to it; not that a part of it rests on another that is refused."""
+    """What the check says of a function's proof, an entry a place, with the lines that belong to it; not that a part of
+    it rests on another that is refused."""
     place = re.escape(f'/proofs/{function.replace("::", "/")}/')
     told = re.findall(rf'^\S*{place}\w+\.antt:\d+:\d+: error: (.*(?:\n  .*)*)', said, re.MULTILINE)
     told = [fault for fault in told if 'was not admitted (it has holes' not in fault]
@@ -90,14 +108,18 @@ def why_not(said, crate, function):
     return 'refused for the form of its proof: ' + ' '.join(form)[:400] if form or not told else None
 
 
-# What the check says where a tactic stopped at a bound of its own: congruence at its own, a search at its steps, its count or its depth.
+# What the check says where a tactic stopped at a bound of its own: congruence at its own, a search at its steps, its
+# count or its depth.
 BOUNDS = re.compile(r'met a bound of its own|broke off|was spent|Not every way was tried|stopped \d+ lemmas deep')
 
 
 def at_bound(said, crate, function):
-    """Whether the prover stopped at a bound of its own at each fact that it did not find, so that it never looked at everything that its rules give: the answer is refused, but not decided."""
+    """Whether the prover stopped at a bound of its own at each fact that it did not find, so that it never looked at
+    everything that its rules give: the answer is refused, but not decided."""
     told = faults(said, crate, function)
-    notes = re.findall(rf'^note: what antt said of a `search` in the proof that rattle made: .*(?:\n  .*)*(?=(?:\nnote: .*(?:\n  .*)*)*\nfn {crate}::{function}: no proof)', said, re.MULTILINE)
+    note = r'note: what antt said of a `search` in the proof that rattle made: .*(?:\n  .*)*'
+    before = rf'(?=(?:\nnote: .*(?:\n  .*)*)*\nfn {crate}::{function}: no proof)'
+    notes = re.findall(f'^{note}{before}', said, re.MULTILINE)
     return bool(told) and all(BOUNDS.search(fault) for fault in notes or told)
 
 
@@ -105,8 +127,10 @@ def has_proof(crate, function):
     return os.path.exists(f'crates/{crate}/proofs/{function.replace("::", "/")}/Proof.antt')
 
 
-# What makes a thing to prove: a call, a branch and its arms, a loop, a return, an index, arithmetic that may not fit. Which function is called, what is compared and which values go in does not.
-STEPS = re.compile(r'\((call|if|switch|arm|loop|block|exit)\b|\b(return)\b|op2 \(?(offset|add|sub|mul|div|rem)\b|op1 \((cast)\b')
+# What makes a thing to prove: a call, a branch and its arms, a loop, a return, an index, arithmetic that may not fit.
+# Which function is called, what is compared and which values go in does not.
+STEPS = re.compile(
+    r'\((call|if|switch|arm|loop|block|exit)\b|\b(return)\b|op2 \(?(offset|add|sub|mul|div|rem)\b|op1 \((cast)\b')
 
 
 def shapes(crate):
@@ -137,7 +161,8 @@ def page():
 
 
 def public(crate):
-    """The public functions of a library that have a contract to rule anything out, as the check names them: of the root file, of types, exported to C, or shown by the root file's `pub use`."""
+    """The public functions of a library that have a contract to rule anything out, as the check names them: of the root
+    file, of types, exported to C, or shown by the root file's `pub use`."""
     root = f'crates/{crate}/src/lib.rt'
     if not os.path.exists(root) or crate in WITHOUT_CONTRACTS:
         return []
@@ -153,7 +178,8 @@ def public(crate):
                 owner = line.split()[1] + '::'
             head = re.match(r'( *)pub (extern "C" )?fn (\w+)', line)
             if head and (head.group(1) or head.group(2) or module == 'lib' or (module, head.group(3)) in shown):
-                found.append(('' if module == 'lib' else module + '::') + (owner if head.group(1) else '') + head.group(3))
+                within = ('' if module == 'lib' else module + '::') + (owner if head.group(1) else '')
+                found.append(within + head.group(3))
     return found
 
 
@@ -161,7 +187,8 @@ def lacking(crates):
     """The public functions with fewer than two wrong answers."""
     listed = [(crate, function) for _, crate, _, answers in edits() for function, _, _ in answers]
     listed += [(crate, function) for crate in crates for function, _, _ in by_hand(crate)]
-    return [f'{crate}::{function}' for crate in crates for function in public(crate) if listed.count((crate, function)) < 2]
+    every = [(crate, function) for crate in crates for function in public(crate)]
+    return [f'{crate}::{function}' for crate, function in every if listed.count((crate, function)) < 2]
 
 
 def libraries():
@@ -192,7 +219,8 @@ def calls_within(crate):
     bodies = {}
     for path in glob.glob(f'crates/{crate}/src/*.rt'):
         with open(path) as text:
-            for name, body in re.findall(r'^ *(?:pub )?(?:extern "C" )?fn (\w+)(.*?)(?=^ *(?:pub )?(?:extern "C" )?fn |\Z)', text.read(), re.MULTILINE | re.DOTALL):
+            head = r'^ *(?:pub )?(?:extern "C" )?fn '
+            for name, body in re.findall(head + rf'(\w+)(.*?)(?={head}|\Z)', text.read(), re.MULTILINE | re.DOTALL):
                 bodies[name] = bodies.get(name, '') + body
     reached = {name: {other for other in bodies if re.search(rf'\b{other}\(', body)} for name, body in bodies.items()}
     changed = True
@@ -221,13 +249,14 @@ def rounds(crate, answers):
 
 
 def span(text, function):
-    """Where a function's text starts and ends in its file: from its head to the next one; of a method, within its type."""
+    """Where a function's text starts and ends in its file: from its head to the next; of a method, within its type."""
     *owners, name = function.split('::')
-    heads = [head.start() for head in re.finditer(r'^ *(?:pub(?:\(crate\))? )?(?:extern "C" )?fn ', text, re.MULTILINE)] + [len(text)]
+    form = r' *(?:pub(?:\(crate\))? )?(?:extern "C" )?fn '
+    heads = [head.start() for head in re.finditer(f'^{form}', text, re.MULTILINE)] + [len(text)]
     for start, end in zip(heads, heads[1:]):
         owner = re.findall(r'^impl (\w+)', text[:start], re.MULTILINE)
         method = text[start] == ' '
-        if re.match(rf' *(?:pub(?:\(crate\))? )?(?:extern "C" )?fn {name}\b', text[start:]) and (not method or owner[-1:] == owners[-1:]):
+        if re.match(rf'{form}{name}\b', text[start:]) and (not method or owner[-1:] == owners[-1:]):
             return start, end
     return 0, len(text)
 
@@ -258,7 +287,7 @@ def put_back(crate):
 
 
 def tried(crate, number, one, whole, shape_alone):
-    """One round on the copy: those that are not refused, with why; and the refused ones where the prover met a bound."""
+    """One round on the copy: those not refused, with why; and the refused ones where the prover met a bound."""
     bad = {answer[0]: put_in(crate, answer[0], answer[2]) for answer in one}
     left = shapes(crate)
     for function in bad:
@@ -290,11 +319,14 @@ def try_by_hand(crates, shape_alone):
         shutil.rmtree(f'{COPY}/target/{part}', ignore_errors=True)
         subprocess.run(['cp', '-r', f'target/{part}', f'{COPY}/target'], check=True)
     for crate in crates:
-        whole, answers = shapes(crate), by_hand(crate) + [answer for _, owner, _, several in edits() if owner == crate for answer in several if answer[0]]
+        whole, answers = shapes(crate), by_hand(crate)
+        for _, owner, _, several in edits():
+            answers += [answer for answer in several if answer[0] and owner == crate]
         for number, one in enumerate(rounds(crate, answers), 1):
             wrong, met = tried(crate, number, one, whole, shape_alone)
             refused, others, bounds = refused + len(one) - len(wrong), others + len(wrong), bounds + len(met)
-            print(f'{crate}, round {number}: {len(one) - len(wrong)} of {len(one)} {"keep the shape" if shape_alone else "refused"}', flush=True)
+            what = 'keep the shape' if shape_alone else 'refused'
+            print(f'{crate}, round {number}: {len(one) - len(wrong)} of {len(one)} {what}', flush=True)
             for function, words, why in wrong:
                 print(f'  {function}: {words}: {why}', flush=True)
             for function, words in met:
@@ -302,8 +334,10 @@ def try_by_hand(crates, shape_alone):
             apart = [(function, words) for function, words, _ in wrong] + met
             decided += [f'{crate}::{function}' for function, words, _ in one if (function, words) not in apart]
     if not shape_alone:
-        few = [f'{crate}::{function}' for crate in crates for function in public(crate) if decided.count(f'{crate}::{function}') < 2]
-        print(f'{bounds} of the refused are not decided; {len(few)} of {sum(len(public(crate)) for crate in crates)} public functions have fewer than two that are decided', *few)
+        every = [f'{crate}::{function}' for crate in crates for function in public(crate)]
+        few = [function for function in every if decided.count(function) < 2]
+        print(f'{bounds} of the refused are not decided; {len(few)} of {len(every)} public functions have fewer than '
+              'two that are decided', *few)
     verdict(refused, others, 'keep the shape' if shape_alone else 'refused')
 
 
@@ -314,14 +348,15 @@ def main():
             out.write(page())
     elif words[:1] == ['--check']:
         crates = words[1:] or libraries()
-        few = lacking(crates)
-        print(f'{len(few)} of {sum(len(public(crate)) for crate in crates)} public functions have fewer than two wrong answers', *few)
+        few, count = lacking(crates), sum(len(public(crate)) for crate in crates)
+        print(f'{len(few)} of {count} public functions have fewer than two wrong answers', *few)
         current = words[1:] or os.path.exists(PAGE) and open(PAGE).read() == page()
         if not current:
             print(f'{PAGE} is not current')
         sys.exit(0 if current and not few else 1)
     elif words[:1] in (['--try'], ['--shape']):
-        try_by_hand(words[1:] or sorted(path.split('/')[1] for path in glob.glob('crates/*/wrong-answers')), words[0] == '--shape')
+        every = sorted(path.split('/')[1] for path in glob.glob('crates/*/wrong-answers'))
+        try_by_hand(words[1:] or every, words[0] == '--shape')
     else:
         judge_logs()
 

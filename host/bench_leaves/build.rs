@@ -1,4 +1,5 @@
-//! Copies the kernel's policies and arbitration unchanged into the build directory, and links the port's static library.
+//! Copies the kernel's policies and arbitration unchanged into the build directory, and links the port's static
+//! library.
 
 use std::path::{Path, PathBuf};
 use std::{env, fs};
@@ -41,7 +42,8 @@ fn main() {
     let modules = format!(
         "#[allow(warnings)]\n#[path = {:?}]\npub(crate) mod policy;\n\
          #[allow(warnings)]\npub(crate) mod scheduler {{\n    pub(crate) use crate::policy;\n    \
-         pub(crate) mod algorithms {{\n        pub(crate) use crate::policy::{{BudgetParameters, FairBackend}};\n        \
+         pub(crate) mod algorithms {{\n        \
+         pub(crate) use crate::policy::{{BudgetParameters, FairBackend}};\n        \
          #[path = {:?}]\n        pub(crate) mod arbitration;\n    }}\n}}\n",
         out.join("policy.rs"),
         out.join("arbitration.rs")

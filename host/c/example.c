@@ -1,4 +1,5 @@
-/* Two protected sway loops of two hooks and a brake on one processor: who is named just before protection is due, and when it is due. Then calls that are refused. */
+/* Two protected sway loops of two hooks and a brake on one processor: who is named just before protection is due, and
+   when it is due. Then calls that are refused. */
 #include <inttypes.h>
 #include <stdio.h>
 
@@ -46,7 +47,7 @@ static void say(const char *what, uint64_t answer)
 
 static void enqueue(uint64_t id, uint64_t now)
 {
-    uint64_t prepared = board_prepare(table, THREADS, id, 0, now, turns, BOARD_TURNS_WORDS);
+    uint64_t prepared = board_prepare(table, THREADS, id, 0, now, turns);
     uint64_t answer = board_enqueue(&queue, table, THREADS, &path, id, 0);
     printf("%s enqueued: %" PRIu64 " %" PRIu64 "\n", names[id], prepared, answer);
 }
@@ -55,27 +56,30 @@ static void choose(uint64_t now)
 {
     uint64_t selection[BOARD_SELECTION_WORDS] = {0};
     const uint64_t nobody[BOARD_ROW_WORDS] = {0};
-    uint64_t answer = board_select(&queue, table, THREADS, &path, 0, now, window, BOARD_WINDOW_WORDS, 0, nobody, BOARD_ROW_WORDS, selection, BOARD_SELECTION_WORDS);
+    uint64_t answer = board_select(&queue, table, THREADS, &path, 0, now, window, 0, nobody, selection);
     if (answer != BOARD_MADE) {
         say("select refused", answer);
     } else if (selection[BOARD_SELECTION_IS] == 0) {
         printf("at %" PRIu64 " nobody\n", now);
     } else {
-        printf("at %" PRIu64 " %s, urgency %" PRIu64 " and rank %" PRIu64 "\n", now, names[selection[BOARD_SELECTION_THREAD]], selection[BOARD_KEY_URGENCY], selection[BOARD_KEY_RANK]);
+        printf("at %" PRIu64 " %s, urgency %" PRIu64 " and rank %" PRIu64 "\n", now,
+               names[selection[BOARD_SELECTION_THREAD]], selection[BOARD_KEY_URGENCY], selection[BOARD_KEY_RANK]);
     }
 }
 
 static void refused(void)
 {
+    static uint64_t large[BOARD_MOST_RECORDS + 1][BOARD_ROW_WORDS];
     uint64_t lengths[BOARD_LENGTHS_WORDS] = {7, 7, 7};
     const uint64_t bad[BOARD_CONFIG_WORDS] = {10000000, 7000000, 3000000, 0, 1, 2, 3, 0};
-    say("a wrong length", board_lengths(&queue, lengths, 2));
+    say("a table of 4,097 rows", board_finish(large, BOARD_MOST_RECORDS + 1, BRAKE));
     say("a number that no row has", board_remove(&queue, table, THREADS, &path, THREADS, 0));
     say("a thread that is queued", board_enqueue(&queue, table, THREADS, &path, BRAKE, 0));
-    say("an allowance that leaves no floor", board_window(window, BOARD_WINDOW_WORDS, bad, BOARD_CONFIG_WORDS));
-    say("time that goes back", board_account(table, THREADS, BRAKE, window, BOARD_WINDOW_WORDS, BOARD_MODE_PRIORITY, 2, 1));
-    say("lengths", board_lengths(&queue, lengths, BOARD_LENGTHS_WORDS));
-    printf("FIFO %" PRIu64 ", Fair and Budget %" PRIu64 ", Budget %" PRIu64 "\n", lengths[BOARD_LENGTHS_REAL_TIME], lengths[BOARD_LENGTHS_FAIR], lengths[BOARD_LENGTHS_BUDGET]);
+    say("an allowance that leaves no floor", board_window(window, bad));
+    say("time that goes back", board_account(table, THREADS, BRAKE, window, BOARD_MODE_PRIORITY, 2, 1));
+    say("lengths", board_lengths(&queue, lengths));
+    printf("FIFO %" PRIu64 ", Fair and Budget %" PRIu64 ", Budget %" PRIu64 "\n", lengths[BOARD_LENGTHS_REAL_TIME],
+           lengths[BOARD_LENGTHS_FAIR], lengths[BOARD_LENGTHS_BUDGET]);
 }
 
 int main(void)
@@ -84,7 +88,7 @@ int main(void)
     fill_sway(table[SWAY_B]);
     fill(table[BRAKE], BOARD_POLICY_FIFO, BOARD_ROLE_PRIORITY);
     say("new queue", board_new(&queue));
-    say("new window", board_window(window, BOARD_WINDOW_WORDS, config, BOARD_CONFIG_WORDS));
+    say("new window", board_window(window, config));
     choose(0);
     enqueue(SWAY_B, 5600000);
     enqueue(SWAY_A, 5700000);

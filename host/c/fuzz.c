@@ -1,9 +1,12 @@
-/* Every entry of board.h on any words and any lengths: fuzz [--calls N] [--seed S].
+/* Every entry of board.h on any words and tables of any length: fuzz [--calls N] [--seed S].
  *
- * Each lent thing stands in pages of its own between pages that nobody may touch, directly before the one behind or directly behind the one before; on its other side words are
- * watched. Tables have 0 to some hundred rows, at times 4,096 and 4,097. A round starts from a new queue and sound rows, and its words are then damaged at times, or from words of any kind.
- * A fault is: a crash, a call that takes longer than a second or two, a word read or written outside, a word changed that is only to be read, an answer that document 01 does not have for the
- * entry, 10, 5, 9 or 4 where another is due or missed, a halt without its mark, and a change by a refusal that leaves everything. The table of answers is printed; the last line is
+ * Each lent thing stands in pages of its own between pages that nobody may touch, directly before the one behind or
+ * directly behind the one before; on its other side words are watched. Tables have 0 to some hundred rows, at times
+ * 4,096 and 4,097. A round starts from a new queue and sound rows, and its words are then damaged at times, or from
+ * words of any kind. A fault is: a crash, a call that takes longer than a second or two, a word read or written
+ * outside, a word changed that is only to be read, an answer that document 01 does not have for the entry, 10, 5, 9 or
+ * 4 where another is due or missed, a halt without its mark, and a change by a refusal that leaves everything. The
+ * table of answers is printed; the last line is
  * `fuzz: N calls, 0 faults`, and the exit status then 0. */
 #define _GNU_SOURCE
 #include <inttypes.h>
@@ -64,7 +67,8 @@ struct lent {
 
 static struct lent queue, path, table, window, config, turns, current, demand, key, ready, answer;
 
-static struct lent *const all[] = {&queue, &path, &table, &window, &config, &turns, &current, &demand, &key, &ready, &answer};
+static struct lent *const all[] = {&queue, &path, &table, &window, &config, &turns, &current, &demand, &key, &ready,
+                                   &answer};
 
 static void make_room(struct lent *thing, size_t words)
 {
@@ -82,7 +86,8 @@ static void place(struct lent *thing, size_t words)
 {
     thing->words = words;
     thing->at_the_end = one_in(2);
-    thing->at = (uint64_t *)(void *)(thing->at_the_end ? thing->begin + thing->room - words * sizeof(uint64_t) : thing->begin);
+    thing->at = (uint64_t *)(void *)(thing->at_the_end ? thing->begin + thing->room - words * sizeof(uint64_t)
+                                     : thing->begin);
 }
 
 /* The watched words of the side that has no page behind it. */
@@ -128,7 +133,8 @@ static uint64_t meaning(const uint64_t *w)
 /* ---- the caller's own words, which go from call to call ---- */
 
 static size_t rows;
-static uint64_t own_window[BOARD_WINDOW_WORDS], own_turns[BOARD_TURNS_WORDS], own_current[BOARD_ROW_WORDS], own_demand[BOARD_DEMAND_WORDS], own_key[BOARD_KEY_WORDS],
+static uint64_t own_window[BOARD_WINDOW_WORDS], own_turns[BOARD_TURNS_WORDS], own_current[BOARD_ROW_WORDS],
+own_demand[BOARD_DEMAND_WORDS], own_key[BOARD_KEY_WORDS],
     own_selection[BOARD_SELECTION_WORDS], own_config[BOARD_CONFIG_WORDS];
 static uint64_t now_ns, period;
 
@@ -231,7 +237,8 @@ static void begin_round(void)
     }
 }
 
-/* A few words overwritten or a bit of them turned. The mark of a halted queue is taken away at times, so that a round goes on. */
+/* A few words overwritten or a bit of them turned. The mark of a halted queue is taken away at times, so that a round
+   goes on. */
 static void damage(void)
 {
     struct lent *const things[] = {&queue, &table, &table};
@@ -258,10 +265,13 @@ static void damage(void)
 
 /* ---- one call ---- */
 
-enum entry { NEW, ENQUEUE, FRONT, REMOVE, LENGTHS, WINDOW, SELECT, PREPARE, ACCOUNT, CANDIDATE, EXPIRED, FINISH, KEY, SWITCH, DEADLINE, ENTRIES };
+enum entry { NEW, ENQUEUE, FRONT, REMOVE, LENGTHS, WINDOW, SELECT, PREPARE, ACCOUNT, CANDIDATE, EXPIRED, FINISH, KEY,
+            SWITCH, DEADLINE, ENTRIES };
 
-static const char *const names[ENTRIES] = {"board_new", "board_enqueue", "board_enqueue_front", "board_remove", "board_lengths", "board_window", "board_select", "board_prepare",
-                                           "board_account", "board_candidate", "board_expired", "board_finish", "board_key", "board_switch", "board_deadline"};
+static const char *const names[ENTRIES] = {"board_new", "board_enqueue", "board_enqueue_front", "board_remove",
+                                           "board_lengths", "board_window", "board_select", "board_prepare",
+                                           "board_account", "board_candidate", "board_expired", "board_finish",
+                                           "board_key", "board_switch", "board_deadline"};
 
 #define BIT(n) (1u << (n))
 
@@ -271,16 +281,16 @@ static const unsigned allowed[ENTRIES] = {
     BIT(0) | BIT(1) | BIT(2) | BIT(3) | BIT(4) | BIT(9) | BIT(10) | BIT(11),
     BIT(0) | BIT(1) | BIT(2) | BIT(3) | BIT(4) | BIT(9) | BIT(10) | BIT(11),
     BIT(0) | BIT(1) | BIT(2) | BIT(4) | BIT(9) | BIT(10) | BIT(11),
-    BIT(0) | BIT(10),
-    BIT(0) | BIT(5) | BIT(10),
+    BIT(0),
+    BIT(0) | BIT(5),
     BIT(0) | BIT(1) | BIT(5) | BIT(9) | BIT(10) | BIT(11),
     BIT(0) | BIT(3) | BIT(4) | BIT(8) | BIT(10) | BIT(11),
     BIT(0) | BIT(4) | BIT(5) | BIT(7) | BIT(10) | BIT(11),
     BIT(0) | BIT(4) | BIT(10) | BIT(11),
     BIT(0) | BIT(4) | BIT(10) | BIT(11),
     BIT(0) | BIT(4) | BIT(10) | BIT(11),
-    BIT(0) | BIT(5) | BIT(10),
-    BIT(0) | BIT(10),
+    BIT(0) | BIT(5),
+    BIT(0),
     BIT(0) | BIT(4) | BIT(5) | BIT(10) | BIT(11),
 };
 
@@ -308,30 +318,22 @@ static const unsigned lends[ENTRIES] = {
 static uint64_t counts[ENTRIES][ANSWERS];
 static uint64_t calls, faults, seed = 1;
 static enum entry entry;
-static bool wrong_length;
 static uint64_t id;
 
 static void fault(const char *what, uint64_t got)
 {
     faults++;
     if (faults <= SHOWN) {
-        printf("fault: %s, call %" PRIu64 " of seed %" PRIu64 ": %s (%" PRIu64 ")\n", names[entry], calls, seed, what, got);
+        printf("fault: %s, call %" PRIu64 " of seed %" PRIu64 ": %s (%" PRIu64 ")\n", names[entry], calls, seed, what,
+               got);
     }
 }
 
-/* Lends own words in a slice that mostly has the length it is to have. */
-static size_t lend(struct lent *thing, const uint64_t *own, size_t length)
+/* Lends own words in an array of their length. */
+static void lend(struct lent *thing, const uint64_t *own, size_t length)
 {
-    size_t words = length;
-    if (one_in(48)) {
-        words = one_in(2) ? below(40) : length + 1 - 2 * below(2);
-        wrong_length |= words != length;
-    }
-    place(thing, words);
-    for (size_t k = 0; k < words; k++) {
-        thing->at[k] = k < length ? own[k] : any();
-    }
-    return words;
+    place(thing, length);
+    memcpy(thing->at, own, length * sizeof *own);
 }
 
 static void take_back(const struct lent *thing, uint64_t *own, size_t length)
@@ -349,7 +351,8 @@ static bool sound_config(const uint64_t *w)
             return false;
         }
     }
-    return its_period != 0 && its_period <= 1000000000 && floor != 0 && floor < its_period && w[BOARD_WINDOW_ALLOWANCE] < its_period - floor;
+    return its_period != 0 && its_period <= 1000000000 && floor != 0 && floor < its_period
+        && w[BOARD_WINDOW_ALLOWANCE] < its_period - floor;
 }
 
 static bool is_halted(void)
@@ -361,7 +364,7 @@ static bool is_halted(void)
 static uint64_t due(void)
 {
     unsigned its = lends[entry];
-    if (wrong_length || ((its & LENDS_TABLE) && rows > BOARD_MOST_RECORDS)) {
+    if ((its & LENDS_TABLE) && rows > BOARD_MOST_RECORDS) {
         return BOARD_BAD_TABLE;
     }
     if (entry == WINDOW && !sound_config(config.at)) {
@@ -415,27 +418,28 @@ static uint64_t start_before(uint64_t end)
 
 typedef uint64_t (*row_array)[BOARD_ROW_WORDS];
 
-static uint64_t made(size_t w, size_t c, size_t d, size_t k, size_t r, size_t o, size_t u, size_t f)
+static uint64_t made(void)
 {
     board_queue *q = (board_queue *)(void *)queue.at;
     board_path *p = (board_path *)(void *)path.at;
     row_array t = (row_array)(void *)table.at;
+    uint64_t *w = window.at, *c = current.at, *d = demand.at, *k = key.at, *o = answer.at;
     switch (entry) {
     case NEW: return board_new(q);
     case ENQUEUE: return board_enqueue(q, t, rows, p, id, processor());
     case FRONT: return board_enqueue_front(q, t, rows, p, id, processor());
     case REMOVE: return board_remove(q, t, rows, p, id, processor());
-    case LENGTHS: return board_lengths(q, answer.at, o);
-    case WINDOW: return board_window(window.at, w, config.at, f);
-    case SELECT: return board_select(q, t, rows, p, processor(), now_ns, window.at, w, flag(), current.at, c, answer.at, o);
-    case PREPARE: return board_prepare(t, rows, id, flag(), now_ns, turns.at, u);
-    case ACCOUNT: return board_account(t, rows, id, window.at, w, one_in(8) ? number() : below(5), start_before(now_ns), now_ns);
-    case CANDIDATE: return board_candidate(t, rows, id, flag(), now_ns, current.at, c);
-    case EXPIRED: return board_expired(t, rows, id, answer.at, o);
+    case LENGTHS: return board_lengths(q, o);
+    case WINDOW: return board_window(w, config.at);
+    case SELECT: return board_select(q, t, rows, p, processor(), now_ns, w, flag(), c, o);
+    case PREPARE: return board_prepare(t, rows, id, flag(), now_ns, turns.at);
+    case ACCOUNT: return board_account(t, rows, id, w, one_in(8) ? number() : below(5), start_before(now_ns), now_ns);
+    case CANDIDATE: return board_candidate(t, rows, id, flag(), now_ns, c);
+    case EXPIRED: return board_expired(t, rows, id, o);
     case FINISH: return board_finish(t, rows, id);
-    case KEY: return board_key(window.at, w, now_ns, current.at, c, demand.at, d, key.at, k);
-    case SWITCH: return board_switch(ready.at, r, key.at, k, current.at, c, flag(), flag(), flag(), answer.at, o);
-    default: return board_deadline(t, rows, id, now_ns, key.at, k, window.at, w, flag(), flag(), flag(), demand.at, d, answer.at, o);
+    case KEY: return board_key(w, now_ns, c, d, k);
+    case SWITCH: return board_switch(ready.at, k, c, flag(), flag(), flag(), o);
+    default: return board_deadline(t, rows, id, now_ns, k, w, flag(), flag(), flag(), d, o);
     }
 }
 
@@ -466,10 +470,12 @@ static bool entry_lends(const struct lent *thing)
     }
 }
 
-/* Lends a slice where the entry takes it, else nothing. */
-static size_t lent_to_entry(struct lent *thing, const uint64_t *own, size_t length)
+/* Lends an array where the entry takes it, else nothing. */
+static void lent_to_entry(struct lent *thing, const uint64_t *own, size_t length)
 {
-    return entry_lends(thing) ? lend(thing, own, length) : length;
+    if (entry_lends(thing)) {
+        lend(thing, own, length);
+    }
 }
 
 /* What the entry may change, whatever it answers. */
@@ -490,10 +496,12 @@ static bool may_change(const struct lent *thing)
     if (thing == &key) {
         return entry == KEY;
     }
-    return thing == &window ? entry != SWITCH : thing == &turns ? entry == PREPARE : thing == &answer ? entry != KEY : false;
+    return thing == &window ? entry != SWITCH : thing == &turns ? entry == PREPARE : thing == &answer ? entry != KEY
+        : false;
 }
 
-/* Whether a refusal leaves the queue and the table as they were: all but what selection did before it met damage, and a halt. */
+/* Whether a refusal leaves the queue and the table as they were: all but what selection did before it met damage, and a
+   halt. */
 static bool leaves_all(uint64_t number, bool halted_before)
 {
     if (number == BOARD_HALTED) {
@@ -517,7 +525,7 @@ static void judge(uint64_t got, uint64_t wanted, bool halted_before, uint64_t me
         fault("a halt without its mark", got);
     }
     bool leaves = got != BOARD_MADE && leaves_all(got, halted_before);
-    if (leaves && entry_lends(&window) && window.words == BOARD_WINDOW_WORDS && meaning(window.at) != meant) {
+    if (leaves && entry_lends(&window) && meaning(window.at) != meant) {
         fault("a refusal changes the window", got);
     }
     for (size_t i = 0; i < sizeof all / sizeof *all; i++) {
@@ -525,7 +533,8 @@ static void judge(uint64_t got, uint64_t wanted, bool halted_before, uint64_t me
         if (thing->at == NULL) {
             continue;
         }
-        bool kept = !may_change(thing) || wrong_length || (leaves && thing != &window) || (got != BOARD_MADE && (thing == &answer || thing == &key || thing == &current));
+        bool answers = thing == &answer || thing == &key || thing == &current;
+        bool kept = !may_change(thing) || (leaves && thing != &window) || (got != BOARD_MADE && answers);
         if (kept && thing != &path && !unchanged(thing)) {
             fault("words that were to stay are changed", i);
         }
@@ -562,8 +571,6 @@ static void caught(int number)
 
 static void call(void)
 {
-    static size_t w, c, d, k, r, o, u, f;
-    wrong_length = false;
     entry = (enum entry)below(ENTRIES);
     if (entry == NEW && !one_in(16)) {
         entry = one_in(2) ? SELECT : ENQUEUE;
@@ -571,17 +578,17 @@ static void call(void)
     id = a_thread();
     tick();
     place(&path, BOARD_PATH_ROWS * BOARD_PATH_ROW_WORDS);
-    w = lent_to_entry(&window, own_window, BOARD_WINDOW_WORDS);
+    lent_to_entry(&window, own_window, BOARD_WINDOW_WORDS);
     if (entry == WINDOW && one_in(2)) {
         own_config[below(BOARD_CONFIG_WORDS)] = number();
     }
-    f = lent_to_entry(&config, own_config, BOARD_CONFIG_WORDS);
-    c = lent_to_entry(&current, own_current, BOARD_ROW_WORDS);
-    d = lent_to_entry(&demand, own_demand, BOARD_DEMAND_WORDS);
-    k = lent_to_entry(&key, own_key, BOARD_KEY_WORDS);
-    r = lent_to_entry(&ready, own_selection, BOARD_KEY_WORDS);
-    o = lent_to_entry(&answer, own_selection, answer_length());
-    u = lent_to_entry(&turns, own_turns, BOARD_TURNS_WORDS);
+    lent_to_entry(&config, own_config, BOARD_CONFIG_WORDS);
+    lent_to_entry(&current, own_current, BOARD_ROW_WORDS);
+    lent_to_entry(&demand, own_demand, BOARD_DEMAND_WORDS);
+    lent_to_entry(&key, own_key, BOARD_KEY_WORDS);
+    lent_to_entry(&ready, own_selection, BOARD_KEY_WORDS);
+    lent_to_entry(&answer, own_selection, answer_length());
+    lent_to_entry(&turns, own_turns, BOARD_TURNS_WORDS);
     for (size_t i = 0; i < sizeof all / sizeof *all; i++) {
         if (all[i]->at != NULL) {
             all[i]->before = hash(all[i]);
@@ -593,7 +600,7 @@ static void call(void)
     }
     uint64_t wanted = due();
     bool halted_before = is_halted();
-    uint64_t meant = entry_lends(&window) && w == BOARD_WINDOW_WORDS ? meaning(window.at) : 0;
+    uint64_t meant = entry_lends(&window) ? meaning(window.at) : 0;
     static volatile uint64_t got;
     int signalled = sigsetjmp(out, 1);
     if (signalled != 0) {
@@ -603,7 +610,7 @@ static void call(void)
         return;
     }
     calling = 1;
-    got = made(w, c, d, k, r, o, u, f);
+    got = made();
     calling = 0;
     counts[entry][got < ANSWERS - 1 ? got : ANSWERS - 1]++;
     judge(got, wanted, halted_before, meant);
@@ -673,7 +680,8 @@ int main(int count, char **words)
     }
     random_state = seed;
     for (size_t i = 0; i < sizeof all / sizeof *all; i++) {
-        make_room(all[i], all[i] == &table ? (BOARD_MOST_RECORDS + 1) * BOARD_ROW_WORDS : BOARD_QUEUE_ROWS * BOARD_QUEUE_ROW_WORDS);
+        make_room(all[i], all[i] == &table ? (BOARD_MOST_RECORDS + 1) * BOARD_ROW_WORDS
+                  : BOARD_QUEUE_ROWS * BOARD_QUEUE_ROW_WORDS);
     }
     prepare_signals();
     uint64_t left = 0;

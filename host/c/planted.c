@@ -1,19 +1,23 @@
-/* Faults between the program fuzz and the library, to see that it notices them: built with -DPLANT=N and the linker's --wrap. */
+/* Faults between the program fuzz and the library, to see that it notices them: built with -DPLANT=N and the linker's
+   --wrap. */
+#include <stdbool.h>
+
 #include "board.h"
 
 static unsigned number;
 
 #if PLANT == 1
 /* One word behind the answer is written at times. */
-uint64_t __real_board_switch(const uint64_t *, size_t, const uint64_t *, size_t, const uint64_t *, size_t, uint64_t, uint64_t, uint64_t, uint64_t *, size_t);
-uint64_t __wrap_board_switch(const uint64_t *ready, size_t ready_words, const uint64_t *key, size_t key_words, const uint64_t *current, size_t current_words, uint64_t expired, uint64_t yielding,
-                             uint64_t tail, uint64_t *answer, size_t answer_words);
-uint64_t __wrap_board_switch(const uint64_t *ready, size_t ready_words, const uint64_t *key, size_t key_words, const uint64_t *current, size_t current_words, uint64_t expired, uint64_t yielding,
-                             uint64_t tail, uint64_t *answer, size_t answer_words)
+uint64_t __real_board_switch(const uint64_t *, const uint64_t *, const uint64_t *, uint64_t, uint64_t, uint64_t,
+                             uint64_t *);
+uint64_t __wrap_board_switch(const uint64_t *ready, const uint64_t *key, const uint64_t *current, uint64_t expired,
+                             uint64_t yielding, uint64_t tail, uint64_t *answer);
+uint64_t __wrap_board_switch(const uint64_t *ready, const uint64_t *key, const uint64_t *current, uint64_t expired,
+                             uint64_t yielding, uint64_t tail, uint64_t *answer)
 {
-    uint64_t got = __real_board_switch(ready, ready_words, key, key_words, current, current_words, expired, yielding, tail, answer, answer_words);
+    uint64_t got = __real_board_switch(ready, key, current, expired, yielding, tail, answer);
     if (++number % 1024 == 0) {
-        answer[answer_words] = 1;
+        answer[BOARD_SWITCH_WORDS] = 1;
     }
     return got;
 }
@@ -24,10 +28,11 @@ uint64_t __wrap_board_finish(uint64_t (*t)[BOARD_ROW_WORDS], size_t rows, uint64
 uint64_t __wrap_board_finish(uint64_t (*t)[BOARD_ROW_WORDS], size_t rows, uint64_t id)
 {
     uint64_t got = __real_board_finish(t, rows, id);
-    if (++number % 1024 != 0) {
+    bool refused = got != 0 && rows != 0;
+    if ((PLANT == 3 && !refused) || ++number % 64 != 0) {
         return got;
     }
-    if (PLANT == 3 && got != 0 && rows != 0) {
+    if (PLANT == 3) {
         t[0][31] += 1;
     }
     for (volatile int on = PLANT == 4; on;) {

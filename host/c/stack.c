@@ -1,5 +1,7 @@
-/* How much stack each entry takes: each is called on a stack of its own that was painted before, and the deepest byte that is no longer paint tells. 4,095 threads are queued in one tree; the selection
- * at a change of period moves all of them. What the calling function itself takes is measured the same way and taken off. Prints a line an entry, in bytes. */
+/* How much stack each entry takes: each is called on a stack of its own that was painted before, and the deepest byte
+ * that is no longer paint tells. 4,095 threads are queued in one tree; the selection
+ * at a change of period moves all of them. What the calling function itself takes is measured the same way and taken
+ * off. Prints a line an entry, in bytes. */
 #define _XOPEN_SOURCE 700
 #include <inttypes.h>
 #include <stdio.h>
@@ -30,26 +32,31 @@ static void new_queue(void) { answer = board_new(&queue); }
 static void enqueue(void) { answer = board_enqueue(&queue, table, THREADS, &path, 7, 0); }
 static void enqueue_front(void) { answer = board_enqueue_front(&queue, table, THREADS, &path, 7, 0); }
 static void remove_thread(void) { answer = board_remove(&queue, table, THREADS, &path, 7, 0); }
-static void lengths(void) { answer = board_lengths(&queue, words, BOARD_LENGTHS_WORDS); }
-static void new_window(void) { answer = board_window(window, BOARD_WINDOW_WORDS, config, BOARD_CONFIG_WORDS); }
+static void lengths(void) { answer = board_lengths(&queue, words); }
+static void new_window(void) { answer = board_window(window, config); }
 
 /* The first time at a change of period, from then on within it. */
 static void select_thread(void)
 {
-    answer = board_select(&queue, table, THREADS, &path, 0, 2 * PERIOD, window, BOARD_WINDOW_WORDS, 1, current, BOARD_ROW_WORDS, selection, BOARD_SELECTION_WORDS);
+    answer = board_select(&queue, table, THREADS, &path, 0, 2 * PERIOD, window, 1, current, selection);
 }
 
-static void prepare(void) { answer = board_prepare(table, THREADS, 7, 0, PERIOD, turns, BOARD_TURNS_WORDS); }
-static void account(void) { answer = board_account(table, THREADS, 7, window, BOARD_WINDOW_WORDS, BOARD_MODE_PROTECTED, PERIOD, PERIOD + 1000); }
-static void candidate(void) { answer = board_candidate(table, THREADS, 7, 1, PERIOD, current, BOARD_ROW_WORDS); }
-static void expired(void) { answer = board_expired((uint64_t(*)[BOARD_ROW_WORDS])table, THREADS, 7, words, BOARD_EXPIRED_WORDS); }
+static void prepare(void) { answer = board_prepare(table, THREADS, 7, 0, PERIOD, turns); }
+static void account(void)
+{
+    answer = board_account(table, THREADS, 7, window, BOARD_MODE_PROTECTED, PERIOD, PERIOD + 1000);
+}
+
+static void candidate(void) { answer = board_candidate(table, THREADS, 7, 1, PERIOD, current); }
+static void expired(void) { answer = board_expired(table, THREADS, 7, words); }
 static void finish(void) { answer = board_finish(table, THREADS, 7); }
-static void key_of(void) { answer = board_key(window, BOARD_WINDOW_WORDS, PERIOD, current, BOARD_ROW_WORDS, selection + BOARD_SELECTION_DEMAND, BOARD_DEMAND_WORDS, key, BOARD_KEY_WORDS); }
-static void choose(void) { answer = board_switch(selection, BOARD_KEY_WORDS, key, BOARD_KEY_WORDS, current, BOARD_ROW_WORDS, 0, 1, 0, words, BOARD_SWITCH_WORDS); }
+static void key_of(void) { answer = board_key(window, PERIOD, current, selection + BOARD_SELECTION_DEMAND, key); }
+static void choose(void) { answer = board_switch(selection, key, current, 0, 1, 0, words); }
 
 static void deadline(void)
 {
-    answer = board_deadline(table, THREADS, 7, PERIOD, key, BOARD_KEY_WORDS, window, BOARD_WINDOW_WORDS, 1, 1, 1, selection + BOARD_SELECTION_DEMAND, BOARD_DEMAND_WORDS, words, BOARD_DEADLINE_WORDS);
+    const uint64_t *demand = selection + BOARD_SELECTION_DEMAND;
+    answer = board_deadline(table, THREADS, 7, PERIOD, key, window, 1, 1, 1, demand, words);
 }
 
 /* Bytes of the painted stack that a call used. */

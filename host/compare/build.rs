@@ -1,4 +1,5 @@
-//! Links the static libraries of the port that the package calls, from STATICLIB_DIR or the repository's target/staticlib.
+//! Links the static libraries of the port that the package calls, from STATICLIB_DIR or the repository's
+//! target/staticlib.
 
 use std::env;
 use std::path::PathBuf;

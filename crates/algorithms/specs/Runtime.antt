@@ -2,7 +2,7 @@
 use Prim.Native.Nat.{ℕ}
 use mathlib.Core.Bool.{Bool}
 use lib.Dec.{eqb}
-use Rattle.refusal.specs.Answer.{Answer, value, refused}
+use Rattle.refusal.specs.Answer.{Answer, value, refused, backInTime, badRecord}
 use Rattle.refusal.specs.Cases.{choose, given, ifLess}
 use Rattle.time.specs.declared.Deadline.{Deadline}
 use Rattle.time.specs.declared.Deadline.the-variants as deadline
@@ -41,12 +41,12 @@ made p fair =
     onPolicy (p .policy)
     (λ priority. value runtime.Fifo)
     (value (runtime.Fair fair))
-    (onBudget (p .budget) (refused 11) (λ b. ofBudget (budget.made b)))
+    (onBudget (p .budget) (refused badRecord) (λ b. ofBudget (budget.made b)))
     (value runtime.Idle)
 
 -- BackInTime where the end lies before the start; else as it was.
 unfoldable pub unlessBack : PolicyRuntime → ℕ → ℕ → Answer PolicyRuntime
-unlessBack r start end = ifLess end start (refused 7) (value r)
+unlessBack r start end = ifLess end start (refused backInTime) (value r)
 
 -- FIFO, Fair, Budget and Idle as 0 to 3.
 abbrev pub runtimeKind : PolicyRuntime → ℕ
@@ -65,16 +65,17 @@ policyKind policy.Idle = 3
 unfoldable pub sameKind : PolicyRuntime → SchedulingPolicy → Bool
 sameKind r p = eqb (runtimeKind r) (policyKind p)
 
--- One execution interval closed: only a budget is charged. Policy and runtime of two kinds, or a budget that is missing, are a BadRecord.
+-- One execution interval closed: only a budget is charged. Policy and runtime of two kinds, or a budget that is
+-- missing, are a BadRecord.
 unfoldable pub accounted : PolicyRuntime → SchedulingParameters → ℕ → ℕ → Answer PolicyRuntime
 accounted r p start end =
     choose (sameKind r (p .policy))
     (onRuntime r
     (unlessBack r start end)
     (λ fair. unlessBack r start end)
-    (λ b. onBudget (p .budget) (refused 11) (λ q. ofBudget (budget.accountedInterval b start end q)))
+    (λ b. onBudget (p .budget) (refused badRecord) (λ q. ofBudget (budget.accountedInterval b start end q)))
     (unlessBack r start end))
-    (refused 11)
+    (refused badRecord)
 
 -- A budget's runtime refreshed to now; every other is as it was.
 unfoldable pub epochRefreshed : PolicyRuntime → ℕ → SchedulingParameters → Answer PolicyRuntime
@@ -91,7 +92,8 @@ unfoldable pub candidateKey : PolicyRuntime → SchedulingParameters → ℕ →
 candidateKey r p turn =
     onRuntime r
     (record { pass = zeroPass; turn = turn })
-    (λ fair. onBackend (p .«fair_backend») (record { pass = fair .pass; turn = turn }) (record { pass = zeroPass; turn = turn }))
+    (λ fair. onBackend (p .«fair_backend») (record { pass = fair .pass; turn = turn })
+    (record { pass = zeroPass; turn = turn }))
     (λ b. record { pass = zeroPass; turn = turn })
     (record { pass = zeroPass; turn = turn })
 
@@ -102,7 +104,8 @@ nextDeadline r now p competition borrow =
     (onRuntime r
     (value (r, deadline.None))
     (λ fair. given (checkedAdd now (fair .«remaining_ns»)) (λ due. value (runtime.Fair fair, due)))
-    (λ b. onBudget (p .budget) (value (runtime.Budget b, deadline.None)) (λ q. ofBudgetDeadline (budget.deadlineJudged b now q borrow)))
+    (λ b. onBudget (p .budget) (value (runtime.Budget b, deadline.None))
+    (λ q. ofBudgetDeadline (budget.deadlineJudged b now q borrow)))
     (value (r, deadline.None)))
     (value (r, deadline.None))
 

@@ -28,14 +28,16 @@ module _ {A : Type 0} {y : A} {x : PolicyRuntime} (a : A) (f : FairRuntime → A
   unfolding onRuntime
   runs-idle e h = rw e h
 
-pub kinds-compared : (x : PolicyRuntime) (p : SchedulingPolicy) {m n : ℕ} → m ≡ runtimeKind x → n ≡ policyKind p → eqb m n ≡ sameKind x p
+pub kinds-compared : (x : PolicyRuntime) (p : SchedulingPolicy) {m n : ℕ} → m ≡ runtimeKind x → n ≡ policyKind p
+    → eqb m n ≡ sameKind x p
 unfolding sameKind
 kinds-compared x p e f = rw (e, f)
 
 pub by-answer : {y : Answer PolicyRuntime} {r x : Answer BudgetRuntime} → r ≡ x → y ≡ ofBudget r → y ≡ ofBudget x
 by-answer e h = rw (sym e) h
 
-pub by-deadline : {y : Answer (PolicyRuntime × Deadline)} {r x : Answer (BudgetRuntime × Deadline)} → r ≡ x → y ≡ ofBudgetDeadline r → y ≡ ofBudgetDeadline x
+pub by-deadline : {y : Answer (PolicyRuntime × Deadline)} {r x : Answer (BudgetRuntime × Deadline)} → r ≡ x
+    → y ≡ ofBudgetDeadline r → y ≡ ofBudgetDeadline x
 by-deadline e h = rw (sym e) h
 
 pub ruleset runtimes = (runs-fifo, runs-fair, runs-budget, runs-idle, by-answer, by-deadline)

@@ -1,7 +1,9 @@
 // A thread's algorithm state. After scheduler/algorithms/mod.rs; a fair thread's pass and slice are given values.
 ghost use mathlib.Core.Path.{_≡_};
 ghost use Rattle.budget.specs.Answers.{budgetAnswer, budgetDeadline};
-ghost use Rattle.algorithms.specs.Runtime.{ofBudget, ofBudgetDeadline, made, accounted, epochRefreshed, candidateKey, nextDeadline, turnFinished, runtimeKind, policyKind, sameKind, unlessBack};
+ghost use Rattle.algorithms.specs.Runtime.{ofBudget, ofBudgetDeadline, made, accounted, epochRefreshed};
+ghost use Rattle.algorithms.specs.Runtime.{candidateKey, nextDeadline, turnFinished, runtimeKind, policyKind};
+ghost use Rattle.algorithms.specs.Runtime.{sameKind, unlessBack};
 ghost use Rattle.algorithms.specs.Answers.{runtimeAnswer, runtimeDeadline};
 use budget::BudgetAnswer;
 use budget::BudgetDeadline;

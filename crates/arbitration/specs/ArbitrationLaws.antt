@@ -43,17 +43,30 @@ refreshed-config w now = go (rises (w .epoch) (now / w .config .«period_ns»))
   where
     go : (x : Bool)
         → choose x
-        (record { config = w .config; epoch = epoch.Some (now / w .config .«period_ns»); «priority_remaining_ns» = w .config .«priority_allowance_ns»; «protected_remaining_ns» = w .config .«protected_floor_ns» })
+        (record {
+          config = w .config;
+          epoch = epoch.Some (now / w .config .«period_ns»);
+          «priority_remaining_ns» = w .config .«priority_allowance_ns»;
+          «protected_remaining_ns» = w .config .«protected_floor_ns»;
+        })
         w .config
         ≡ w .config
     go true = refl
     go false = refl
 
 -- A charged window, by what each part was charged.
-pub charged-parts : (w : CpuWindow) (start end : ℕ) (p : SchedulingParameters) (m : DispatchMode) {fresh : CpuWindow} {u v : Bool} {charge toAllowance toFloor allowance floor : ℕ}
-    → fresh ≡ refreshed w end → charge ≡ chargeOf start end (fresh .config .«period_ns») → u ≡ usesAllowance m (p .role) → v ≡ isProtected (p .role)
-    → toAllowance ≡ choose u charge 0 → toFloor ≡ choose v charge 0 → allowance ≡ fresh .«priority_remaining_ns» - toAllowance → floor ≡ fresh .«protected_remaining_ns» - toFloor
-    → record { config = fresh .config; epoch = fresh .epoch; «priority_remaining_ns» = allowance; «protected_remaining_ns» = floor } ≡ charged w start end p m
+pub charged-parts : (w : CpuWindow) (start end : ℕ) (p : SchedulingParameters) (m : DispatchMode) {fresh : CpuWindow}
+    {u v : Bool} {charge toAllowance toFloor allowance floor : ℕ}
+    → fresh ≡ refreshed w end → charge ≡ chargeOf start end (fresh .config .«period_ns») → u ≡ usesAllowance m (p .role)
+    → v ≡ isProtected (p .role)
+    → toAllowance ≡ choose u charge 0 → toFloor ≡ choose v charge 0
+    → allowance ≡ fresh .«priority_remaining_ns» - toAllowance → floor ≡ fresh .«protected_remaining_ns» - toFloor
+    → record {
+      config = fresh .config;
+      epoch = fresh .epoch;
+      «priority_remaining_ns» = allowance;
+      «protected_remaining_ns» = floor;
+    } ≡ charged w start end p m
 unfolding charged
 charged-parts w start end p m e f g h i j k l = rw (k, l, i, j, f, g, h, e)
 

@@ -26,7 +26,8 @@ use Rattle.arbitration.specs.Window.{isPriority, isProtected, dueAt}
 unfoldable pub exhaustedOf : Candidate → Bool
 exhaustedOf c = onPolicy (c .parameters .policy) (λ priority. false) false (not (c .«budget_available»)) false
 
--- An exhausted thread has no key while any FIFO or Fair thread, or a Budget thread with time left, asks for the processor.
+-- An exhausted thread has no key while any FIFO or Fair thread, or a Budget thread with time left, asks for the
+-- processor.
 unfoldable pub shutOut : Bool → Demand → Bool
 shutOut exhausted d = choose exhausted (choose (d .fair) true (d .«eligible_budget»)) false
 
@@ -48,7 +49,8 @@ favoured w p =
 unfoldable pub algorithmOf : Candidate → AlgorithmOption
 algorithmOf c =
     onPolicy (c .parameters .policy)
-    (λ priority. given (priority .0) (λ number. algorithm.Some (record { rank = 0; key = record { high = 0; low = number } })))
+    (λ priority. given (priority .0)
+    (λ number. algorithm.Some (record { rank = 0; key = record { high = 0; low = number } })))
     (onBackend (c .parameters .«fair_backend»)
     (algorithm.Some (record { rank = 1; key = c .«fair_pass» }))
     (algorithm.Some (record { rank = 1; key = record { high = 0; low = c .turn } })))
@@ -71,9 +73,11 @@ tierOf w now p exhausted d =
     (λ due. choose (hurried due (p .role) exhausted) (record { urgency = 1; rank = 0; mode = mode.Protected })
     (choose exhausted (record { urgency = 2; rank = w .config .order .«borrow_rank»; mode = mode.Borrow })
     (choose (favoured w p) (record { urgency = 2; rank = w .config .order .«priority_rank»; mode = mode.Priority })
-    (given (ordinaryRank (p .policy) (w .config .order)) (λ rank. record { urgency = 2; rank = rank; mode = mode.Ordinary }))))))
+    (given (ordinaryRank (p .policy) (w .config .order))
+    (λ rank. record { urgency = 2; rank = rank; mode = mode.Ordinary }))))))
 
--- The key and mode of a candidate, of a window that is refreshed to now; none for Idle, for a budget of another period, and for an exhausted thread that is shut out.
+-- The key and mode of a candidate, of a window that is refreshed to now; none for Idle, for a budget of another period,
+-- and for an exhausted thread that is shut out.
 unfoldable pub keyOf : CpuWindow → ℕ → Candidate → Demand → KeyOption
 keyOf w now c d =
     choose (acceptsBudget (w .config) (c .parameters))
@@ -82,6 +86,13 @@ keyOf w now c d =
     (onAlgorithm (algorithmOf c) key.None
     (λ a. given (tierOf w now (c .parameters) exhausted d)
     (λ t. key.Some
-    (record { urgency = t .urgency; rank = t .rank; «algorithm_rank» = a .rank; algorithm = a .key; band = c .parameters .band .0; turn = c .turn })
+    (record {
+      urgency = t .urgency;
+      rank = t .rank;
+      «algorithm_rank» = a .rank;
+      algorithm = a .key;
+      band = c .parameters .band .0;
+      turn = c .turn;
+    })
     (t .mode))))))
     key.None

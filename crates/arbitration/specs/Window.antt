@@ -2,7 +2,7 @@
 use Prim.Native.Nat.{ℕ, _-_, _/_, max}
 use mathlib.Core.Bool.{Bool, true, false}
 use lib.Dec.{eqb}
-use Rattle.refusal.specs.Answer.{Answer, value, refused}
+use Rattle.refusal.specs.Answer.{Answer, value, refused, badConfig}
 use Rattle.refusal.specs.Cases.{choose, given, ifEqual}
 use Rattle.time.specs.declared.Epoch.the-variants as epoch
 use Rattle.time.specs.declared.Deadline.{Deadline}
@@ -22,15 +22,25 @@ use Rattle.window_config.specs.Config.{soundConfig}
 unfoldable pub newWindow : ArbitrationConfig → Answer CpuWindow
 newWindow c =
     choose (soundConfig c)
-    (value (record { config = c; epoch = epoch.None; «priority_remaining_ns» = c .«priority_allowance_ns»; «protected_remaining_ns» = c .«protected_floor_ns» }))
-    (refused 5)
+    (value (record {
+      config = c;
+      epoch = epoch.None;
+      «priority_remaining_ns» = c .«priority_allowance_ns»;
+      «protected_remaining_ns» = c .«protected_floor_ns»;
+    }))
+    (refused badConfig)
 
 -- Allowance and floor are whole again when the epoch rises; otherwise nothing changes.
 unfoldable pub refreshed : CpuWindow → ℕ → CpuWindow
 refreshed w now =
     given (now / w .config .«period_ns»)
     (λ now-epoch. choose (rises (w .epoch) now-epoch)
-    (record { config = w .config; epoch = epoch.Some now-epoch; «priority_remaining_ns» = w .config .«priority_allowance_ns»; «protected_remaining_ns» = w .config .«protected_floor_ns» })
+    (record {
+      config = w .config;
+      epoch = epoch.Some now-epoch;
+      «priority_remaining_ns» = w .config .«priority_allowance_ns»;
+      «protected_remaining_ns» = w .config .«protected_floor_ns»;
+    })
     w)
 
 unfoldable pub isPriority : SchedulingRole → Bool
@@ -51,17 +61,23 @@ onMode mode.Borrow strict priority protected ordinary borrow = borrow
 unfoldable pub usesAllowance : DispatchMode → SchedulingRole → Bool
 usesAllowance m r = onMode m (isPriority r) true (isPriority r) (isPriority r) (isPriority r)
 
--- Only the part of the interval in the period that holds its end is charged: to the allowance, and for a protected thread to the floor.
+-- Only the part of the interval in the period that holds its end is charged: to the allowance, and for a protected
+-- thread to the floor.
 unfoldable pub charged : CpuWindow → ℕ → ℕ → SchedulingParameters → DispatchMode → CpuWindow
 charged w start end p m =
     record {
       config = (refreshed w end) .config;
       epoch = (refreshed w end) .epoch;
-      «priority_remaining_ns» = (refreshed w end) .«priority_remaining_ns» - choose (usesAllowance m (p .role)) (chargeOf start end ((refreshed w end) .config .«period_ns»)) 0;
-      «protected_remaining_ns» = (refreshed w end) .«protected_remaining_ns» - choose (isProtected (p .role)) (chargeOf start end ((refreshed w end) .config .«period_ns»)) 0;
+      «priority_remaining_ns» =
+          (refreshed w end) .«priority_remaining_ns» - choose (usesAllowance m (p .role))
+          (chargeOf start end ((refreshed w end) .config .«period_ns»)) 0;
+      «protected_remaining_ns» =
+          (refreshed w end) .«protected_remaining_ns» - choose (isProtected (p .role))
+          (chargeOf start end ((refreshed w end) .config .«period_ns»)) 0;
     }
 
--- Of a refreshed window: the latest start that still gives waiting protected threads their floor, or now where that is past.
+-- Of a refreshed window: the latest start that still gives waiting protected threads their floor, or now where that is
+-- past.
 unfoldable pub protectionDeadline : CpuWindow → ℕ → Bool → Deadline
 protectionDeadline w now waiting =
     choose waiting
@@ -78,7 +94,8 @@ dueAt w now waiting = onDeadline (protectionDeadline w now waiting) false (λ t.
 unfoldable pub atRenewal : Demand → Deadline → Deadline
 atRenewal d end = choose (d .«any_budget») end (choose (d .«window_sensitive») end deadline.None)
 
--- Of a refreshed window with competition: the earliest of the period's end, what the mode has left, and the protection deadline.
+-- Of a refreshed window with competition: the earliest of the period's end, what the mode has left, and the protection
+-- deadline.
 unfoldable pub nextDeadline : CpuWindow → ℕ → DispatchMode → Demand → Deadline
 nextDeadline w now m d =
     given (periodEnd now (w .config .«period_ns»))
@@ -86,7 +103,8 @@ nextDeadline w now m d =
     (λ period. given (protectionDeadline w now (d .protected))
     (λ protection. onMode m
     deadline.None
-    (given (checkedAdd now (w .«priority_remaining_ns»)) (λ spent. given (earliestOf period spent) (λ first. earliestOf first protection)))
+    (given (checkedAdd now (w .«priority_remaining_ns»))
+    (λ spent. given (earliestOf period spent) (λ first. earliestOf first protection)))
     (given (checkedAdd now (w .«protected_remaining_ns»)) (λ spent. earliestOf period spent))
     (earliestOf period protection)
     (earliestOf period protection))))

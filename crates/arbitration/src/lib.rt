@@ -1,12 +1,15 @@
-// CPU windows and dispatch keys. After scheduler/algorithms/arbitration.rs; a window goes in by value and comes back with the answer.
+// CPU windows and dispatch keys. After scheduler/algorithms/arbitration.rs; a window goes in by value and comes back
+// with the answer.
 mod tests;
 
 pub use tests::is_priority;
 pub use tests::is_protected;
 ghost use mathlib.Core.Path.{_≡_};
-ghost use Rattle.arbitration.specs.Window.{newWindow, refreshed, charged, protectionDeadline, dueAt, nextDeadline};
+ghost use Rattle.arbitration.specs.Window.{newWindow, refreshed, charged, protectionDeadline, dueAt};
+ghost use Rattle.arbitration.specs.Window.{nextDeadline};
 ghost use Rattle.arbitration.specs.Key.{tierOf, keyOf};
-ghost use Rattle.arbitration.specs.Calls.{refreshCall, accountCall, periodDeadlineCall, protectionCall, keyCall, nextDeadlineCall};
+ghost use Rattle.arbitration.specs.Calls.{refreshCall, accountCall, periodDeadlineCall, protectionCall, keyCall};
+ghost use Rattle.arbitration.specs.Calls.{nextDeadlineCall};
 ghost use Rattle.arbitration.specs.Answers.{windowMade, windowStep, windowDeadline, windowKey};
 use algorithms::Wide;
 use budget::DeadlineAnswer;

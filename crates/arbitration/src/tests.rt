@@ -1,5 +1,5 @@
-// The tests of a thread's role, policy and demand that keys, charges and deadlines go by. They take the parts that they look at, not whole parameters or candidates:
-// a struct with many fields is dear at each step of a function's proof.
+// The tests of a thread's role, policy and demand that keys, charges and deadlines go by. They take the parts that they
+// look at, not whole parameters or candidates: a struct with many fields is dear at each step of a function's proof.
 ghost use mathlib.Core.Path.{_≡_};
 ghost use mathlib.Core.Bool.{true, false, not};
 ghost use Rattle.refusal.specs.Cases.{choose, given, ifEqual};
@@ -129,14 +129,17 @@ pub fn is_exhausted(policy: SchedulingPolicy, budget_available: bool) -> bool
     }
 }
 
-// `favoured`, by what the window has left of the allowance, whether it prefers fair threads, and the parameters' policy and role.
+// `favoured`, by what the window has left of the allowance, whether it prefers fair threads, and the parameters' policy
+// and role.
 pub fn is_favoured(
     priority_remaining_ns: u64,
     prefer_fair: bool,
     policy: SchedulingPolicy,
     role: SchedulingRole,
 ) -> bool
-    ensures { λ r. ⌜ r ≡ ifEqual «priority_remaining_ns» 0 false (choose (isPriority role) true (choose «prefer_fair» (onPolicy policy (λ priority. false) true false false) false)) ⌝ }
+    ensures { λ r. ⌜ r ≡ ifEqual «priority_remaining_ns» 0 false
+        (choose (isPriority role) true
+        (choose «prefer_fair» (onPolicy policy (λ priority. false) true false false) false)) ⌝ }
 {
     if priority_remaining_ns == 0 {
         return false;
@@ -164,14 +167,20 @@ fn algorithm(rank: u8, high: u64, low: u64) -> AlgorithmOption
     })
 }
 
-// `algorithmOf`, by the candidate's policy, backend, pass and turn: the priority for FIFO, the pass for Stride, otherwise the turn; none for Idle.
+// `algorithmOf`, by the candidate's policy, backend, pass and turn: the priority for FIFO, the pass for Stride,
+// otherwise the turn; none for Idle.
 pub fn algorithm_of(
     policy: SchedulingPolicy,
     backend: FairBackend,
     pass: Wide,
     turn: u64,
 ) -> AlgorithmOption
-    ensures { λ r. ⌜ r ≡ onPolicy policy (λ priority. given (priority .0) (λ number. AlgorithmOption.Some (record { rank = 0; key = record { high = 0; low = number } }))) (onBackend backend (AlgorithmOption.Some (record { rank = 1; key = pass })) (AlgorithmOption.Some (record { rank = 1; key = record { high = 0; low = turn } }))) (AlgorithmOption.Some (record { rank = 2; key = record { high = 0; low = turn } })) AlgorithmOption.None ⌝ }
+    ensures { λ r. ⌜ r ≡ onPolicy policy
+        (λ priority. given (priority .0)
+        (λ number. AlgorithmOption.Some (record { rank = 0; key = record { high = 0; low = number } })))
+        (onBackend backend (AlgorithmOption.Some (record { rank = 1; key = pass }))
+        (AlgorithmOption.Some (record { rank = 1; key = record { high = 0; low = turn } })))
+        (AlgorithmOption.Some (record { rank = 2; key = record { high = 0; low = turn } })) AlgorithmOption.None ⌝ }
 {
     match policy {
         SchedulingPolicy::Fifo { priority } => algorithm(0, 0, of_byte(priority.0)),

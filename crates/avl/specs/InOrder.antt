@@ -38,10 +38,13 @@ outward-right-in-order leaf = refl
 outward-right-in-order (node a j b) =
     choose-in-order (ltb (height b) (height a)) (rotateRight a j b) (node a j b) (rotate-right-in-order a j b)
 
-balance-by-in-order : (s : Lean) (l : Tree) (i : ℕ) (r : Tree) → inOrder (balanceBy s l i r) ≡ inOrder l ++ i ∷ inOrder r
+balance-by-in-order : (s : Lean) (l : Tree) (i : ℕ) (r : Tree)
+    → inOrder (balanceBy s l i r) ≡ inOrder l ++ i ∷ inOrder r
 unfolding balanceBy inOrder
-balance-by-in-order Left l i r = rotate-right-in-order (outwardLeft l) i r ∙ ap (λ x. x ++ i ∷ inOrder r) (outward-left-in-order l)
-balance-by-in-order Right l i r = rotate-left-in-order l i (outwardRight r) ∙ ap (λ x. inOrder l ++ i ∷ x) (outward-right-in-order r)
+balance-by-in-order Left l i r =
+    rotate-right-in-order (outwardLeft l) i r ∙ ap (λ x. x ++ i ∷ inOrder r) (outward-left-in-order l)
+balance-by-in-order Right l i r =
+    rotate-left-in-order l i (outwardRight r) ∙ ap (λ x. inOrder l ++ i ∷ x) (outward-right-in-order r)
 balance-by-in-order Even l i r = refl
 
 -- Balancing a node keeps the in-order list.

@@ -36,5 +36,7 @@ after (rightOf l i ∷ z) = after z
 -- The frames of a balanced tree, with a subtree of height h at the end of the path.
 abbrev pub BalancedAround : ℕ → List Frame → Type 0
 BalancedAround h [] = Unit {0}
-BalancedAround h (leftOf i r ∷ z) = record { side : Balanced r; near : Near h (height r); above : BalancedAround (suc (max h (height r))) z }
-BalancedAround h (rightOf l i ∷ z) = record { side : Balanced l; near : Near (height l) h; above : BalancedAround (suc (max (height l) h)) z }
+BalancedAround h (leftOf i r ∷ z) =
+    record { side : Balanced r; near : Near h (height r); above : BalancedAround (suc (max h (height r))) z }
+BalancedAround h (rightOf l i ∷ z) =
+    record { side : Balanced l; near : Near (height l) h; above : BalancedAround (suc (max (height l) h)) z }

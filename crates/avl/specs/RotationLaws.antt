@@ -25,9 +25,11 @@ leans a b = go (ltb b a) (ltb 1 (a - b)) (ltb 1 (b - a)) refl refl refl
     go : (x y z : Bool) → ltb b a ≡ x → ltb 1 (a - b) ≡ y → ltb 1 (b - a) ≡ z
         → Leans (choose x (choose y Left Even) (choose z Right Even)) a b
     go true true z p q r = let h : 1 < a - b = ltb-true _ _ q in omega arith
-    go true false z p q r = let h : b < a = ltb-true _ _ p in let k : a - b ≤ 1 = ltb-false _ _ q in (omega arith, omega arith)
+    go true false z p q r =
+        let h : b < a = ltb-true _ _ p in let k : a - b ≤ 1 = ltb-false _ _ q in (omega arith, omega arith)
     go false y true p q r = let h : 1 < b - a = ltb-true _ _ r in omega arith
-    go false y false p q r = let h : a ≤ b = ltb-false _ _ p in let k : b - a ≤ 1 = ltb-false _ _ r in (omega arith, omega arith)
+    go false y false p q r =
+        let h : a ≤ b = ltb-false _ _ p in let k : b - a ≤ 1 = ltb-false _ _ r in (omega arith, omega arith)
 
 module _ {A : Type 0} {y : A} {r x : Lean} (a b c : A) where
   pub leans-left : r ≡ x → r ≡ Left → y ≡ a → y ≡ onLean x a b c

@@ -23,7 +23,8 @@ fibonacci-monotone : (a b : ℕ) → a ≤ b → fibonacci (suc a) ≤ fibonacci
 fibonacci-monotone a b h = rw (add-sub-of-le h) at (fibonacci-rises a (b - a))
 
 -- Of two heights that differ by at most one, the higher second.
-two-sides : (a b : ℕ) → a ≤ b → b ≤ suc a → fibonacci (suc (suc (suc b))) ≤ fibonacci (suc (suc a)) + fibonacci (suc (suc b))
+two-sides : (a b : ℕ) → a ≤ b → b ≤ suc a
+    → fibonacci (suc (suc (suc b))) ≤ fibonacci (suc (suc a)) + fibonacci (suc (suc b))
 unfolding fibonacci
 two-sides a b p q = omega (arith, fibonacci-monotone b (suc a) q)
 
@@ -39,7 +40,12 @@ least-plus-one : (t : Tree) → Balanced t → fibonacci (suc (suc (height t))) 
 unfolding fibonacci
 least-plus-one leaf b = le-refl 1
 least-plus-one (node l i r) b =
-    omega (arith, either-way (height l) (height r) (b .near .0) (b .near .1), least-plus-one l (b .left), least-plus-one r (b .right))
+    omega (
+      arith,
+      either-way (height l) (height r) (b .near .0) (b .near .1),
+      least-plus-one l (b .left),
+      least-plus-one r (b .right),
+    )
 
 -- A balanced tree of height h has at least F(h + 2) − 1 nodes.
 pub least-nodes : (t : Tree) → Balanced t → fibonacci (height t + 2) - 1 ≤ size t
@@ -51,7 +57,8 @@ height-bound h t b n = go (decLe (height t) h)
   where
     go : Dec (height t ≤ h) → height t ≤ h
     go (yes k) = k
-    go (no k) = absurd (omega (arith, least-plus-one t b, fibonacci-monotone (suc (suc h)) (suc (height t)) (omega arith)))
+    go (no k) =
+        absurd (omega (arith, least-plus-one t b, fibonacci-monotone (suc (suc h)) (suc (height t)) (omega arith)))
 
 -- F(19) = 4,181, so 4,096 nodes make a tree of height 16 at most.
 pub height-of-table : (t : Tree) → Balanced t → size t ≤ 4096 → height t ≤ 16
@@ -67,7 +74,8 @@ height-of-small-table t b n = let f : 89 ≤ fibonacci 11 = lit≤ tt in height-
 pub in-order-length : (t : Tree) → length (inOrder t) ≡ size t
 unfolding inOrder
 in-order-length leaf = refl
-in-order-length (node l i r) = length-append (inOrder l) (i ∷ inOrder r) ∙ omega (arith, in-order-length l, in-order-length r)
+in-order-length (node l i r) =
+    length-append (inOrder l) (i ∷ inOrder r) ∙ omega (arith, in-order-length l, in-order-length r)
 
 -- A path and the subtree at its end are no longer than the tree is high.
 pub path-length : (z : List Frame) (t : Tree) → length z + height t ≤ height (plug z t)

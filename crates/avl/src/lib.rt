@@ -1,4 +1,5 @@
-// Balanced search trees after Adelson-Velsky and Landis (1962; Knuth, volume 3, 6.2.3): their theory is in specs/, and the one test on heights that code needs is here.
+// Balanced search trees after Adelson-Velsky and Landis (1962; Knuth, volume 3, 6.2.3): their theory is in specs/, and
+// the one test on heights that code needs is here.
 ghost use mathlib.Core.Path.{_≡_};
 ghost use Rattle.avl.specs.Rotation.{leanOf};
 

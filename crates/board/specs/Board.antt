@@ -1,11 +1,10 @@
--- What a call on lent words leaves: document 01's number, 0 where it was made, and what the lent words stand for. A refusal leaves an answer's words standing for what they stood for.
+-- What a call on lent words leaves: document 01's number, 0 where it was made, and what the lent words stand for. A
+-- refusal leaves an answer's words standing for what they stood for.
 use Prim.Native.Nat.{ℕ}
 use mathlib.Core.Bool.{Bool}
-use mathlib.Core.List.{List, [], _∷_}
+use mathlib.Core.List.{List}
 use mathlib.Core.Option.{Option, none, some}
-use lib.ListN.{length}
 use Rattle.refusal.specs.Answer.{Answer, value, refused}
-use Rattle.refusal.specs.Cases.{ifEqual}
 use Rattle.time.specs.declared.Deadline.{Deadline}
 use Rattle.thread.specs.declared.CpuIndex.{CpuIndex}
 use Rattle.thread.specs.declared.ThreadRecord.{ThreadRecord}
@@ -15,7 +14,7 @@ use Rattle.arbitration.specs.declared.KeyOption.{KeyOption}
 use Rattle.arbitration.specs.Calls.{With, with}
 use Rattle.codec.specs.Codec.{word}
 use Rattle.rows.specs.Table.{Out, out}
-use Rattle.queue.specs.declared.CpuRunQueue.{CpuRunQueue}
+use Rattle.queue.specs.RunQueue.{CpuRunQueue}
 use Rattle.queue.specs.Queue.{Step, step, realTimeLen, fairLen, budgetLen}
 use Rattle.selection.specs.declared.Selection.{Selection}
 use Rattle.selection.specs.Peek.{Peeked, peeked}
@@ -25,20 +24,6 @@ use Rattle.window_words.specs.WindowWords.{flagFrom}
 
 pub data Left (A : Type 0) : Type 0 where
   left : ℕ → A → Left A
-
--- The call on lent slices, each with the length that it is to have; BadTable where one has another, and then all stands for what it stood for.
-unfoldable pub fitting : {A : Type 0} → List (List ℕ × ℕ) → A → Left A → Left A
-fitting [] before after = after
-fitting ((w, size) ∷ rest) before after = ifEqual (length w) size (fitting rest before after) (left 10 before)
-
--- Words that are lent: those of slices, of a queue and of a table.
-pub data Words : Type 0 where
-  words : List (List ℕ) → List (List ℕ) → List (List ℕ) → Words
-
--- What is lent where a slice has another length; nothing where each fits.
-unfoldable pub unfit : List (List ℕ × ℕ) → Words → Option Words
-unfit [] lent = none
-unfit ((w, size) ∷ rest) lent = ifEqual (length w) size (unfit rest lent) (some lent)
 
 -- 0, or the number of a refusal.
 abbrev pub numbered : {A : Type 0} → Answer A → ℕ
@@ -61,14 +46,24 @@ unfoldable pub queueLeft : Out (Step (Unit {0})) → Left (CpuRunQueue × List T
 queueLeft (out (step a q) t) = left (numbered a) (q, t)
 
 -- How many FIFO, Fair and Budget threads are queued.
+abbrev pub realTimeLength : ℕ
+realTimeLength = 0
+
+abbrev pub fairLength : ℕ
+fairLength = 1
+
+abbrev pub budgetLength : ℕ
+budgetLength = 2
+
 unfoldable pub lengthsOf : List ℕ → ℕ × ℕ × ℕ
-lengthsOf w = (word w 0, word w 1, word w 2)
+lengthsOf w = (word w realTimeLength, word w fairLength, word w budgetLength)
 
 abbrev pub lengths : CpuRunQueue → ℕ × ℕ × ℕ
 lengths q = (realTimeLen q, fairLen q, budgetLen q)
 
 -- The selection, the window, the queue and the table.
-unfoldable pub selectionLeft : Selection → Out (Peeked CpuRunQueue) → Left (Selection × (CpuWindow × CpuRunQueue × List ThreadRecord))
+unfoldable pub selectionLeft : Selection → Out (Peeked CpuRunQueue)
+    → Left (Selection × (CpuWindow × CpuRunQueue × List ThreadRecord))
 selectionLeft before (out (peeked a w q) t) = beside (answered before a) (w, q, t)
 
 -- The key and the window.
@@ -96,8 +91,12 @@ candidateOver before (refused n) = left n before
 unfoldable pub candidateLeft : Candidate → Out (Answer (Option Candidate)) → Left (Candidate × List ThreadRecord)
 candidateLeft before (out a t) = beside (candidateOver before a) t
 
+-- One flag.
+abbrev pub flagWord : ℕ
+flagWord = 0
+
 unfoldable pub flagOf : List ℕ → Bool
-flagOf w = flagFrom (word w 0)
+flagOf w = flagFrom (word w flagWord)
 
 -- The deadline, the window and the table.
 unfoldable pub deadlineLeft : Deadline → Out (With Deadline) → Left (Deadline × (CpuWindow × List ThreadRecord))

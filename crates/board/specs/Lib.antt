@@ -1,8 +1,8 @@
--- What a call on lent words leaves, and the lengths that it asks for.
+-- What a call on lent words leaves.
 pub mod Board
--- Laws of lengths and of slices copied whole.
-pub mod LengthLaws
 -- Selection leaves a window's configuration.
 pub mod Progress
+-- What the other calls leave of counters and window.
+pub mod Kept
 -- Laws by which the entries meet their contracts.
 pub mod BoardLaws

@@ -1,11 +1,12 @@
--- Selection leaves the window's configuration, so that storing the epoch and what remains of allowance and floor stores the whole window.
+-- Selection leaves the window's configuration, so that storing the epoch and what remains of allowance and floor stores
+-- the whole window.
 use Prim.Native.Nat.{ℕ, zero, suc, _-_, _/_}
 use mathlib.Core.Path.{_≡_, refl, sym, ap, subst, _∙_}
 use mathlib.Core.Bool.{Bool, true, false}
 use mathlib.Core.List.{List}
 use lib.Dec.{ltb}
 use lib.ListN.{length, getD}
-use Rattle.refusal.specs.Answer.{Answer, value, refused}
+use Rattle.refusal.specs.Answer.{Answer, value, refused, badConfig, queueHalted, badTable}
 use Rattle.refusal.specs.Cases.{choose, given, ifLess}
 use Rattle.time.specs.declared.Epoch.the-variants as epoch
 use Rattle.window_config.specs.declared.ArbitrationConfig.{ArbitrationConfig}
@@ -21,11 +22,11 @@ use Rattle.thread.specs.declared.ThreadRecord.{ThreadRecord}
 use Rattle.thread.specs.Membership.{onLink}
 use Rattle.rows.specs.Table.{Out, out}
 use Rattle.lists.specs.Lists.{onAnswer, onOut}
-use Rattle.queue.specs.declared.CpuRunQueue.{CpuRunQueue}
+use Rattle.queue.specs.RunQueue.{CpuRunQueue, treeCount}
 use Rattle.queue.specs.Queue.{maxRecords}
 use Rattle.demands.specs.declared.CandidateOption.{CandidateOption}
 use Rattle.demands.specs.Demands.{ofCurrent}
-use Rattle.renewal.specs.declared.SelectionParts.{SelectionParts}
+use Rattle.renewal.specs.Parts.{SelectionParts}
 use Rattle.renewal.specs.Leaves.{Leaves, leaves, onLeaves}
 use Rattle.renewal.specs.Renewal.{renew}
 use Rattle.selection.specs.declared.ReadyOption.{ReadyOption}
@@ -43,7 +44,9 @@ module _ (t : List ThreadRecord) (heads : List Link) (now : ℕ) (d : Demand) wh
   unfolding leastOf given onLink
   next-keeps n rest w best = go (getD heads (11 - n) link.None)
     where
-      go : (x : Link) → onLink {A = Chosen} x (leastOf n t heads now d w best) (λ id. leastOf n t heads now d (refreshed w now) (readyWith t id (refreshed w now) now d best)) .window .config ≡ w .config
+      go : (x : Link) → onLink {A = Chosen} x (leastOf n t heads now d w best)
+          (λ id. leastOf n t heads now d (refreshed w now)
+          (readyWith t id (refreshed w now) now d best)) .window .config ≡ w .config
       go link.None = rest w best
       go (link.Some id) = rest (refreshed w now) (readyWith t id (refreshed w now) now d best) ∙ refreshed-config w now
 
@@ -55,11 +58,13 @@ module _ (t : List ThreadRecord) (heads : List Link) (now : ℕ) (d : Demand) wh
 Keeps : {B : Type 0} → CpuWindow → Out (Peeked B) → Type 0
 Keeps w (out (peeked a w₁ b) t) = w₁ .config ≡ w .config
 
-module _ (t : List ThreadRecord) (q : CpuRunQueue) (c : CpuIndex) (now : ℕ) (w : CpuWindow) (current : CandidateOption) where
-  heads-keep : (p : SelectionParts) (x : Out (Answer Heads)) → Keeps w (onOut x (λ a t₂. onAnswer a (λ n. out (peeked (refused n) w p) t₂) (λ h. chosen t₂ p now w h)))
+module _ (t : List ThreadRecord) (q : CpuRunQueue) (c : CpuIndex) (now : ℕ) (w : CpuWindow)
+    (current : CandidateOption) where
+  heads-keep : (p : SelectionParts) (x : Out (Answer Heads))
+      → Keeps w (onOut x (λ a t₂. onAnswer a (λ n. out (peeked (refused n) w p) t₂) (λ h. chosen t₂ p now w h)))
   unfolding Keeps onOut onAnswer chosen given
   heads-keep p (out (refused n) t₂) = refl
-  heads-keep p (out (value h) t₂) = least-keeps t₂ (h .heads) now (h .found .demand) 12 w ready.None
+  heads-keep p (out (value h) t₂) = least-keeps t₂ (h .heads) now (h .found .demand) treeCount w ready.None
 
   running-keeps : (p : SelectionParts) → Keeps w (peekRunning t p c now w current)
   unfolding Keeps peekRunning given onOut onLeaves
@@ -69,17 +74,20 @@ module _ (t : List ThreadRecord) (q : CpuRunQueue) (c : CpuIndex) (now : ℕ) (w
           → Keeps w (onOut x
           (λ s t₁. onLeaves s
           (λ n p₁. out (peeked (refused n) w p₁) t₁)
-          (λ u p₁. onOut (gatherHeads 12 t₁ (p₁ .indices) c now noHeads (ofCurrent current)) (λ a t₂. onAnswer a (λ n. out (peeked (refused n) w p₁) t₂) (λ h. chosen t₂ p₁ now w h)))))
+          (λ u p₁. onOut (gatherHeads treeCount t₁ (p₁ .indices) c now noHeads (ofCurrent current))
+          (λ a t₂. onAnswer a (λ n. out (peeked (refused n) w p₁) t₂) (λ h. chosen t₂ p₁ now w h)))))
       go (out (leaves (refused n) p₁) t₁) = refl
-      go (out (leaves (value u) p₁) t₁) = heads-keep p₁ (gatherHeads 12 t₁ (p₁ .indices) c now noHeads (ofCurrent current))
+      go (out (leaves (value u) p₁) t₁) =
+          heads-keep p₁ (gatherHeads treeCount t₁ (p₁ .indices) c now noHeads (ofCurrent current))
 
   parts-keep : (p : SelectionParts) → Keeps w (peekParts t p c now w current)
   unfolding Keeps peekParts ifLess choose
   parts-keep p = go (ltb maxRecords (length t)) (soundConfig (w .config)) (p .halted)
     where
       go : (large sound halted : Bool)
-          → Keeps w (choose large (out (peeked (refused 10) w p) t)
-          (choose sound (choose halted (out (peeked (refused 9) w p) t) (peekRunning t p c now w current)) (out (peeked (refused 5) w p) t)))
+          → Keeps w (choose large (out (peeked (refused badTable) w p) t)
+          (choose sound (choose halted (out (peeked (refused queueHalted) w p) t) (peekRunning t p c now w current))
+          (out (peeked (refused badConfig) w p) t)))
       go true sound halted = refl
       go false false halted = refl
       go false true true = refl
@@ -93,12 +101,20 @@ module _ (t : List ThreadRecord) (q : CpuRunQueue) (c : CpuIndex) (now : ℕ) (w
       go (out (peeked a w₁ p) t₁) h = h
 
   -- So the window that it leaves is the window with what time changed.
-  pub progress : {a : Answer Selection} {w₁ : CpuWindow} {q₁ : CpuRunQueue} {t₁ : List ThreadRecord} → out (peeked a w₁ q₁) t₁ ≡ peekNext t q c now w current
+  pub progress : {a : Answer Selection} {w₁ : CpuWindow} {q₁ : CpuRunQueue} {t₁ : List ThreadRecord}
+      → out (peeked a w₁ q₁) t₁ ≡ peekNext t q c now w current
       → progressed w (w₁ .epoch) (w₁ .«priority_remaining_ns») (w₁ .«protected_remaining_ns») ≡ w₁
   unfolding Keeps
   progress {a} {w₁} {q₁} {t₁} e =
       let same : Keeps w (out (peeked a w₁ q₁) t₁) = subst (Keeps w) (sym e) peek-keeps in
       with-config same
     where
-      with-config : Keeps w (out (peeked a w₁ q₁) t₁) → progressed w (w₁ .epoch) (w₁ .«priority_remaining_ns») (w₁ .«protected_remaining_ns») ≡ w₁
-      with-config h = ap (λ (x : ArbitrationConfig). record { config = x; epoch = w₁ .epoch; «priority_remaining_ns» = w₁ .«priority_remaining_ns»; «protected_remaining_ns» = w₁ .«protected_remaining_ns» }) (sym h)
+      with-config : Keeps w (out (peeked a w₁ q₁) t₁)
+          → progressed w (w₁ .epoch) (w₁ .«priority_remaining_ns») (w₁ .«protected_remaining_ns») ≡ w₁
+      with-config h = ap (λ (x : ArbitrationConfig).
+          record {
+            config = x;
+            epoch = w₁ .epoch;
+            «priority_remaining_ns» = w₁ .«priority_remaining_ns»;
+            «protected_remaining_ns» = w₁ .«protected_remaining_ns»;
+          }) (sym h)

@@ -1,18 +1,19 @@
 // Calls on the queue's words and the table's rows.
 ghost use mathlib.Core.Bool.{true, false};
 ghost use mathlib.Core.Path.{_≡_};
-ghost use mathlib.Core.List.{[], _∷_};
 ghost use Rattle.rows.specs.Table.{table};
 ghost use Rattle.queue.specs.Queue as calls;
 ghost use Rattle.queue.specs.Answers.{verdictAnswer};
 ghost use Rattle.lent_queue.specs.LentQueue.{queueOf};
-ghost use Rattle.board.specs.Board.{left, fitting, words, unfit, numbered, processor, queueLeft, lengthsOf, lengths};
-use crate::words::BAD_TABLE;
-use crate::words::copy;
+ghost use Rattle.board.specs.Board.{left, numbered, processor, queueLeft, lengthsOf, lengths};
+use board_words::LengthWords;
+use codec::Row;
+use lent_queue::QueueRows;
 use lent_queue::enqueue_lent;
 use lent_queue::new_lent;
 use lent_queue::remove_lent;
 use queue::Verdict;
+use ready_index::Path;
 use thread::CpuIndex;
 use thread::ThreadId;
 
@@ -27,7 +28,7 @@ fn number_of(verdict: Verdict) -> u64
 
 // CpuRunQueue::new
 #[no_mangle]
-pub extern "C" fn board_new(q: &mut [[u64; 5]; 270]) -> u64
+pub extern "C" fn board_new(q: &mut QueueRows) -> u64
     ensures { λ r. ⌜ left r (queueOf (now (q .exit))) ≡ left 0 calls.newQueue ⌝ }
 {
     new_lent(q);
@@ -37,13 +38,14 @@ pub extern "C" fn board_new(q: &mut [[u64; 5]; 270]) -> u64
 // CpuRunQueue::enqueue, with a path that the caller lends.
 #[no_mangle]
 pub extern "C" fn board_enqueue(
-    q: &mut [[u64; 5]; 270],
-    t: &mut [[u64; 32]],
-    path: &mut [[u64; 2]; 40],
+    q: &mut QueueRows,
+    t: &mut [Row],
+    path: &mut Path,
     id: u64,
     cpu: u8,
 ) -> u64
-    ensures { λ r. ⌜ left r (queueOf (now (q .exit)), table (now (t .exit))) ≡ queueLeft (calls.enqueueCall false (table (now (t .entry))) (queueOf (now (q .entry))) id (processor cpu)) ⌝ }
+    ensures { λ r. ⌜ left r (queueOf (now (q .exit)), table (now (t .exit))) ≡ queueLeft
+        (calls.enqueueCall false (table (now (t .entry))) (queueOf (now (q .entry))) id (processor cpu)) ⌝ }
 {
     number_of(enqueue_lent(q, t, path, ThreadId(id), CpuIndex(cpu), false))
 }
@@ -51,13 +53,14 @@ pub extern "C" fn board_enqueue(
 // CpuRunQueue::enqueue_front, with a path that the caller lends.
 #[no_mangle]
 pub extern "C" fn board_enqueue_front(
-    q: &mut [[u64; 5]; 270],
-    t: &mut [[u64; 32]],
-    path: &mut [[u64; 2]; 40],
+    q: &mut QueueRows,
+    t: &mut [Row],
+    path: &mut Path,
     id: u64,
     cpu: u8,
 ) -> u64
-    ensures { λ r. ⌜ left r (queueOf (now (q .exit)), table (now (t .exit))) ≡ queueLeft (calls.enqueueCall true (table (now (t .entry))) (queueOf (now (q .entry))) id (processor cpu)) ⌝ }
+    ensures { λ r. ⌜ left r (queueOf (now (q .exit)), table (now (t .exit))) ≡ queueLeft
+        (calls.enqueueCall true (table (now (t .entry))) (queueOf (now (q .entry))) id (processor cpu)) ⌝ }
 {
     number_of(enqueue_lent(q, t, path, ThreadId(id), CpuIndex(cpu), true))
 }
@@ -65,30 +68,26 @@ pub extern "C" fn board_enqueue_front(
 // CpuRunQueue::remove, with a path that the caller lends.
 #[no_mangle]
 pub extern "C" fn board_remove(
-    q: &mut [[u64; 5]; 270],
-    t: &mut [[u64; 32]],
-    path: &mut [[u64; 2]; 40],
+    q: &mut QueueRows,
+    t: &mut [Row],
+    path: &mut Path,
     id: u64,
     cpu: u8,
 ) -> u64
-    ensures { λ r. ⌜ left r (queueOf (now (q .exit)), table (now (t .exit))) ≡ queueLeft (calls.removeCall (table (now (t .entry))) (queueOf (now (q .entry))) id (processor cpu)) ⌝ }
+    ensures { λ r. ⌜ left r (queueOf (now (q .exit)), table (now (t .exit))) ≡ queueLeft
+        (calls.removeCall (table (now (t .entry))) (queueOf (now (q .entry))) id (processor cpu)) ⌝ }
 {
     number_of(remove_lent(q, t, path, ThreadId(id), CpuIndex(cpu)))
 }
 
 // CpuRunQueue::real_time_len, fair_len and budget_len.
 #[no_mangle]
-pub extern "C" fn board_lengths(q: &[[u64; 5]; 270], answer: &mut [u64]) -> u64
-    ensures { λ r. ⌜ left r (lengthsOf (now (answer .exit))) ≡ fitting ((now (answer .entry), 3) ∷ []) (lengthsOf (now (answer .entry))) (left 0 (lengths (queueOf (now (q .entry))))) ⌝ }
-    ensures { λ r. ⌜ unfit ((now (answer .entry), 3) ∷ []) (words (now (answer .exit) ∷ []) [] []) ≡ unfit ((now (answer .entry), 3) ∷ []) (words (now (answer .entry) ∷ []) [] []) ⌝ }
+pub extern "C" fn board_lengths(q: &QueueRows, answer: &mut LengthWords) -> u64
+    ensures { λ r. ⌜ left r (lengthsOf (now (answer .exit))) ≡ left 0 (lengths (queueOf (now (q .entry)))) ⌝ }
 {
-    if answer.len() != 3 {
-        return BAD_TABLE;
-    }
     let real_time = lent_queue::real_time_len(q);
     let fair = lent_queue::fair_len(q);
     let budget = lent_queue::budget_len(q);
-    let words = [real_time, fair, budget];
-    copy(answer, &words);
+    *answer = [real_time, fair, budget];
     0
 }

@@ -1,11 +1,12 @@
-// Words of what the board's calls are handed and answer, as arrays. Nothing here is partial: all words stand for some value.
+// Words of what the board's calls are handed and answer, as arrays. Nothing here is partial: all words stand for some
+// value.
 ghost use mathlib.Core.Path.{_≡_};
 ghost use Rattle.codec.specs.Codec.{word};
 ghost use Rattle.arbitration.specs.Answers.{windowMade};
 ghost use Rattle.selection.specs.declared.ReadyOption.the-variants as ready;
-ghost use Rattle.window_words.specs.WindowWords.{flagFrom, demandOf, candidateOf, keyOptionOf};
-ghost use Rattle.board_words.specs.BoardWords.{readyOf, passFrom, selectionFrom, currentOf, turnsOf, readyKeyOf, choiceOf, contention, madeWindow};
-use arbitration::Candidate;
+ghost use Rattle.window_words.specs.WindowWords.{flagFrom, demandOf, keyOptionOf};
+ghost use Rattle.board_words.specs.BoardWords.{readyOf, passFrom, selectionFrom, currentOf, turnsOf, readyKeyOf};
+ghost use Rattle.board_words.specs.BoardWords.{choiceOf, contention, madeWindow};
 use arbitration::CpuWindow;
 use arbitration::KeyOption;
 use arbitration::WindowMade;
@@ -16,13 +17,18 @@ use decisions::ReadyKey;
 use decisions::Turns;
 use demands::CandidateOption;
 use demands::PassOption;
-use policy_words::words_of_parameters;
+use policy_words::Row;
 use policy_words::words_of_policy;
 use selection::ReadyOption;
 use selection::ReadyThread;
 use selection::Selection;
 use window_config::ArbitrationConfig;
 use window_config::ConfigMade;
+use window_words::DemandWords;
+use window_words::KEY_MODE;
+use window_words::KEY_TAG;
+use window_words::KEY_WORDS;
+use window_words::KeyWords;
 use window_words::candidate_of;
 use window_words::demand_of;
 use window_words::dispatch_key_of;
@@ -30,7 +36,48 @@ use window_words::flag_from;
 use window_words::mode_from;
 use window_words::word_of_flag;
 
-fn words_of_thread(thread: ReadyThread) -> [u64; 11]
+// A selection: the thread with its key and policy, the demand, and the lowest fair pass.
+pub const SELECTION_WORDS: usize = 19;
+
+pub type SelectionWords = [u64; SELECTION_WORDS];
+
+// The thread's part of a selection, and that of the lowest pass.
+const THREAD_WORDS: usize = 11;
+
+type ThreadWords = [u64; THREAD_WORDS];
+
+const PASS_WORDS: usize = 3;
+
+type PassWords = [u64; PASS_WORDS];
+
+// The turn counters at the back and at the front.
+pub const TURN_WORDS: usize = 2;
+
+pub type TurnWords = [u64; TURN_WORDS];
+
+pub const BACK_TURN: usize = 0;
+
+pub const FRONT_TURN: usize = 1;
+
+// A ready thread's key, whose mode is not looked at.
+pub type ReadyWords = [u64; KEY_WORDS];
+
+// Whether to switch, and whether the current thread then goes to the front.
+pub const CHOICE_WORDS: usize = 2;
+
+pub type ChoiceWords = [u64; CHOICE_WORDS];
+
+// How many FIFO, Fair and Budget threads are queued.
+pub const LENGTH_WORDS: usize = 3;
+
+pub type LengthWords = [u64; LENGTH_WORDS];
+
+// One flag.
+pub const FLAG_WORDS: usize = 1;
+
+pub type FlagWord = [u64; FLAG_WORDS];
+
+fn words_of_thread(thread: ReadyThread) -> ThreadWords
     ensures { λ w. ⌜ readyOf w ≡ ready.Some thread ⌝ }
 {
     let id = thread.id;
@@ -57,7 +104,7 @@ fn words_of_thread(thread: ReadyThread) -> [u64; 11]
     ]
 }
 
-fn words_of_ready(thread: ReadyOption) -> [u64; 11]
+fn words_of_ready(thread: ReadyOption) -> ThreadWords
     ensures { λ w. ⌜ readyOf w ≡ thread ⌝ }
 {
     match thread {
@@ -66,7 +113,7 @@ fn words_of_ready(thread: ReadyOption) -> [u64; 11]
     }
 }
 
-fn words_of_pass(pass: PassOption) -> [u64; 3]
+fn words_of_pass(pass: PassOption) -> PassWords
     ensures { λ w. ⌜ passFrom (word w 0) (word w 1) (word w 2) ≡ pass ⌝ }
 {
     match pass {
@@ -75,7 +122,7 @@ fn words_of_pass(pass: PassOption) -> [u64; 3]
     }
 }
 
-pub fn words_of_selection(selection: Selection) -> [u64; 19]
+pub fn words_of_selection(selection: Selection) -> SelectionWords
     ensures { λ w. ⌜ selectionFrom w ≡ selection ⌝ }
 {
     let its_ready = selection.ready;
@@ -111,7 +158,7 @@ pub fn words_of_selection(selection: Selection) -> [u64; 19]
     ]
 }
 
-pub fn current_of(running: u64, row: [u64; 32]) -> CandidateOption
+pub fn current_of(running: u64, row: Row) -> CandidateOption
     ensures { λ r. ⌜ r ≡ currentOf (flagFrom running) row ⌝ }
 {
     if flag_from(running) {
@@ -120,84 +167,40 @@ pub fn current_of(running: u64, row: [u64; 32]) -> CandidateOption
     CandidateOption::None
 }
 
-// A candidate's row; the words that it does not read are 0.
-pub fn words_of_candidate(candidate: Candidate) -> [u64; 32]
-    ensures { λ w. ⌜ candidateOf w ≡ candidate ⌝ }
-{
-    let parameters = candidate.parameters;
-    let pass = candidate.fair_pass;
-    let p = words_of_parameters(parameters);
-    let available = word_of_flag(candidate.budget_available);
-    [
-        p[0],
-        p[1],
-        p[2],
-        p[3],
-        p[4],
-        p[5],
-        p[6],
-        p[7],
-        p[8],
-        p[9],
-        p[10],
-        0,
-        pass.high,
-        pass.low,
-        available,
-        0,
-        candidate.turn,
-        0,
-        0,
-        0,
-        0,
-        0,
-        0,
-        0,
-        0,
-        0,
-        0,
-        0,
-        0,
-        0,
-        0,
-        0,
-    ]
-}
-
-pub fn turns_of(w: [u64; 2]) -> Turns
+pub fn turns_of(w: TurnWords) -> Turns
     ensures { λ r. ⌜ r ≡ turnsOf w ⌝ }
 {
     Turns {
-        back: w[0],
-        front: w[1],
+        back: w[BACK_TURN],
+        front: w[FRONT_TURN],
     }
 }
 
-pub fn words_of_turns(turns: Turns) -> [u64; 2]
+pub fn words_of_turns(turns: Turns) -> TurnWords
     ensures { λ w. ⌜ turnsOf w ≡ turns ⌝ }
 {
     [turns.back, turns.front]
 }
 
-pub fn ready_key_of(w: [u64; 9]) -> ReadyKey
+pub fn ready_key_of(w: ReadyWords) -> ReadyKey
     ensures { λ r. ⌜ r ≡ readyKeyOf w ⌝ }
 {
-    if w[0] == 0 {
+    if w[KEY_TAG] == 0 {
         return ReadyKey::None;
     }
     ReadyKey::Some(dispatch_key_of(w))
 }
 
-pub fn key_option_of(w: [u64; 9]) -> KeyOption
+pub fn key_option_of(w: KeyWords) -> KeyOption
     ensures { λ r. ⌜ r ≡ keyOptionOf w ⌝ }
 {
-    if w[0] == 0 {
+    if w[KEY_TAG] == 0 {
         return KeyOption::None;
     }
-    KeyOption::Some(dispatch_key_of(w), mode_from(w[1]))
+    KeyOption::Some(dispatch_key_of(w), mode_from(w[KEY_MODE]))
 }
 
-pub fn words_of_choice(choice: Choice) -> [u64; 2]
+pub fn words_of_choice(choice: Choice) -> ChoiceWords
     ensures { λ w. ⌜ choiceOf w ≡ choice ⌝ }
 {
     let switches = word_of_flag(choice.should_switch);
@@ -205,7 +208,7 @@ pub fn words_of_choice(choice: Choice) -> [u64; 2]
     [switches, front]
 }
 
-pub fn contention_of(competition: u64, budget_peer: u64, ready: u64, w: [u64; 5]) -> Contention
+pub fn contention_of(competition: u64, budget_peer: u64, ready: u64, w: DemandWords) -> Contention
     ensures { λ r. ⌜ r ≡ contention (flagFrom competition) (flagFrom «budget_peer») (flagFrom ready) (demandOf w) ⌝ }
 {
     let demand = demand_of(w);

@@ -2,7 +2,7 @@
 use Prim.Native.Nat.{ℕ, _-_, _/_, min}
 use mathlib.Core.Bool.{Bool}
 use mathlib.Core.Option.{Option, none, some}
-use Rattle.refusal.specs.Answer.{Answer, value, refused}
+use Rattle.refusal.specs.Answer.{Answer, value, refused, badBudget, backInTime}
 use Rattle.refusal.specs.Cases.{choose, given, ifLess, ifEqual}
 use Rattle.time.specs.declared.Epoch.the-variants as epoch
 use Rattle.time.specs.declared.Deadline.{Deadline}
@@ -14,19 +14,28 @@ use Rattle.budget.specs.declared.BudgetRuntime.{BudgetRuntime}
 
 -- BadBudget where `BudgetParameters::new` would give None; it comes first.
 unfoldable pub judged : {A : Type 0} → BudgetParameters → Answer A → Answer A
-judged p answer = choose (soundBudget p) answer (refused 6)
+judged p answer = choose (soundBudget p) answer (refused badBudget)
 
 -- A new runtime: no epoch, budget and burst whole.
 unfoldable pub made : BudgetParameters → Answer BudgetRuntime
 unfolding judged
-made p = judged p (value (record { epoch = epoch.None; «remaining_ns» = p .«budget_ns»; «burst_remaining_ns» = p .«burst_ns» }))
+made p =
+    judged p (value (record {
+      epoch = epoch.None;
+      «remaining_ns» = p .«budget_ns»;
+      «burst_remaining_ns» = p .«burst_ns»;
+    }))
 
 -- Refilled only when the epoch rises; otherwise the lesser of what remains and the budget.
 unfoldable pub refreshed : BudgetRuntime → ℕ → BudgetParameters → BudgetRuntime
 refreshed r now p =
     given (now / p .«period_ns»)
     (λ now-epoch. choose (rises (r .epoch) now-epoch)
-    (record { epoch = epoch.Some now-epoch; «remaining_ns» = p .«budget_ns»; «burst_remaining_ns» = r .«burst_remaining_ns» })
+    (record {
+      epoch = epoch.Some now-epoch;
+      «remaining_ns» = p .«budget_ns»;
+      «burst_remaining_ns» = r .«burst_remaining_ns»;
+    })
     (given (min (r .«remaining_ns») (p .«budget_ns»))
     (λ left. record { epoch = r .epoch; «remaining_ns» = left; «burst_remaining_ns» = r .«burst_remaining_ns» })))
 
@@ -46,7 +55,7 @@ charged r start end p =
 -- BackInTime where the end lies before the start.
 unfoldable pub accountedInterval : BudgetRuntime → ℕ → ℕ → BudgetParameters → Answer BudgetRuntime
 unfolding judged
-accountedInterval r start end p = judged p (ifLess end start (refused 7) (given (charged r start end p) value))
+accountedInterval r start end p = judged p (ifLess end start (refused backInTime) (given (charged r start end p) value))
 
 unfoldable pub periodDeadline : ℕ → BudgetParameters → Answer Deadline
 unfolding judged
@@ -59,7 +68,8 @@ expiryWithin now execution p =
     (λ expiry. onDeadline (periodEnd now (p .«period_ns»)) deadline.None
     (λ end. given (min expiry end) deadline.Some))
 
--- The deadline of a runtime that is refreshed to now: an exhausted one waits for the period's end, or borrows its burst.
+-- The deadline of a runtime that is refreshed to now: an exhausted one waits for the period's end, or borrows its
+-- burst.
 unfoldable pub deadlineAfter : BudgetRuntime → ℕ → BudgetParameters → Bool → Deadline
 deadlineAfter r now p borrow =
     ifEqual (r .«remaining_ns») 0
@@ -74,7 +84,12 @@ deadlineJudged r now p borrow =
 -- A turn that ends opens the burst again.
 unfoldable pub turnFinished : BudgetRuntime → BudgetParameters → Answer BudgetRuntime
 unfolding judged
-turnFinished r p = judged p (value (record { epoch = r .epoch; «remaining_ns» = r .«remaining_ns»; «burst_remaining_ns» = p .«burst_ns» }))
+turnFinished r p =
+    judged p (value (record {
+      epoch = r .epoch;
+      «remaining_ns» = r .«remaining_ns»;
+      «burst_remaining_ns» = p .«burst_ns»;
+    }))
 
 -- Ceilings change and what is consumed stays consumed, so that no execution is made.
 unfoldable pub reconfigured : BudgetRuntime → BudgetParameters → BudgetParameters → BudgetRuntime
@@ -82,7 +97,8 @@ reconfigured r old new =
     record {
       epoch = r .epoch;
       «remaining_ns» = min (r .«remaining_ns») (new .«budget_ns» - (old .«budget_ns» - r .«remaining_ns»));
-      «burst_remaining_ns» = min (r .«burst_remaining_ns») (new .«burst_ns» - (old .«burst_ns» - r .«burst_remaining_ns»));
+      «burst_remaining_ns» =
+          min (r .«burst_remaining_ns») (new .«burst_ns» - (old .«burst_ns» - r .«burst_remaining_ns»));
     }
 
 -- None where the periods differ.
@@ -90,4 +106,5 @@ unfoldable pub reconfiguredJudged : BudgetRuntime → BudgetParameters → Budge
 unfolding judged
 reconfiguredJudged r old new =
     judged old (judged new
-    (ifEqual (old .«period_ns») (new .«period_ns») (given (reconfigured r old new) (λ changed. value (some changed))) (value none)))
+    (ifEqual (old .«period_ns») (new .«period_ns») (given (reconfigured r old new) (λ changed. value (some changed)))
+    (value none)))

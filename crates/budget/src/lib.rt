@@ -1,6 +1,8 @@
 // Fixed-window budgets. After scheduler/algorithms/budget.rs; each call judges the parameters it is handed.
 ghost use mathlib.Core.Path.{_≡_};
-ghost use Rattle.budget.specs.Runtime.{refreshed, charged, expiryWithin, deadlineAfter, reconfigured, made, refreshedJudged, accountedInterval, periodDeadline, deadlineJudged, turnFinished, reconfiguredJudged};
+ghost use Rattle.budget.specs.Runtime.{refreshed, charged, expiryWithin, deadlineAfter, reconfigured, made};
+ghost use Rattle.budget.specs.Runtime.{refreshedJudged, accountedInterval, periodDeadline, deadlineJudged};
+ghost use Rattle.budget.specs.Runtime.{turnFinished, reconfiguredJudged};
 ghost use Rattle.budget.specs.Answers.{budgetAnswer, deadlineAnswer, budgetDeadline, reconfiguredAnswer};
 use policy::BudgetParameters;
 use refusal::Refusal;

@@ -1,4 +1,5 @@
-// Runs the worked cases of document 01 that its standard input has, prints each answer beside its case, and ends with how many differ.
+// Runs the worked cases of document 01 that its standard input has, prints each answer beside its case, and ends with
+// how many differ.
 const STDIN: i32 = 0;
 
 const STDOUT: i32 = 1;

@@ -23,7 +23,8 @@ module _ {x : QueueMembership} where
   unfolding membershipFrom ifEqual choose
   unqueued-words h = sym h
 
-  pub real-time-words : {c : CpuIndex} {p : ℕ} (n m : ℕ) → n % 256 ≡ c .0 → m % 256 ≡ p → x ≡ membership.ReadyRealTime c p → membershipFrom 1 n m ≡ x
+  pub real-time-words : {c : CpuIndex} {p : ℕ} (n m : ℕ) → n % 256 ≡ c .0 → m % 256 ≡ p
+      → x ≡ membership.ReadyRealTime c p → membershipFrom 1 n m ≡ x
   unfolding membershipFrom ifEqual choose
   real-time-words n m e f h = rw (h, e, f)
 

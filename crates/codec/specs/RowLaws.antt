@@ -13,28 +13,43 @@ use Rattle.thread.specs.declared.QueueLinks.{QueueLinks}
 use Rattle.thread.specs.declared.QueueMembership.{QueueMembership}
 use Rattle.thread.specs.declared.ThreadRecord.{ThreadRecord}
 use Rattle.thread.specs.TreeKey.{algorithmKey, treeKey, readyIndexKey}
-use Rattle.thread.specs.Records.{withParameters, withRuntime, withTurn, withLinks, withLeft, withRight, withHeight, withQueueLinks, withCpu}
-use Rattle.codec.specs.Codec.{word, runtimeFrom, linkFrom, membershipFrom, parametersOf, runtimeOf, linksOf, queueLinksOf, decoded}
+use Rattle.thread.specs.Records.{withParameters, withRuntime, withTurn, withLinks, withLeft, withRight, withHeight}
+use Rattle.thread.specs.Records.{withQueueLinks, withCpu}
+use Rattle.codec.specs.Codec.{word, runtimeFrom, linkFrom, membershipFrom, parametersOf, runtimeOf, linksOf}
+use Rattle.codec.specs.Codec.{queueLinksOf, decoded, readyTurn, leftTag, leftWord, rightTag, rightWord}
+use Rattle.codec.specs.Codec.{heightWord, previousTag, previousWord, nextTag, nextWord, membershipTag}
+use Rattle.codec.specs.Codec.{membershipFirst, membershipSecond, cpuWord}
+use Rattle.policy_words.specs.PolicyWords.{bandWord}
 pub use Rattle.policy_words.specs.ByWords.{by-words}
 
 pub parameters-stored : (r : List ℕ) (p : SchedulingParameters) (a : List ℕ)
     → length r ≡ 32
     → parametersOf a ≡ p
-    → decoded (set (set (set (set (set (set (set (set (set (set (set r 0 (word a 0)) 1 (word a 1)) 2 (word a 2)) 3 (word a 3)) 4 (word a 4)) 5 (word a 5)) 6 (word a 6)) 7 (word a 7)) 8 (word a 8)) 9 (word a 9)) 10 (word a 10)) ≡ withParameters p (decoded r)
+    → decoded (set (set (set (set (set
+    (set (set (set (set (set (set r 0 (word a 0)) 1 (word a 1)) 2 (word a 2)) 3 (word a 3)) 4 (word a 4)) 5 (word a 5))
+    6 (word a 6)) 7 (word a 7)) 8 (word a 8)) 9 (word a 9)) 10 (word a 10)) ≡ withParameters p (decoded r)
 unfolding decoded parametersOf runtimeOf linksOf queueLinksOf
 parameters-stored r p a size e =
-    by-words 32 (λ (r : List ℕ). decoded (set (set (set (set (set (set (set (set (set (set (set r 0 (word a 0)) 1 (word a 1)) 2 (word a 2)) 3 (word a 3)) 4 (word a 4)) 5 (word a 5)) 6 (word a 6)) 7 (word a 7)) 8 (word a 8)) 9 (word a 9)) 10 (word a 10)) ≡ withParameters p (decoded r))
-    (λ x0 x1 x2 x3 x4 x5 x6 x7 x8 x9 x10 x11 x12 x13 x14 x15 x16 x17 x18 x19 x20 x21 x22 x23 x24 x25 x26 x27 x28 x29 x30 x31. rw (sym e) refl)
+    by-words 32 (λ (r : List ℕ). decoded
+    (set (set (set (set (set (set (set (set (set (set (set r 0 (word a 0)) 1 (word a 1)) 2 (word a 2)) 3 (word a 3)) 4
+    (word a 4)) 5 (word a 5)) 6 (word a 6)) 7 (word a 7)) 8 (word a 8)) 9 (word a 9)) 10 (word a 10))
+    ≡ withParameters p (decoded r))
+    (λ x0 x1 x2 x3 x4 x5 x6 x7 x8 x9 x10 x11 x12 x13 x14 x15 x16 x17 x18 x19 x20 x21 x22 x23 x24 x25 x26 x27 x28 x29 x30
+    x31. rw (sym e) refl)
     r size
 
 pub runtime-stored : (r : List ℕ) (x : PolicyRuntime) (a : List ℕ)
     → length r ≡ 32
     → runtimeFrom (word a 0) (word a 1) (word a 2) (word a 3) (word a 4) ≡ x
-    → decoded (set (set (set (set (set r 11 (word a 0)) 12 (word a 1)) 13 (word a 2)) 14 (word a 3)) 15 (word a 4)) ≡ withRuntime x (decoded r)
+    → decoded (set (set (set (set (set r 11 (word a 0)) 12 (word a 1)) 13 (word a 2)) 14 (word a 3)) 15 (word a 4))
+    ≡ withRuntime x (decoded r)
 unfolding decoded parametersOf runtimeOf linksOf queueLinksOf
 runtime-stored r x a size e =
-    by-words 32 (λ (r : List ℕ). decoded (set (set (set (set (set r 11 (word a 0)) 12 (word a 1)) 13 (word a 2)) 14 (word a 3)) 15 (word a 4)) ≡ withRuntime x (decoded r))
-    (λ x0 x1 x2 x3 x4 x5 x6 x7 x8 x9 x10 x11 x12 x13 x14 x15 x16 x17 x18 x19 x20 x21 x22 x23 x24 x25 x26 x27 x28 x29 x30 x31. rw (e))
+    by-words 32 (λ (r : List ℕ). decoded
+    (set (set (set (set (set r 11 (word a 0)) 12 (word a 1)) 13 (word a 2)) 14 (word a 3)) 15 (word a 4))
+    ≡ withRuntime x (decoded r))
+    (λ x0 x1 x2 x3 x4 x5 x6 x7 x8 x9 x10 x11 x12 x13 x14 x15 x16 x17 x18 x19 x20 x21 x22 x23 x24 x25 x26 x27 x28 x29 x30
+    x31. rw (e))
     r size
 
 pub turn-stored : (r : List ℕ) (n : ℕ)
@@ -43,7 +58,8 @@ pub turn-stored : (r : List ℕ) (n : ℕ)
 unfolding decoded parametersOf runtimeOf linksOf queueLinksOf
 turn-stored r n size =
     by-words 32 (λ (r : List ℕ). decoded (set r 16 n) ≡ withTurn n (decoded r))
-    (λ x0 x1 x2 x3 x4 x5 x6 x7 x8 x9 x10 x11 x12 x13 x14 x15 x16 x17 x18 x19 x20 x21 x22 x23 x24 x25 x26 x27 x28 x29 x30 x31. refl)
+    (λ x0 x1 x2 x3 x4 x5 x6 x7 x8 x9 x10 x11 x12 x13 x14 x15 x16 x17 x18 x19 x20 x21 x22 x23 x24 x25 x26 x27 x28 x29 x30
+    x31. refl)
     r size
 
 pub links-stored : (r : List ℕ) (l : Links) (a b : List ℕ) (height : ℕ)
@@ -51,11 +67,15 @@ pub links-stored : (r : List ℕ) (l : Links) (a b : List ℕ) (height : ℕ)
     → linkFrom (word a 0) (word a 1) ≡ l .left
     → linkFrom (word b 0) (word b 1) ≡ l .right
     → height % 256 ≡ l .height
-    → decoded (set (set (set (set (set r 17 (word a 0)) 18 (word a 1)) 19 (word b 0)) 20 (word b 1)) 21 height) ≡ withLinks l (decoded r)
+    → decoded (set (set (set (set (set r 17 (word a 0)) 18 (word a 1)) 19 (word b 0)) 20 (word b 1)) 21 height)
+    ≡ withLinks l (decoded r)
 unfolding decoded parametersOf runtimeOf linksOf queueLinksOf
 links-stored r l a b height size e₁ e₂ e₃ =
-    by-words 32 (λ (r : List ℕ). decoded (set (set (set (set (set r 17 (word a 0)) 18 (word a 1)) 19 (word b 0)) 20 (word b 1)) 21 height) ≡ withLinks l (decoded r))
-    (λ x0 x1 x2 x3 x4 x5 x6 x7 x8 x9 x10 x11 x12 x13 x14 x15 x16 x17 x18 x19 x20 x21 x22 x23 x24 x25 x26 x27 x28 x29 x30 x31. rw (e₁, e₂, e₃))
+    by-words 32 (λ (r : List ℕ). decoded
+    (set (set (set (set (set r 17 (word a 0)) 18 (word a 1)) 19 (word b 0)) 20 (word b 1)) 21 height)
+    ≡ withLinks l (decoded r))
+    (λ x0 x1 x2 x3 x4 x5 x6 x7 x8 x9 x10 x11 x12 x13 x14 x15 x16 x17 x18 x19 x20 x21 x22 x23 x24 x25 x26 x27 x28 x29 x30
+    x31. rw (e₁, e₂, e₃))
     r size
 
 pub left-stored : (r : List ℕ) (l : Link) (a : List ℕ)
@@ -65,7 +85,8 @@ pub left-stored : (r : List ℕ) (l : Link) (a : List ℕ)
 unfolding decoded parametersOf runtimeOf linksOf queueLinksOf
 left-stored r l a size e =
     by-words 32 (λ (r : List ℕ). decoded (set (set r 17 (word a 0)) 18 (word a 1)) ≡ withLeft l (decoded r))
-    (λ x0 x1 x2 x3 x4 x5 x6 x7 x8 x9 x10 x11 x12 x13 x14 x15 x16 x17 x18 x19 x20 x21 x22 x23 x24 x25 x26 x27 x28 x29 x30 x31. rw (e))
+    (λ x0 x1 x2 x3 x4 x5 x6 x7 x8 x9 x10 x11 x12 x13 x14 x15 x16 x17 x18 x19 x20 x21 x22 x23 x24 x25 x26 x27 x28 x29 x30
+    x31. rw (e))
     r size
 
 pub right-stored : (r : List ℕ) (l : Link) (a : List ℕ)
@@ -75,7 +96,8 @@ pub right-stored : (r : List ℕ) (l : Link) (a : List ℕ)
 unfolding decoded parametersOf runtimeOf linksOf queueLinksOf
 right-stored r l a size e =
     by-words 32 (λ (r : List ℕ). decoded (set (set r 19 (word a 0)) 20 (word a 1)) ≡ withRight l (decoded r))
-    (λ x0 x1 x2 x3 x4 x5 x6 x7 x8 x9 x10 x11 x12 x13 x14 x15 x16 x17 x18 x19 x20 x21 x22 x23 x24 x25 x26 x27 x28 x29 x30 x31. rw (e))
+    (λ x0 x1 x2 x3 x4 x5 x6 x7 x8 x9 x10 x11 x12 x13 x14 x15 x16 x17 x18 x19 x20 x21 x22 x23 x24 x25 x26 x27 x28 x29 x30
+    x31. rw (e))
     r size
 
 pub height-stored : (r : List ℕ) (n : ℕ) (height : ℕ)
@@ -85,7 +107,8 @@ pub height-stored : (r : List ℕ) (n : ℕ) (height : ℕ)
 unfolding decoded parametersOf runtimeOf linksOf queueLinksOf
 height-stored r n height size e =
     by-words 32 (λ (r : List ℕ). decoded (set r 21 height) ≡ withHeight n (decoded r))
-    (λ x0 x1 x2 x3 x4 x5 x6 x7 x8 x9 x10 x11 x12 x13 x14 x15 x16 x17 x18 x19 x20 x21 x22 x23 x24 x25 x26 x27 x28 x29 x30 x31. rw (e))
+    (λ x0 x1 x2 x3 x4 x5 x6 x7 x8 x9 x10 x11 x12 x13 x14 x15 x16 x17 x18 x19 x20 x21 x22 x23 x24 x25 x26 x27 x28 x29 x30
+    x31. rw (e))
     r size
 
 pub queue-links-stored : (r : List ℕ) (l : QueueLinks) (a b m : List ℕ)
@@ -93,11 +116,15 @@ pub queue-links-stored : (r : List ℕ) (l : QueueLinks) (a b m : List ℕ)
     → linkFrom (word a 0) (word a 1) ≡ l .previous
     → linkFrom (word b 0) (word b 1) ≡ l .next
     → membershipFrom (word m 0) (word m 1) (word m 2) ≡ l .membership
-    → decoded (set (set (set (set (set (set (set r 22 (word a 0)) 23 (word a 1)) 24 (word b 0)) 25 (word b 1)) 26 (word m 0)) 27 (word m 1)) 28 (word m 2)) ≡ withQueueLinks l (decoded r)
+    → decoded (set (set (set (set (set (set (set r 22 (word a 0)) 23 (word a 1)) 24 (word b 0)) 25 (word b 1)) 26
+    (word m 0)) 27 (word m 1)) 28 (word m 2)) ≡ withQueueLinks l (decoded r)
 unfolding decoded parametersOf runtimeOf linksOf queueLinksOf
 queue-links-stored r l a b m size e₁ e₂ e₃ =
-    by-words 32 (λ (r : List ℕ). decoded (set (set (set (set (set (set (set r 22 (word a 0)) 23 (word a 1)) 24 (word b 0)) 25 (word b 1)) 26 (word m 0)) 27 (word m 1)) 28 (word m 2)) ≡ withQueueLinks l (decoded r))
-    (λ x0 x1 x2 x3 x4 x5 x6 x7 x8 x9 x10 x11 x12 x13 x14 x15 x16 x17 x18 x19 x20 x21 x22 x23 x24 x25 x26 x27 x28 x29 x30 x31. rw (e₁, e₂, e₃))
+    by-words 32 (λ (r : List ℕ). decoded
+    (set (set (set (set (set (set (set r 22 (word a 0)) 23 (word a 1)) 24 (word b 0)) 25 (word b 1)) 26 (word m 0)) 27
+    (word m 1)) 28 (word m 2)) ≡ withQueueLinks l (decoded r))
+    (λ x0 x1 x2 x3 x4 x5 x6 x7 x8 x9 x10 x11 x12 x13 x14 x15 x16 x17 x18 x19 x20 x21 x22 x23 x24 x25 x26 x27 x28 x29 x30
+    x31. rw (e₁, e₂, e₃))
     r size
 
 pub cpu-stored : (r : List ℕ) (c : CpuIndex) (n : ℕ)
@@ -107,28 +134,34 @@ pub cpu-stored : (r : List ℕ) (c : CpuIndex) (n : ℕ)
 unfolding decoded parametersOf runtimeOf linksOf queueLinksOf
 cpu-stored r c n size e =
     by-words 32 (λ (r : List ℕ). decoded (set r 29 n) ≡ withCpu c (decoded r))
-    (λ x0 x1 x2 x3 x4 x5 x6 x7 x8 x9 x10 x11 x12 x13 x14 x15 x16 x17 x18 x19 x20 x21 x22 x23 x24 x25 x26 x27 x28 x29 x30 x31. rw (e))
+    (λ x0 x1 x2 x3 x4 x5 x6 x7 x8 x9 x10 x11 x12 x13 x14 x15 x16 x17 x18 x19 x20 x21 x22 x23 x24 x25 x26 x27 x28 x29 x30
+    x31. rw (e))
     r size
 
 -- The parts that the words of a row stand for make the row's.
 pub links-read : (w : List ℕ) {left right : Link} {height : ℕ}
-    → left ≡ linkFrom (word w 17) (word w 18) → right ≡ linkFrom (word w 19) (word w 20) → height ≡ word w 21 % 256
+    → left ≡ linkFrom (word w leftTag) (word w leftWord) → right ≡ linkFrom (word w rightTag) (word w rightWord)
+    → height ≡ word w heightWord % 256
     → record { left = left; right = right; height = height } ≡ linksOf w
 unfolding linksOf
 links-read w e₁ e₂ e₃ = rw (e₁, e₂, e₃)
 
 pub queue-links-read : (w : List ℕ) {previous next : Link} {membership : QueueMembership}
-    → previous ≡ linkFrom (word w 22) (word w 23) → next ≡ linkFrom (word w 24) (word w 25) → membership ≡ membershipFrom (word w 26) (word w 27) (word w 28)
+    → previous ≡ linkFrom (word w previousTag) (word w previousWord)
+    → next ≡ linkFrom (word w nextTag) (word w nextWord)
+    → membership ≡ membershipFrom (word w membershipTag) (word w membershipFirst) (word w membershipSecond)
     → record { previous = previous; next = next; membership = membership } ≡ queueLinksOf w
 unfolding queueLinksOf
 queue-links-read w e₁ e₂ e₃ = rw (e₁, e₂, e₃)
 
-pub record-read : (w : List ℕ) {parameters : SchedulingParameters} {runtime : PolicyRuntime} {links : Links} {queueLinks : QueueLinks} {cpu : ℕ}
-    → parameters ≡ parametersOf w → runtime ≡ runtimeOf w → links ≡ linksOf w → queueLinks ≡ queueLinksOf w → cpu ≡ word w 29 % 256
+pub record-read : (w : List ℕ) {parameters : SchedulingParameters} {runtime : PolicyRuntime} {links : Links}
+    {queueLinks : QueueLinks} {cpu : ℕ}
+    → parameters ≡ parametersOf w → runtime ≡ runtimeOf w → links ≡ linksOf w → queueLinks ≡ queueLinksOf w
+    → cpu ≡ word w cpuWord % 256
     → record {
       parameters = parameters;
       runtime = runtime;
-      «ready_turn» = word w 16;
+      «ready_turn» = word w readyTurn;
       «ready_tree» = links;
       «queue_links» = queueLinks;
       cpu = record { 0 = cpu };
@@ -138,8 +171,8 @@ unfolding decoded
 record-read w e₁ e₂ e₃ e₄ e₅ = rw (e₁, e₂, e₃, e₄, e₅)
 
 pub key-read : (w : List ℕ) (id : ℕ) {algorithm : Wide} {band : ℕ}
-    → algorithm ≡ algorithmKey (parametersOf w) (runtimeOf w) (word w 16) → band ≡ word w 2 % 256
-    → record { algorithm = algorithm; band = band; turn = word w 16; id = id } ≡ readyIndexKey (decoded w) id
+    → algorithm ≡ algorithmKey (parametersOf w) (runtimeOf w) (word w readyTurn) → band ≡ word w bandWord % 256
+    → record { algorithm = algorithm; band = band; turn = word w readyTurn; id = id } ≡ readyIndexKey (decoded w) id
 unfolding decoded readyIndexKey treeKey parametersOf
 key-read w id e₁ e₂ = rw (e₁, e₂)
 

@@ -1,12 +1,31 @@
 // A record as a row of 32 words. Nothing here is partial: every row is some record's.
 ghost use mathlib.Core.Path.{_≡_};
 ghost use Prim.Native.Nat.{_%_};
-ghost use Rattle.codec.specs.Codec.{word, decoded, linkFrom, membershipFrom, parametersOf, runtimeOf, linksOf, queueLinksOf};
-ghost use Rattle.thread.specs.Records.{withParameters, withRuntime, withTurn, withLinks, withLeft, withRight, withHeight, withQueueLinks, withCpu};
+ghost use Rattle.codec.specs.Codec.{word, decoded, linkFrom, membershipFrom, parametersOf, runtimeOf, linksOf};
+ghost use Rattle.codec.specs.Codec.{queueLinksOf, readyTurn};
+ghost use Rattle.thread.specs.Records.{withParameters, withRuntime, withTurn, withLinks, withLeft, withRight};
+ghost use Rattle.thread.specs.Records.{withHeight, withQueueLinks, withCpu};
 ghost use Rattle.thread.specs.TreeKey.{algorithmKey, readyIndexKey};
 use algorithms::PolicyRuntime;
 use algorithms::Wide;
 use policy::SchedulingParameters;
+pub use policy_words::BACKEND_TAG;
+pub use policy_words::BAND;
+pub use policy_words::BUDGET_BURST;
+pub use policy_words::BUDGET_NS;
+pub use policy_words::BUDGET_PERIOD;
+pub use policy_words::BUDGET_TAG;
+pub use policy_words::FIFO_PRIORITY;
+pub use policy_words::POLICY_TAG;
+pub use policy_words::QUANTUM;
+pub use policy_words::ROLE_TAG;
+pub use policy_words::RUNTIME_FIRST;
+pub use policy_words::RUNTIME_FOURTH;
+pub use policy_words::RUNTIME_SECOND;
+pub use policy_words::RUNTIME_TAG;
+pub use policy_words::RUNTIME_THIRD;
+pub use policy_words::Row;
+pub use policy_words::WEIGHT;
 pub use policy_words::backend_from;
 pub use policy_words::byte_from;
 pub use policy_words::epoch_from;
@@ -24,6 +43,36 @@ use thread::QueueLinks;
 use thread::QueueMembership;
 use thread::ThreadRecord;
 use thread::TreeKey;
+
+// Where the words of turn, tree links, list links, membership and processor stand in a thread's row; those of
+// parameters and runtime are policy_words'.
+pub const READY_TURN: usize = 16;
+
+pub const LEFT_TAG: usize = 17;
+
+pub const LEFT: usize = 18;
+
+pub const RIGHT_TAG: usize = 19;
+
+pub const RIGHT: usize = 20;
+
+pub const HEIGHT: usize = 21;
+
+pub const PREVIOUS_TAG: usize = 22;
+
+pub const PREVIOUS: usize = 23;
+
+pub const NEXT_TAG: usize = 24;
+
+pub const NEXT: usize = 25;
+
+pub const MEMBERSHIP_TAG: usize = 26;
+
+pub const MEMBERSHIP_FIRST: usize = 27;
+
+pub const MEMBERSHIP_SECOND: usize = 28;
+
+pub const CPU: usize = 29;
 
 pub fn link_from(tag: u64, number: u64) -> Link
     ensures { λ l. ⌜ l ≡ linkFrom tag number ⌝ }
@@ -57,12 +106,12 @@ pub fn membership_from(tag: u64, first: u64, second: u64) -> QueueMembership
     QueueMembership::Terminated
 }
 
-pub fn links_of(w: [u64; 32]) -> Links
+pub fn links_of(w: Row) -> Links
     ensures { λ l. ⌜ l ≡ linksOf w ⌝ }
 {
-    let left = link_from(w[17], w[18]);
-    let right = link_from(w[19], w[20]);
-    let height = byte_from(w[21]);
+    let left = link_from(w[LEFT_TAG], w[LEFT]);
+    let right = link_from(w[RIGHT_TAG], w[RIGHT]);
+    let height = byte_from(w[HEIGHT]);
     Links {
         left,
         right,
@@ -70,12 +119,12 @@ pub fn links_of(w: [u64; 32]) -> Links
     }
 }
 
-pub fn queue_links_of(w: [u64; 32]) -> QueueLinks
+pub fn queue_links_of(w: Row) -> QueueLinks
     ensures { λ l. ⌜ l ≡ queueLinksOf w ⌝ }
 {
-    let previous = link_from(w[22], w[23]);
-    let next = link_from(w[24], w[25]);
-    let membership = membership_from(w[26], w[27], w[28]);
+    let previous = link_from(w[PREVIOUS_TAG], w[PREVIOUS]);
+    let next = link_from(w[NEXT_TAG], w[NEXT]);
+    let membership = membership_from(w[MEMBERSHIP_TAG], w[MEMBERSHIP_FIRST], w[MEMBERSHIP_SECOND]);
     QueueLinks {
         previous,
         next,
@@ -83,63 +132,64 @@ pub fn queue_links_of(w: [u64; 32]) -> QueueLinks
     }
 }
 
-// The algorithm's part of the row's tree key, by the tags alone: neither policy nor runtime is made only to be taken apart again.
-fn algorithm_of(w: [u64; 32]) -> Wide
-    ensures { λ r. ⌜ r ≡ algorithmKey (parametersOf w) (runtimeOf w) (word w 16) ⌝ }
+// The algorithm's part of the row's tree key, by the tags alone: neither policy nor runtime is made only to be taken
+// apart again.
+fn algorithm_of(w: Row) -> Wide
+    ensures { λ r. ⌜ r ≡ algorithmKey (parametersOf w) (runtimeOf w) (word w readyTurn) ⌝ }
 {
-    if w[0] == 0 {
+    if w[POLICY_TAG] == 0 {
         return Wide {
             high: 0,
-            low: w[1] % 256,
+            low: w[FIFO_PRIORITY] % 256,
         };
     }
-    if w[0] == 1 {
-        if w[6] == 0 {
-            if w[11] == 1 {
+    if w[POLICY_TAG] == 1 {
+        if w[BACKEND_TAG] == 0 {
+            if w[RUNTIME_TAG] == 1 {
                 return Wide {
-                    high: w[12],
-                    low: w[13],
+                    high: w[RUNTIME_FIRST],
+                    low: w[RUNTIME_SECOND],
                 };
             }
             return Wide { high: 0, low: 0 };
         }
         return Wide {
             high: 0,
-            low: w[16],
+            low: w[READY_TURN],
         };
     }
     Wide {
         high: 0,
-        low: w[16],
+        low: w[READY_TURN],
     }
 }
 
 // The tree key of the row's record with this number. After `ready_index_key`.
-pub fn key_of(w: [u64; 32], id: u64) -> TreeKey
+pub fn key_of(w: Row, id: u64) -> TreeKey
     ensures { λ k. ⌜ k ≡ readyIndexKey (decoded w) id ⌝ }
 {
     let algorithm = algorithm_of(w);
-    let band = byte_from(w[2]);
+    let band = byte_from(w[BAND]);
     TreeKey {
         algorithm,
         band,
-        turn: w[16],
+        turn: w[READY_TURN],
         id,
     }
 }
 
-pub fn decode(w: [u64; 32]) -> ThreadRecord
+pub fn decode(w: Row) -> ThreadRecord
     ensures { λ r. ⌜ r ≡ decoded w ⌝ }
 {
     let parameters = parameters_of(w);
     let runtime = runtime_of(w);
     let ready_tree = links_of(w);
     let queue_links = queue_links_of(w);
-    let cpu = CpuIndex(byte_from(w[29]));
+    let cpu = CpuIndex(byte_from(w[CPU]));
     ThreadRecord {
         parameters,
         runtime,
-        ready_turn: w[16],
+        ready_turn: w[READY_TURN],
         ready_tree,
         queue_links,
         cpu,
@@ -171,47 +221,47 @@ fn words_of_membership(membership: QueueMembership) -> [u64; 3]
     }
 }
 
-pub fn with_parameters(w: [u64; 32], parameters: SchedulingParameters) -> [u64; 32]
+pub fn with_parameters(w: Row, parameters: SchedulingParameters) -> Row
     ensures { λ r. ⌜ decoded r ≡ withParameters parameters (decoded w) ⌝ }
 {
     let words = words_of_parameters(parameters);
     let mut row = w;
-    row[0] = words[0];
-    row[1] = words[1];
-    row[2] = words[2];
-    row[3] = words[3];
-    row[4] = words[4];
-    row[5] = words[5];
-    row[6] = words[6];
-    row[7] = words[7];
-    row[8] = words[8];
-    row[9] = words[9];
-    row[10] = words[10];
+    row[POLICY_TAG] = words[0];
+    row[FIFO_PRIORITY] = words[1];
+    row[BAND] = words[2];
+    row[ROLE_TAG] = words[3];
+    row[WEIGHT] = words[4];
+    row[QUANTUM] = words[5];
+    row[BACKEND_TAG] = words[6];
+    row[BUDGET_TAG] = words[7];
+    row[BUDGET_NS] = words[8];
+    row[BUDGET_PERIOD] = words[9];
+    row[BUDGET_BURST] = words[10];
     row
 }
 
-pub fn with_runtime(w: [u64; 32], runtime: PolicyRuntime) -> [u64; 32]
+pub fn with_runtime(w: Row, runtime: PolicyRuntime) -> Row
     ensures { λ r. ⌜ decoded r ≡ withRuntime runtime (decoded w) ⌝ }
 {
     let words = words_of_runtime(runtime);
     let mut row = w;
-    row[11] = words[0];
-    row[12] = words[1];
-    row[13] = words[2];
-    row[14] = words[3];
-    row[15] = words[4];
+    row[RUNTIME_TAG] = words[0];
+    row[RUNTIME_FIRST] = words[1];
+    row[RUNTIME_SECOND] = words[2];
+    row[RUNTIME_THIRD] = words[3];
+    row[RUNTIME_FOURTH] = words[4];
     row
 }
 
-pub fn with_turn(w: [u64; 32], turn: u64) -> [u64; 32]
+pub fn with_turn(w: Row, turn: u64) -> Row
     ensures { λ r. ⌜ decoded r ≡ withTurn turn (decoded w) ⌝ }
 {
     let mut row = w;
-    row[16] = turn;
+    row[READY_TURN] = turn;
     row
 }
 
-pub fn with_links(w: [u64; 32], links: Links) -> [u64; 32]
+pub fn with_links(w: Row, links: Links) -> Row
     ensures { λ r. ⌜ decoded r ≡ withLinks links (decoded w) ⌝ }
 {
     let its_left = links.left;
@@ -220,44 +270,44 @@ pub fn with_links(w: [u64; 32], links: Links) -> [u64; 32]
     let right = words_of_link(its_right);
     let height = word_of_byte(links.height);
     let mut row = w;
-    row[17] = left[0];
-    row[18] = left[1];
-    row[19] = right[0];
-    row[20] = right[1];
-    row[21] = height;
+    row[LEFT_TAG] = left[0];
+    row[LEFT] = left[1];
+    row[RIGHT_TAG] = right[0];
+    row[RIGHT] = right[1];
+    row[HEIGHT] = height;
     row
 }
 
-pub fn with_left(w: [u64; 32], link: Link) -> [u64; 32]
+pub fn with_left(w: Row, link: Link) -> Row
     ensures { λ r. ⌜ decoded r ≡ withLeft link (decoded w) ⌝ }
 {
     let words = words_of_link(link);
     let mut row = w;
-    row[17] = words[0];
-    row[18] = words[1];
+    row[LEFT_TAG] = words[0];
+    row[LEFT] = words[1];
     row
 }
 
-pub fn with_right(w: [u64; 32], link: Link) -> [u64; 32]
+pub fn with_right(w: Row, link: Link) -> Row
     ensures { λ r. ⌜ decoded r ≡ withRight link (decoded w) ⌝ }
 {
     let words = words_of_link(link);
     let mut row = w;
-    row[19] = words[0];
-    row[20] = words[1];
+    row[RIGHT_TAG] = words[0];
+    row[RIGHT] = words[1];
     row
 }
 
-pub fn with_height(w: [u64; 32], height: u8) -> [u64; 32]
+pub fn with_height(w: Row, height: u8) -> Row
     ensures { λ r. ⌜ decoded r ≡ withHeight height (decoded w) ⌝ }
 {
     let word = word_of_byte(height);
     let mut row = w;
-    row[21] = word;
+    row[HEIGHT] = word;
     row
 }
 
-pub fn with_queue_links(w: [u64; 32], links: QueueLinks) -> [u64; 32]
+pub fn with_queue_links(w: Row, links: QueueLinks) -> Row
     ensures { λ r. ⌜ decoded r ≡ withQueueLinks links (decoded w) ⌝ }
 {
     let its_previous = links.previous;
@@ -267,27 +317,27 @@ pub fn with_queue_links(w: [u64; 32], links: QueueLinks) -> [u64; 32]
     let next = words_of_link(its_next);
     let membership = words_of_membership(its_membership);
     let mut row = w;
-    row[22] = previous[0];
-    row[23] = previous[1];
-    row[24] = next[0];
-    row[25] = next[1];
-    row[26] = membership[0];
-    row[27] = membership[1];
-    row[28] = membership[2];
+    row[PREVIOUS_TAG] = previous[0];
+    row[PREVIOUS] = previous[1];
+    row[NEXT_TAG] = next[0];
+    row[NEXT] = next[1];
+    row[MEMBERSHIP_TAG] = membership[0];
+    row[MEMBERSHIP_FIRST] = membership[1];
+    row[MEMBERSHIP_SECOND] = membership[2];
     row
 }
 
-fn with_cpu(w: [u64; 32], cpu: CpuIndex) -> [u64; 32]
+fn with_cpu(w: Row, cpu: CpuIndex) -> Row
     ensures { λ r. ⌜ decoded r ≡ withCpu cpu (decoded w) ⌝ }
 {
     let number = word_of_byte(cpu.0);
     let mut row = w;
-    row[29] = number;
+    row[CPU] = number;
     row
 }
 
 // A row of the record, its spare words 0.
-pub fn encode(thread: ThreadRecord) -> [u64; 32]
+pub fn encode(thread: ThreadRecord) -> Row
     ensures { λ w. ⌜ decoded w ≡ thread ⌝ }
 {
     let parameters = thread.parameters;
@@ -295,7 +345,7 @@ pub fn encode(thread: ThreadRecord) -> [u64; 32]
     let links = thread.ready_tree;
     let queue_links = thread.queue_links;
     let cpu = thread.cpu;
-    let empty: [u64; 32] = [0; 32];
+    let empty: Row = [0; 32];
     let first = with_parameters(empty, parameters);
     let second = with_runtime(first, runtime);
     let third = with_turn(second, thread.ready_turn);

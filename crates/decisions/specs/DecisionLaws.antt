@@ -16,7 +16,8 @@ module _ {A : Type 0} {y : A} (a : A) where
   unfolding onReady
   no-ready f e h = rw e h
 
-  pub some-ready : {x : ReadyKey} {k : DispatchKey} (f : DispatchKey → A) → x ≡ ready.Some k → y ≡ f k → y ≡ onReady x a f
+  pub some-ready : {x : ReadyKey} {k : DispatchKey} (f : DispatchKey → A) → x ≡ ready.Some k → y ≡ f k
+      → y ≡ onReady x a f
   unfolding onReady
   some-ready f e h = rw e h
 
@@ -24,7 +25,8 @@ module _ {A : Type 0} {y : A} (a : A) where
   unfolding onKey
   no-key f e h = rw e h
 
-  pub some-key : {x : KeyOption} {k : DispatchKey} {m : DispatchMode} (f : DispatchKey → DispatchMode → A) → x ≡ key.Some k m → y ≡ f k m → y ≡ onKey x a f
+  pub some-key : {x : KeyOption} {k : DispatchKey} {m : DispatchMode} (f : DispatchKey → DispatchMode → A)
+      → x ≡ key.Some k m → y ≡ f k m → y ≡ onKey x a f
   unfolding onKey
   some-key f e h = rw e h
 
@@ -32,7 +34,8 @@ module _ {A : Type 0} {y : A} (a : A) where
   unfolding onKeyMode
   no-mode f e h = rw e h
 
-  pub some-mode : {x : ModeOption} {m : DispatchMode} (f : DispatchMode → A) → x ≡ mode.Some m → y ≡ f m → y ≡ onKeyMode x a f
+  pub some-mode : {x : ModeOption} {m : DispatchMode} (f : DispatchMode → A) → x ≡ mode.Some m → y ≡ f m
+      → y ≡ onKeyMode x a f
   unfolding onKeyMode
   some-mode f e h = rw e h
 

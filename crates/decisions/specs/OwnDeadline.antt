@@ -32,7 +32,8 @@ borrows m = onMode m false false false false true
 unfoldable pub saturatedEnd : ℕ → ℕ → ℕ
 saturatedEnd now period = onDeadline (periodEnd now period) maxTime (λ end. end)
 
--- A Budget thread with no budget peer runs until its time is spent or its period ends; none where the former does not fit.
+-- A Budget thread with no budget peer runs until its time is spent or its period ends; none where the former does not
+-- fit.
 unfoldable pub budgetExpiry : ℕ → ℕ → BudgetParameters → Deadline
 budgetExpiry now remaining b =
     onDeadline (checkedAdd now remaining) deadline.None
@@ -43,7 +44,8 @@ unfoldable pub turnCompetition : Contention → SchedulingPolicy → Bool
 turnCompetition x p = choose (x .competition) (onPolicy p (λ priority. true) (x .ready) true true) false
 
 -- The algorithm's own deadline, with the runtime as it is left.
-unfoldable pub turnDeadline : ℕ → PolicyRuntime → SchedulingParameters → DispatchMode → Contention → Answer (PolicyRuntime × Deadline)
+unfoldable pub turnDeadline : ℕ → PolicyRuntime → SchedulingParameters → DispatchMode → Contention
+    → Answer (PolicyRuntime × Deadline)
 turnDeadline now r p m x =
     given (turnCompetition x (p .policy))
     (λ competition. given (borrows m) (λ borrow. nextDeadline r now p competition borrow))
@@ -53,7 +55,8 @@ unfoldable pub withoutPeer : Contention → Bool
 withoutPeer x = choose (x .competition) (choose (x .«budget_peer») false true) false
 
 -- A Budget thread's: without a budget peer by its time alone, since an interrupt at its burst could change nothing.
-unfoldable pub budgetDeadline : ℕ → BudgetRuntime → SchedulingParameters → DispatchMode → Contention → Answer (PolicyRuntime × Deadline)
+unfoldable pub budgetDeadline : ℕ → BudgetRuntime → SchedulingParameters → DispatchMode → Contention
+    → Answer (PolicyRuntime × Deadline)
 budgetDeadline now b p m x =
     onBudget (p .budget)
     (turnDeadline now (runtime.Budget b) p m x)
@@ -61,6 +64,8 @@ budgetDeadline now b p m x =
     (given (budgetExpiry now (b .«remaining_ns») q) (λ due. value (runtime.Budget b, due)))
     (turnDeadline now (runtime.Budget b) p m x))
 
-unfoldable pub ownDeadline : ℕ → PolicyRuntime → SchedulingParameters → DispatchMode → Contention → Answer (PolicyRuntime × Deadline)
+unfoldable pub ownDeadline : ℕ → PolicyRuntime → SchedulingParameters → DispatchMode → Contention
+    → Answer (PolicyRuntime × Deadline)
 ownDeadline now r p m x =
-    onRuntime r (turnDeadline now r p m x) (λ fair. turnDeadline now r p m x) (λ b. budgetDeadline now b p m x) (turnDeadline now r p m x)
+    onRuntime r (turnDeadline now r p m x) (λ fair. turnDeadline now r p m x) (λ b. budgetDeadline now b p m x)
+    (turnDeadline now r p m x)

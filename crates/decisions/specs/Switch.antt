@@ -1,4 +1,5 @@
--- The switch rule: whether the current thread gives way to the ready one, and to which end it then goes. After `choose_ready` of scheduler/state/runtime.rs.
+-- The switch rule: whether the current thread gives way to the ready one, and to which end it then goes. After
+-- `choose_ready` of scheduler/state/runtime.rs.
 use mathlib.Core.Bool.{Bool, true, false, not}
 use mathlib.Core.List.{List, [], _∷_}
 use Rattle.refusal.specs.Cases.{choose, given, ifEqual}
@@ -22,7 +23,9 @@ use Rattle.decisions.specs.declared.ModeOption.the-variants as mode
 
 -- `expired` of a runtime: a fair thread's slice or a budget's burst is spent.
 unfoldable pub spent : PolicyRuntime → Bool
-spent x = onRuntime x false (λ fair. ifEqual (fair .«remaining_ns») 0 true false) (λ b. ifEqual (b .«burst_remaining_ns») 0 true false) false
+spent x =
+    onRuntime x false (λ fair. ifEqual (fair .«remaining_ns») 0 true false)
+    (λ b. ifEqual (b .«burst_remaining_ns») 0 true false) false
 
 -- None first.
 unfoldable pub onReady : {A : Type 0} → ReadyKey → A → (DispatchKey → A) → A
@@ -39,22 +42,26 @@ compareRanks a b = compareParts (a .rank ∷ a .«algorithm_rank» ∷ []) (b .r
 
 -- Urgency, rank and algorithm rank, compared in that order.
 unfoldable pub compareBands : DispatchKey → DispatchKey → Ordering
-compareBands a b = compareParts (a .urgency ∷ a .rank ∷ a .«algorithm_rank» ∷ []) (b .urgency ∷ b .rank ∷ b .«algorithm_rank» ∷ [])
+compareBands a b =
+    compareParts (a .urgency ∷ a .rank ∷ a .«algorithm_rank» ∷ []) (b .urgency ∷ b .rank ∷ b .«algorithm_rank» ∷ [])
 
 unfoldable pub compareAlgorithms : DispatchKey → DispatchKey → Ordering
-compareAlgorithms a b = compareParts (a .algorithm .high ∷ a .algorithm .low ∷ []) (b .algorithm .high ∷ b .algorithm .low ∷ [])
+compareAlgorithms a b =
+    compareParts (a .algorithm .high ∷ a .algorithm .low ∷ []) (b .algorithm .high ∷ b .algorithm .low ∷ [])
 
 -- Whether the ready key is less than the current one.
 unfoldable pub lesser : DispatchKey → DispatchKey → Bool
 lesser a b = onOrdering (compareKeys a b) true false false
 
--- On equal urgency, rank and algorithm rank, a FIFO thread: to a lesser algorithm key, or to an equal one where it yields or goes to the tail.
+-- On equal urgency, rank and algorithm rank, a FIFO thread: to a lesser algorithm key, or to an equal one where it
+-- yields or goes to the tail.
 unfoldable pub fifoSwitches : DispatchKey → DispatchKey → Bool → Bool → Bool
 fifoSwitches a b yielding tail = onOrdering (compareAlgorithms a b) true (choose yielding true tail) false
 
 -- A Fair thread: where it yields or its slice expired; under Stride an expired one "yields only to a lesser whole key".
 unfoldable pub fairSwitches : DispatchKey → DispatchKey → FairBackend → Bool → Bool → Bool
-fairSwitches a b backend expired yielding = choose yielding true (choose expired (onBackend backend (lesser a b) true) false)
+fairSwitches a b backend expired yielding =
+    choose yielding true (choose expired (onBackend backend (lesser a b) true) false)
 
 -- A Budget thread: where it yields or its burst is spent.
 unfoldable pub switchesAmong : DispatchKey → DispatchKey → SchedulingParameters → Bool → Bool → Bool → Bool
@@ -76,7 +83,8 @@ switches a b p expired yielding tail =
 
 -- No ready thread: no switch. A current thread without a key gives way to any.
 unfoldable pub shouldSwitch : ReadyKey → KeyOption → SchedulingParameters → Bool → Bool → Bool → Bool
-shouldSwitch r k p expired yielding tail = onReady r false (λ a. onKey k true (λ b m. switches a b p expired yielding tail))
+shouldSwitch r k p expired yielding tail =
+    onReady r false (λ a. onKey k true (λ b m. switches a b p expired yielding tail))
 
 -- A thread that neither expired nor yields keeps its place in front.
 unfoldable pub goesToFront : Bool → Bool → Bool

@@ -1,7 +1,8 @@
--- Turns, and the two counters that they come from. After `prepare_enqueue` of scheduler/state/runtime.rs; BACK_TURN and FRONT_TURN are one value.
+-- Turns, and the two counters that they come from. After `prepare_enqueue` of scheduler/state/runtime.rs; BACK_TURN and
+-- FRONT_TURN are one value.
 use Prim.Native.Nat.{ℕ, _+_, _-_}
 use mathlib.Core.Bool.{Bool}
-use Rattle.refusal.specs.Answer.{Answer, value, refused}
+use Rattle.refusal.specs.Answer.{Answer, value, refused, turnsSpent}
 use Rattle.refusal.specs.Cases.{choose, ifLess, ifEqual}
 use Rattle.time.specs.Time.{maxTime}
 use Rattle.policy.specs.declared.SchedulingPolicy.{SchedulingPolicy}
@@ -18,14 +19,14 @@ unfoldable pub frontTurn : Turns → Answer Taken
 frontTurn c =
     ifLess 1 (c .front)
     (value (record { turn = c .front - 1; turns = record { back = c .back; front = c .front - 1 } }))
-    (refused 8)
+    (refused turnsSpent)
 
 -- The next turn at the back; TurnsSpent where it is 2^64 - 1.
 unfoldable pub backTurn : Turns → Answer Taken
 backTurn c =
     ifLess (c .back) maxTime
     (value (record { turn = c .back; turns = record { back = c .back + 1; front = c .front } }))
-    (refused 8)
+    (refused turnsSpent)
 
 -- "Others keep their turn unless it is 0."
 unfoldable pub keptTurn : ℕ → Turns → Answer Taken

@@ -1,4 +1,5 @@
-// What scheduler/state/runtime.rs decides by values alone: turns, the switch rule, and the current thread's own deadline. Crate runtime has the calls over the table.
+// What scheduler/state/runtime.rs decides by values alone: turns, the switch rule, and the current thread's own
+// deadline. Crate runtime has the calls over the table.
 mod own;
 mod switching;
 mod taking;
@@ -15,7 +16,8 @@ use arbitration::DispatchMode;
 use dispatch_keys::DispatchKey;
 use refusal::Refusal;
 
-// The turn counters: the next turn at the back, and the last that was taken at the front. The source's statics BACK_TURN and FRONT_TURN.
+// The turn counters: the next turn at the back, and the last that was taken at the front. The source's statics
+// BACK_TURN and FRONT_TURN.
 pub struct Turns {
     pub back: u64,
     pub front: u64,
@@ -62,7 +64,8 @@ pub enum ModeOption {
     Some(DispatchMode),
 }
 
-// What else there is on the processor: any queued thread, a queued budget thread, a ready thread, and the demand of all.
+// What else there is on the processor: any queued thread, a queued budget thread, a ready thread, and the demand of
+// all.
 pub struct Contention {
     pub competition: bool,
     pub budget_peer: bool,

@@ -1,4 +1,5 @@
-// Of the current thread's own deadline, what is decided by values: whether a mode borrows, and a budget's expiry without a budget peer. After `refresh_deadline`.
+// Of the current thread's own deadline, what is decided by values: whether a mode borrows, and a budget's expiry
+// without a budget peer. After `refresh_deadline`.
 ghost use mathlib.Core.Path.{_≡_};
 ghost use Rattle.decisions.specs.OwnDeadline.{borrows, saturatedEnd, budgetExpiry};
 use arbitration::DispatchMode;

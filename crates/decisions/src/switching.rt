@@ -1,6 +1,9 @@
-// The switch rule. After `choose_ready`: what it reads of the current thread and of the selection comes as arguments, and ending a turn is its own call.
+// The switch rule. After `choose_ready`: what it reads of the current thread and of the selection comes as arguments,
+// and ending a turn is its own call.
 ghost use mathlib.Core.Path.{_≡_};
-ghost use Rattle.decisions.specs.Switch.{compareRanks, compareBands, compareAlgorithms, lesser, fifoSwitches, fairSwitches, switchesAmong, switchesBelow, switches, shouldSwitch, goesToFront, chooseReady, modeOf};
+ghost use Rattle.decisions.specs.Switch.{compareRanks, compareBands, compareAlgorithms, lesser, fifoSwitches};
+ghost use Rattle.decisions.specs.Switch.{fairSwitches, switchesAmong, switchesBelow, switches, shouldSwitch};
+ghost use Rattle.decisions.specs.Switch.{goesToFront, chooseReady, modeOf};
 use crate::Choice;
 use crate::ModeOption;
 use crate::ReadyKey;

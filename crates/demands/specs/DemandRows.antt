@@ -21,11 +21,15 @@ use Rattle.arbitration.specs.declared.Candidate.{Candidate}
 use Rattle.arbitration.specs.declared.Demand.{Demand}
 use Rattle.arbitration.specs.Window.{isPriority, isProtected}
 use Rattle.thread.specs.Filing.{budgetAvailable}
-use Rattle.codec.specs.Codec.{word, policyFrom, roleFrom, backendFrom, epochFrom, runtimeFrom, parametersOf, runtimeOf, decoded}
+use Rattle.codec.specs.Codec.{word, policyFrom, roleFrom, backendFrom, epochFrom, runtimeFrom, parametersOf, runtimeOf}
+use Rattle.codec.specs.Codec.{decoded, readyTurn}
 use Rattle.demands.specs.declared.Gathered.{Gathered}
 use Rattle.demands.specs.declared.PassOption.{PassOption}
 use Rattle.demands.specs.declared.PassOption.the-variants as pass
-use Rattle.demands.specs.Demands.{candidateOf, demandOf, joined, addDemand, lesserPass, onPass, lowestPass, gathered, noDemand}
+use Rattle.demands.specs.Demands.{candidateOf, demandOf, joined, addDemand, lesserPass, onPass, lowestPass}
+use Rattle.demands.specs.Demands.{gathered, noDemand}
+use Rattle.policy_words.specs.PolicyWords.{policyTag, fifoPriority, roleTag, backendTag, runtimeTag, runtimeFirst}
+use Rattle.policy_words.specs.PolicyWords.{runtimeSecond, runtimeThird, runtimeFourth}
 
 -- The lower of the lowest pass so far and another.
 abbrev pub lowerPass : PassOption → Wide → PassOption
@@ -41,28 +45,46 @@ priorityTag tag = ifEqual tag 0 false (ifEqual tag 1 true false)
 -- `demandOf` by the policy's tag.
 unfoldable pub demandRow : List ℕ → Demand
 demandRow w =
-    ifEqual (word w 0) 0
-    (record { protected = isProtected (roleFrom (word w 3)); fair = true; «window_sensitive» = isPriority (roleFrom (word w 3)); «eligible_budget» = false; «any_budget» = false })
-    (ifEqual (word w 0) 1
-    (record { protected = isProtected (roleFrom (word w 3)); fair = true; «window_sensitive» = true; «eligible_budget» = false; «any_budget» = false })
-    (ifEqual (word w 0) 2
+    ifEqual (word w policyTag) 0
+    (record {
+      protected = isProtected (roleFrom (word w roleTag));
+      fair = true;
+      «window_sensitive» = isPriority (roleFrom (word w roleTag));
+      «eligible_budget» = false;
+      «any_budget» = false;
+    })
+    (ifEqual (word w policyTag) 1
+    (record {
+      protected = isProtected (roleFrom (word w roleTag));
+      fair = true;
+      «window_sensitive» = true;
+      «eligible_budget» = false;
+      «any_budget» = false;
+    })
+    (ifEqual (word w policyTag) 2
     (given (budgetAvailable (decoded w .runtime))
-    (λ available. record { protected = choose (isProtected (roleFrom (word w 3))) available false; fair = false; «window_sensitive» = isPriority (roleFrom (word w 3)); «eligible_budget» = available; «any_budget» = true }))
+    (λ available. record {
+      protected = choose (isProtected (roleFrom (word w roleTag))) available false;
+      fair = false;
+      «window_sensitive» = isPriority (roleFrom (word w roleTag));
+      «eligible_budget» = available;
+      «any_budget» = true;
+    }))
     noDemand))
 
 -- The pass by the tags of runtime and backend.
 unfoldable pub passRow : List ℕ → Wide
 passRow w =
-    ifEqual (word w 11) 0 zeroPass
-    (ifEqual (word w 11) 1
-    (ifEqual (word w 6) 0 (record { high = word w 12; low = word w 13 }) zeroPass)
+    ifEqual (word w runtimeTag) 0 zeroPass
+    (ifEqual (word w runtimeTag) 1
+    (ifEqual (word w backendTag) 0 (record { high = word w runtimeFirst; low = word w runtimeSecond }) zeroPass)
     zeroPass)
 
 -- `lowestPass` by the policy's tag.
 unfoldable pub lowestRow : PassOption → List ℕ → PassOption
 lowestRow lowest w =
-    ifEqual (word w 0) 0 lowest
-    (ifEqual (word w 0) 1
+    ifEqual (word w policyTag) 0 lowest
+    (ifEqual (word w policyTag) 1
     (given (candidateOf (decoded w) .«fair_pass») (lowerPass lowest))
     lowest)
 
@@ -70,7 +92,8 @@ protected-tag : (tag : ℕ) → isProtected (roleFrom tag) ≡ protectedTag tag
 unfolding isProtected onRole roleFrom protectedTag ifEqual choose
 protected-tag tag = go (eqb tag 0) (eqb tag 1)
   where
-    go : (a b : Bool) → onRole (choose a role.Ordinary (choose b role.Priority role.Protected)) false false true ≡ choose a false (choose b false true)
+    go : (a b : Bool) → onRole (choose a role.Ordinary (choose b role.Priority role.Protected)) false false true
+        ≡ choose a false (choose b false true)
     go true b = refl
     go false true = refl
     go false false = refl
@@ -79,18 +102,21 @@ priority-tag : (tag : ℕ) → isPriority (roleFrom tag) ≡ priorityTag tag
 unfolding isPriority onRole roleFrom priorityTag ifEqual choose
 priority-tag tag = go (eqb tag 0) (eqb tag 1)
   where
-    go : (a b : Bool) → onRole (choose a role.Ordinary (choose b role.Priority role.Protected)) false true false ≡ choose a false (choose b true false)
+    go : (a b : Bool) → onRole (choose a role.Ordinary (choose b role.Priority role.Protected)) false true false
+        ≡ choose a false (choose b true false)
     go true b = refl
     go false true = refl
     go false false = refl
 
 policy-tag : {A : Type 0} (tag priority : ℕ) (fifo : ThreadPriority → A) (fair budgeted idle : A)
-    → onPolicy (policyFrom tag priority) fifo fair budgeted idle ≡ ifEqual tag 0 (fifo (record { 0 = priority % 256 })) (ifEqual tag 1 fair (ifEqual tag 2 budgeted idle))
+    → onPolicy (policyFrom tag priority) fifo fair budgeted idle ≡ ifEqual tag 0 (fifo (record { 0 = priority % 256 }))
+    (ifEqual tag 1 fair (ifEqual tag 2 budgeted idle))
 unfolding onPolicy policyFrom ifEqual choose
 policy-tag {A} tag priority fifo fair budgeted idle = go (eqb tag 0) (eqb tag 1) (eqb tag 2)
   where
     go : (a b c : Bool)
-        → _≡_ {A = A} (onPolicy (choose a (policy.Fifo (record { 0 = priority % 256 })) (choose b policy.Fair (choose c policy.Budget policy.Idle))) fifo fair budgeted idle)
+        → _≡_ {A = A} (onPolicy (choose a (policy.Fifo (record { 0 = priority % 256 }))
+        (choose b policy.Fair (choose c policy.Budget policy.Idle))) fifo fair budgeted idle)
         (choose a (fifo (record { 0 = priority % 256 })) (choose b fair (choose c budgeted idle)))
     go true b c = refl
     go false true c = refl
@@ -100,22 +126,33 @@ policy-tag {A} tag priority fifo fair budgeted idle = go (eqb tag 0) (eqb tag 1)
 module _ (w : List ℕ) where
   pub demand-by-tags : {r : Demand} → r ≡ demandRow w → r ≡ demandOf (candidateOf (decoded w))
   unfolding demandOf candidateOf demandRow given decoded parametersOf
-  demand-by-tags e = e ∙ sym (policy-tag (word w 0) (word w 1) _ _ _ _)
+  demand-by-tags e = e ∙ sym (policy-tag (word w policyTag) (word w fifoPriority) _ _ _ _)
 
   pass-row : candidateOf (decoded w) .«fair_pass» ≡ passRow w
-  unfolding candidateOf candidateKey given decoded parametersOf runtimeOf runtimeFrom backendFrom onRuntime onBackend passRow ifEqual choose
-  pass-row = go (eqb (word w 11) 0) (eqb (word w 11) 1) (eqb (word w 11) 2) (eqb (word w 6) 0)
+  unfolding candidateOf candidateKey given decoded parametersOf runtimeOf runtimeFrom backendFrom onRuntime onBackend
+      passRow ifEqual choose
+  pass-row =
+      go (eqb (word w runtimeTag) 0) (eqb (word w runtimeTag) 1) (eqb (word w runtimeTag) 2) (eqb (word w backendTag) 0)
     where
       go : (a b c d : Bool)
           → onRuntime {A = RuntimeKey} (choose a runtime.Fifo
-          (choose b (runtime.Fair (record { pass = record { high = word w 12; low = word w 13 }; «remaining_ns» = word w 14 }))
-          (choose c (runtime.Budget (record { epoch = epochFrom (word w 12) (word w 13); «remaining_ns» = word w 14; «burst_remaining_ns» = word w 15 })) runtime.Idle)))
-          (record { pass = zeroPass; turn = word w 16 })
-          (λ fair. onBackend (choose d backend.Stride backend.RoundRobin) (record { pass = fair .pass; turn = word w 16 }) (record { pass = zeroPass; turn = word w 16 }))
-          (λ b. record { pass = zeroPass; turn = word w 16 })
-          (record { pass = zeroPass; turn = word w 16 })
+          (choose b (runtime.Fair (record {
+            pass = record { high = word w runtimeFirst; low = word w runtimeSecond };
+            «remaining_ns» = word w runtimeThird;
+          }))
+          (choose c (runtime.Budget (record {
+            epoch = epochFrom (word w runtimeFirst) (word w runtimeSecond);
+            «remaining_ns» = word w runtimeThird;
+            «burst_remaining_ns» = word w runtimeFourth;
+          })) runtime.Idle)))
+          (record { pass = zeroPass; turn = word w readyTurn })
+          (λ fair. onBackend (choose d backend.Stride backend.RoundRobin)
+          (record { pass = fair .pass; turn = word w readyTurn }) (record { pass = zeroPass; turn = word w readyTurn }))
+          (λ b. record { pass = zeroPass; turn = word w readyTurn })
+          (record { pass = zeroPass; turn = word w readyTurn })
           .pass
-          ≡ choose a zeroPass (choose b (choose d (record { high = word w 12; low = word w 13 }) zeroPass) zeroPass)
+          ≡ choose a zeroPass (choose b (choose d (record { high = word w runtimeFirst; low = word w runtimeSecond })
+          zeroPass) zeroPass)
       go true b c d = refl
       go false true c true = refl
       go false true c false = refl
@@ -127,7 +164,9 @@ module _ (w : List ℕ) where
 
   lowest-row : (lowest : PassOption) → lowestPass lowest (candidateOf (decoded w)) ≡ lowestRow lowest w
   unfolding lowestPass lowestRow candidateOf given decoded parametersOf ifEqual choose
-  lowest-row lowest = policy-tag (word w 0) (word w 1) _ _ _ _ ∙ go lowest _ (eqb (word w 0) 0) (eqb (word w 0) 1) (eqb (word w 0) 2)
+  lowest-row lowest = policy-tag (word w policyTag)
+      (word w fifoPriority) _ _ _ _ ∙ go lowest _ (eqb (word w policyTag) 0) (eqb (word w policyTag) 1)
+      (eqb (word w policyTag) 2)
     where
       go : (x y : PassOption) (a b c : Bool) → choose a x (choose b y (choose c x x)) ≡ choose a x (choose b y x)
       go x y true b c = refl
@@ -135,12 +174,15 @@ module _ (w : List ℕ) where
       go x y false false true = refl
       go x y false false false = refl
 
-  pub lowest-by-tags : {r : PassOption} (lowest : PassOption) → r ≡ lowestRow lowest w → r ≡ lowestPass lowest (candidateOf (decoded w))
+  pub lowest-by-tags : {r : PassOption} (lowest : PassOption) → r ≡ lowestRow lowest w
+      → r ≡ lowestPass lowest (candidateOf (decoded w))
   lowest-by-tags lowest e = e ∙ sym (lowest-row lowest)
 
   -- The parts of a candidate.
-  pub candidate-read : {p : SchedulingParameters} {f : Wide} {a : Bool} → p ≡ parametersOf w → f ≡ candidateOf (decoded w) .«fair_pass» → a ≡ budgetAvailable (decoded w .runtime)
-      → record { parameters = p; «fair_pass» = f; turn = word w 16; «budget_available» = a } ≡ candidateOf (decoded w)
+  pub candidate-read : {p : SchedulingParameters} {f : Wide} {a : Bool} → p ≡ parametersOf w
+      → f ≡ candidateOf (decoded w) .«fair_pass» → a ≡ budgetAvailable (decoded w .runtime)
+      → record { parameters = p; «fair_pass» = f; turn = word w readyTurn; «budget_available» = a }
+      ≡ candidateOf (decoded w)
   unfolding candidateOf given decoded
   candidate-read e₁ e₂ e₃ = rw (e₁, e₂, e₃)
 
@@ -151,9 +193,11 @@ pub priority-by-tag : (tag : ℕ) {r : Bool} → r ≡ priorityTag tag → r ≡
 priority-by-tag tag e = e ∙ sym (priority-tag tag)
 
 -- Demand and lowest pass, each with one more.
-pub row-gathered : (g : Gathered) (c : Candidate) {more d : Demand} {l : PassOption} → more ≡ demandOf c → d ≡ joined (g .demand) more → l ≡ lowestPass (g .«fair_min_pass») c
+pub row-gathered : (g : Gathered) (c : Candidate) {more d : Demand} {l : PassOption} → more ≡ demandOf c
+    → d ≡ joined (g .demand) more → l ≡ lowestPass (g .«fair_min_pass») c
     → record { demand = d; «fair_min_pass» = l } ≡ gathered g c
 unfolding gathered addDemand given
 row-gathered g c e₁ e₂ e₃ = rw (e₂, e₁, e₃)
 
-pub ruleset by-rows = (demand-by-tags, pass-by-tags, lowest-by-tags, candidate-read, protected-by-tag, priority-by-tag, row-gathered)
+pub ruleset by-rows =
+    (demand-by-tags, pass-by-tags, lowest-by-tags, candidate-read, protected-by-tag, priority-by-tag, row-gathered)

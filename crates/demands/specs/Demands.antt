@@ -1,4 +1,5 @@
--- Candidates, the demand of several, and their lowest fair pass. After `ReadySnapshot::candidate` and `add_demand` of scheduler/queue.rs.
+-- Candidates, the demand of several, and their lowest fair pass. After `ReadySnapshot::candidate` and `add_demand` of
+-- scheduler/queue.rs.
 use mathlib.Core.Bool.{Bool, true, false}
 use mathlib.Core.List.{[], _∷_}
 use Rattle.refusal.specs.Cases.{choose, given}
@@ -23,17 +24,41 @@ unfoldable pub candidateOf : ThreadRecord → Candidate
 candidateOf r =
     given (candidateKey (r .runtime) (r .parameters) (r .«ready_turn»))
     (λ key. given (budgetAvailable (r .runtime))
-    (λ available. record { parameters = r .parameters; «fair_pass» = key .pass; turn = r .«ready_turn»; «budget_available» = available }))
+    (λ available. record {
+      parameters = r .parameters;
+      «fair_pass» = key .pass;
+      turn = r .«ready_turn»;
+      «budget_available» = available;
+    }))
 
 abbrev pub noDemand : Demand
-noDemand = record { protected = false; fair = false; «window_sensitive» = false; «eligible_budget» = false; «any_budget» = false }
+noDemand =
+    record {
+      protected = false;
+      fair = false;
+      «window_sensitive» = false;
+      «eligible_budget» = false;
+      «any_budget» = false;
+    }
 
 -- What one candidate asks for. Idle asks for nothing; a Budget thread with no time left is owed no protection.
 unfoldable pub demandOf : Candidate → Demand
 demandOf c =
     onPolicy (c .parameters .policy)
-    (λ priority. record { protected = isProtected (c .parameters .role); fair = true; «window_sensitive» = isPriority (c .parameters .role); «eligible_budget» = false; «any_budget» = false })
-    (record { protected = isProtected (c .parameters .role); fair = true; «window_sensitive» = true; «eligible_budget» = false; «any_budget» = false })
+    (λ priority. record {
+      protected = isProtected (c .parameters .role);
+      fair = true;
+      «window_sensitive» = isPriority (c .parameters .role);
+      «eligible_budget» = false;
+      «any_budget» = false;
+    })
+    (record {
+      protected = isProtected (c .parameters .role);
+      fair = true;
+      «window_sensitive» = true;
+      «eligible_budget» = false;
+      «any_budget» = false;
+    })
     (record {
       protected = choose (isProtected (c .parameters .role)) (c .«budget_available») false;
       fair = false;

@@ -1,4 +1,5 @@
-// Candidates, the demand of several, and their lowest fair pass. After `ReadySnapshot::candidate` and `add_demand` of scheduler/queue.rs.
+// Candidates, the demand of several, and their lowest fair pass. After `ReadySnapshot::candidate` and `add_demand` of
+// scheduler/queue.rs.
 ghost use mathlib.Core.Bool.{true, false};
 ghost use mathlib.Core.Path.{_≡_};
 ghost use Rattle.refusal.specs.Cases.{choose};
@@ -11,6 +12,14 @@ use arbitration::Candidate;
 use arbitration::Demand;
 use arbitration::is_priority;
 use arbitration::is_protected;
+use codec::BACKEND_TAG;
+use codec::POLICY_TAG;
+use codec::READY_TURN;
+use codec::ROLE_TAG;
+use codec::RUNTIME_FIRST;
+use codec::RUNTIME_SECOND;
+use codec::RUNTIME_TAG;
+use codec::Row;
 use codec::parameters_of;
 use order::Ordering;
 use policy::SchedulingPolicy;
@@ -239,33 +248,33 @@ fn is_owed_by_tag(tag: u64, available: bool) -> bool
 }
 
 // What the row's record asks for, by its tags.
-fn demand_of_row(w: [u64; 32]) -> Demand
+fn demand_of_row(w: Row) -> Demand
     ensures { λ r. ⌜ r ≡ demands.demandOf (demands.candidateOf (decoded w)) ⌝ }
 {
-    if w[0] == 0 {
+    if w[POLICY_TAG] == 0 {
         return Demand {
-            protected: is_protected_tag(w[3]),
+            protected: is_protected_tag(w[ROLE_TAG]),
             fair: true,
-            window_sensitive: is_priority_tag(w[3]),
+            window_sensitive: is_priority_tag(w[ROLE_TAG]),
             eligible_budget: false,
             any_budget: false,
         };
     }
-    if w[0] == 1 {
+    if w[POLICY_TAG] == 1 {
         return Demand {
-            protected: is_protected_tag(w[3]),
+            protected: is_protected_tag(w[ROLE_TAG]),
             fair: true,
             window_sensitive: true,
             eligible_budget: false,
             any_budget: false,
         };
     }
-    if w[0] == 2 {
+    if w[POLICY_TAG] == 2 {
         let available = has_time_left(w);
         return Demand {
-            protected: is_owed_by_tag(w[3], available),
+            protected: is_owed_by_tag(w[ROLE_TAG], available),
             fair: false,
-            window_sensitive: is_priority_tag(w[3]),
+            window_sensitive: is_priority_tag(w[ROLE_TAG]),
             eligible_budget: available,
             any_budget: true,
         };
@@ -280,17 +289,17 @@ fn demand_of_row(w: [u64; 32]) -> Demand
 }
 
 // The pass of a Stride row, else 0.
-fn pass_of_row(w: [u64; 32]) -> Wide
+fn pass_of_row(w: Row) -> Wide
     ensures { λ r. ⌜ r ≡ demands.candidateOf (decoded w) .«fair_pass» ⌝ }
 {
-    if w[11] == 0 {
+    if w[RUNTIME_TAG] == 0 {
         return Wide { high: 0, low: 0 };
     }
-    if w[11] == 1 {
-        if w[6] == 0 {
+    if w[RUNTIME_TAG] == 1 {
+        if w[BACKEND_TAG] == 0 {
             return Wide {
-                high: w[12],
-                low: w[13],
+                high: w[RUNTIME_FIRST],
+                low: w[RUNTIME_SECOND],
             };
         }
         return Wide { high: 0, low: 0 };
@@ -299,13 +308,13 @@ fn pass_of_row(w: [u64; 32]) -> Wide
 }
 
 // The lowest pass with one more row: only a Fair one counts.
-fn lowest_with_row(lowest: PassOption, w: [u64; 32]) -> PassOption
+fn lowest_with_row(lowest: PassOption, w: Row) -> PassOption
     ensures { λ r. ⌜ r ≡ demands.lowestPass lowest (demands.candidateOf (decoded w)) ⌝ }
 {
-    if w[0] == 0 {
+    if w[POLICY_TAG] == 0 {
         return lowest;
     }
-    if w[0] == 1 {
+    if w[POLICY_TAG] == 1 {
         let pass = pass_of_row(w);
         return lower_pass(lowest, pass);
     }
@@ -313,7 +322,7 @@ fn lowest_with_row(lowest: PassOption, w: [u64; 32]) -> PassOption
 }
 
 // Demand and lowest pass with one more row.
-pub fn gathered_row(so_far: Gathered, w: [u64; 32]) -> Gathered
+pub fn gathered_row(so_far: Gathered, w: Row) -> Gathered
     ensures { λ r. ⌜ r ≡ demands.gathered «so_far» (demands.candidateOf (decoded w)) ⌝ }
 {
     let old = so_far.demand;
@@ -328,7 +337,7 @@ pub fn gathered_row(so_far: Gathered, w: [u64; 32]) -> Gathered
 }
 
 // The row's record as arbitration sees it.
-pub fn candidate_of_row(w: [u64; 32]) -> Candidate
+pub fn candidate_of_row(w: Row) -> Candidate
     ensures { λ r. ⌜ r ≡ demands.candidateOf (decoded w) ⌝ }
 {
     let parameters = parameters_of(w);
@@ -337,7 +346,7 @@ pub fn candidate_of_row(w: [u64; 32]) -> Candidate
     Candidate {
         parameters,
         fair_pass,
-        turn: w[16],
+        turn: w[READY_TURN],
         budget_available: available,
     }
 }

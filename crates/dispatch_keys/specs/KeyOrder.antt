@@ -31,7 +31,14 @@ same-parts a b e =
     let l : a .algorithm .low ≡ b .algorithm .low = cc in
     let c : a .band ≡ b .band = cc in
     let t : a .turn ≡ b .turn = cc in
-    λ i. record { urgency = u i; rank = r i; «algorithm_rank» = n i; algorithm = record { high = h i; low = l i }; band = c i; turn = t i }
+    λ i. record {
+      urgency = u i;
+      rank = r i;
+      «algorithm_rank» = n i;
+      algorithm = record { high = h i; low = l i };
+      band = c i;
+      turn = t i;
+    }
 
 -- Two keys that are neither less nor greater are one key.
 pub total : (a b : DispatchKey) → compareKeys a b ≡ Equal → a ≡ b

@@ -18,7 +18,7 @@ use Rattle.thread.specs.declared.ThreadQueue.{ThreadQueue}
 use Rattle.thread.specs.Membership.{emptyQueue}
 use Rattle.codec.specs.Codec.{word, linkFrom, epochFrom}
 use Rattle.queue.specs.declared.Root.{Root}
-use Rattle.queue.specs.declared.CpuRunQueue.{CpuRunQueue}
+use Rattle.queue.specs.RunQueue.{CpuRunQueue}
 use Rattle.queue_work.specs.declared.Parts.{Parts}
 use Rattle.queue.specs.declared.Filed.{Filed}
 use Rattle.queue.specs.declared.Judgement.{Judgement}
@@ -30,9 +30,12 @@ use Rattle.queue.specs.Queue.{Step, emptyRoot, rootOf, marked, stored, newQueue
 use Rattle.queue.specs.Plan.{judgement, insertionPlan, insertBy, removeFiled}
 use Rattle.queue.specs.Answers.{judgementAnswer, plannedAnswer}
 use Rattle.queue.specs.PlanLaws.{kept, enqueue-planned, enqueue-refused, remove-judged, remove-refused}
-use Rattle.lent_queue.specs.LentQueue.{listFrom, rootFrom, haltedFrom, queueOf, withRealtime, withFair, withRoot, withCounts}
+use Rattle.lent_queue.specs.LentQueue.{queueRows, priorities, treeCount, fairRow, rootRows, marksRow, headTag}
+use Rattle.lent_queue.specs.LentQueue.{headWord, tailTag, tailWord, lenWord, totalWord, budgetsWord, epochTag}
+use Rattle.lent_queue.specs.LentQueue.{epochWord, markWord, listFrom, rootFrom, haltedFrom, queueOf}
+use Rattle.lent_queue.specs.LentQueue.{withRealtime, withFair, withRoot, withCounts, withMarks}
 
-map-set : {A B : Type 0} (f : A → B) (l : List A) (i : ℕ) (a : A) → map f (set l i a) ≡ set (map f l) i (f a)
+pub map-set : {A B : Type 0} (f : A → B) (l : List A) (i : ℕ) (a : A) → map f (set l i a) ≡ set (map f l) i (f a)
 map-set f [] i a = refl
 map-set f (x ∷ l) zero a = refl
 map-set {A} {B} f (x ∷ l) (suc i) a = ap {B = List B} (λ r. f x ∷ r) (map-set f l i a)
@@ -48,7 +51,8 @@ take-set-beyond : {A : Type 0} (n : ℕ) (l : List A) (i : ℕ) (a : A) → n �
 take-set-beyond zero l i a h = refl
 take-set-beyond (suc n) [] i a h = refl
 take-set-beyond (suc n) (x ∷ l) zero a h = absurd (not-suc-le-zero h)
-take-set-beyond {A} (suc n) (x ∷ l) (suc i) a h = ap {B = List A} (λ r. x ∷ r) (take-set-beyond n l i a (le-of-suc-le-suc h))
+take-set-beyond {A} (suc n) (x ∷ l) (suc i) a h =
+    ap {B = List A} (λ r. x ∷ r) (take-set-beyond n l i a (le-of-suc-le-suc h))
 
 -- A store before the part that is left.
 drop-set-before : {A : Type 0} (n : ℕ) (l : List A) (i : ℕ) (a : A) → i < n → drop n (set l i a) ≡ drop n l
@@ -75,97 +79,159 @@ get-drop (suc n) (x ∷ l) i d = rw (suc-add n i) (get-drop n l i d)
 
 module _ (rows : List (List ℕ)) where
   -- A priority's list is its row.
-  pub list-read : (p : ℕ) → p < 256 → listFrom (getD rows p []) ≡ getD (queueOf rows .realtime) p emptyQueue
+  pub list-read : (p : ℕ) → p < priorities → listFrom (getD rows p []) ≡ getD (queueOf rows .realtime) p emptyQueue
   unfolding queueOf listFrom linkFrom ifEqual choose
-  list-read p h = sym (List·getD-map listFrom (take 256 rows) p [] ∙ ap listFrom (get-take 256 rows p [] h))
+  list-read p h =
+      sym (List·getD-map listFrom (take priorities rows) p [] ∙ ap listFrom (get-take priorities rows p [] h))
 
   -- A tree's root is its row.
-  pub root-read : (k : ℕ) → k < 12 → rootFrom (getD rows (257 + k) []) ≡ getD (queueOf rows .indices) k emptyRoot
+  pub root-read : (k : ℕ) → k < treeCount
+      → rootFrom (getD rows (rootRows + k) []) ≡ getD (queueOf rows .indices) k emptyRoot
   unfolding queueOf rootFrom linkFrom ifEqual choose
-  root-read k h = sym (List·getD-map rootFrom (take 12 (drop 257 rows)) k [] ∙ ap rootFrom (get-take 12 (drop 257 rows) k [] h ∙ get-drop 257 rows k []))
+  root-read k h = sym (List·getD-map rootFrom (take treeCount (drop rootRows rows)) k []
+      ∙ ap rootFrom (get-take treeCount (drop rootRows rows) k [] h ∙ get-drop rootRows rows k []))
 
-  pub real-time-stored : (p : ℕ) (w : List ℕ) {l : ThreadQueue} → listFrom w ≡ l → p < 256 → queueOf (set rows p w) ≡ withRealtime (queueOf rows) p l
+  pub real-time-stored : (p : ℕ) (w : List ℕ) {l : ThreadQueue} → listFrom w ≡ l → p < priorities
+      → queueOf (set rows p w) ≡ withRealtime (queueOf rows) p l
   unfolding queueOf withRealtime
   real-time-stored p w e h =
-      rw (take-set 256 rows p w, map-set listFrom (take 256 rows) p w, getD-set-other rows p 269 w [] (λ e. omega arith), getD-set-other rows p 256 w [] (λ e. omega arith), drop-set-before 257 rows p w (omega arith), e)
+      rw (
+        take-set priorities rows p w,
+        map-set listFrom (take priorities rows) p w,
+        getD-set-other rows p marksRow w [] (λ e. omega arith),
+        getD-set-other rows p fairRow w [] (λ e. omega arith),
+        drop-set-before rootRows rows p w (omega arith),
+        e,
+      )
 
-  pub fair-stored : {x : List (List ℕ)} (w : List ℕ) {l : ThreadQueue} → x ≡ set rows 256 w → listFrom w ≡ l → length rows ≡ 270 → queueOf x ≡ withFair (queueOf rows) l
+  pub fair-stored : {x : List (List ℕ)} (w : List ℕ) {l : ThreadQueue} → x ≡ set rows fairRow w → listFrom w ≡ l
+      → length rows ≡ queueRows → queueOf x ≡ withFair (queueOf rows) l
   unfolding queueOf withFair
   fair-stored w s e h =
-      rw (s, take-set-beyond 256 rows 256 w (omega arith), getD-set-same rows 256 w [] (omega arith), getD-set-other rows 256 269 w [] (λ e. omega arith), drop-set-before 257 rows 256 w (omega arith), e)
+      rw (
+        s,
+        take-set-beyond priorities rows fairRow w (omega arith),
+        getD-set-same rows fairRow w [] (omega arith),
+        getD-set-other rows fairRow marksRow w [] (λ e. omega arith),
+        drop-set-before rootRows rows fairRow w (omega arith),
+        e,
+      )
 
-  pub root-stored : (k : ℕ) (w : List ℕ) {root : Link} → linkFrom (word w 0) (word w 1) ≡ root → k < 12 → queueOf (set rows (257 + k) w) ≡ withRoot (queueOf rows) k root
+  pub root-stored : (k : ℕ) (w : List ℕ) {root : Link} → linkFrom (word w headTag) (word w headWord) ≡ root
+      → k < treeCount → queueOf (set rows (rootRows + k) w) ≡ withRoot (queueOf rows) k root
   unfolding queueOf withRoot rootFrom
   root-stored k w {root} e h =
-      rw (take-set-beyond 256 rows (257 + k) w (omega arith), getD-set-other rows (257 + k) 269 w [] (λ e. omega arith), getD-set-other rows (257 + k) 256 w [] (λ e. omega arith), drop-set 257 rows k w, take-set 12 (drop 257 rows) k w, map-set rootFrom (take 12 (drop 257 rows)) k w, stored)
+      rw (
+        take-set-beyond priorities rows (rootRows + k) w (omega arith),
+        getD-set-other rows (rootRows + k) marksRow w [] (λ e. omega arith),
+        getD-set-other rows (rootRows + k) fairRow w [] (λ e. omega arith),
+        drop-set rootRows rows k w,
+        take-set treeCount (drop rootRows rows) k w,
+        map-set rootFrom (take treeCount (drop rootRows rows)) k w,
+        stored,
+      )
     where
       stored : rootFrom w ≡ record { root = root }
       stored = ap (λ (l : Link). record { root = l }) e
 
-  pub counts-row : (w : List ℕ) → 269 < length rows
-      → queueOf (set rows 269 w)
-      ≡ record { realtime = queueOf rows .realtime; «realtime_len» = word w 0; fair = queueOf rows .fair; indices = queueOf rows .indices; «budget_epoch» = epochFrom (word w 2) (word w 3); «budget_threads» = word w 1; halted = haltedFrom (word w 4) }
-  unfolding queueOf
-  counts-row w h =
-      rw (take-set-beyond 256 rows 269 w (omega arith), getD-set-same rows 269 w [] h, getD-set-other rows 269 256 w [] (λ e. omega arith), drop-set 257 rows 12 w, take-set-beyond 12 (drop 257 rows) 12 w (omega arith))
+  pub marks-stored : {x : List (List ℕ)} (w : List ℕ) → x ≡ set rows marksRow w → length rows ≡ queueRows
+      → queueOf x ≡ withMarks (queueOf rows) w
+  unfolding queueOf withMarks
+  marks-stored w s h =
+      rw (
+        s,
+        take-set-beyond priorities rows marksRow w (omega arith),
+        getD-set-same rows marksRow w [] (omega arith),
+        getD-set-other rows marksRow fairRow w [] (λ e. omega arith),
+        drop-set rootRows rows treeCount w,
+        take-set-beyond treeCount (drop rootRows rows) treeCount w (omega arith),
+      )
 
-  pub counts-stored : {x : List (List ℕ)} (w : List ℕ) {a b : ℕ} → x ≡ set rows 269 w → word w 0 ≡ a → word w 1 ≡ b
-      → word w 2 ≡ word (getD rows 269 []) 2 → word w 3 ≡ word (getD rows 269 []) 3 → word w 4 ≡ word (getD rows 269 []) 4
-      → length rows ≡ 270 → queueOf x ≡ withCounts (queueOf rows) a b
-  unfolding queueOf withCounts
-  counts-stored w s total budgets tag number mark h = ap queueOf s ∙ counts-row w (omega arith) ∙ rw (total, budgets, tag, number, mark)
+  -- The row of counts, epoch and mark as it was but for the counts, or for the mark.
+  module _ {q : CpuRunQueue} (w : List ℕ) (s : q ≡ withMarks (queueOf rows) w) where
+    pub counts-stored : {a b : ℕ} → word w totalWord ≡ a → word w budgetsWord ≡ b
+        → word w epochTag ≡ word (getD rows marksRow []) epochTag
+        → word w epochWord ≡ word (getD rows marksRow []) epochWord
+        → word w markWord ≡ word (getD rows marksRow []) markWord → q ≡ withCounts (queueOf rows) a b
+    unfolding queueOf withCounts withMarks
+    counts-stored total budgets tag number mark = s ∙ rw (total, budgets, tag, number, mark)
 
-  pub mark-stored : {x : List (List ℕ)} (w : List ℕ) → x ≡ set rows 269 w → word w 0 ≡ word (getD rows 269 []) 0 → word w 1 ≡ word (getD rows 269 []) 1
-      → word w 2 ≡ word (getD rows 269 []) 2 → word w 3 ≡ word (getD rows 269 []) 3 → word w 4 ≡ 1
-      → length rows ≡ 270 → queueOf x ≡ marked (queueOf rows)
-  unfolding queueOf haltedFrom ifEqual choose
-  mark-stored w s total budgets tag number mark h = ap queueOf s ∙ counts-row w (omega arith) ∙ rw (total, budgets, tag, number, mark)
+    pub mark-stored : word w totalWord ≡ word (getD rows marksRow []) totalWord
+        → word w budgetsWord ≡ word (getD rows marksRow []) budgetsWord
+        → word w epochTag ≡ word (getD rows marksRow []) epochTag
+        → word w epochWord ≡ word (getD rows marksRow []) epochWord → word w markWord ≡ 1 → q ≡ marked (queueOf rows)
+    unfolding queueOf withMarks haltedFrom ifEqual choose
+    mark-stored total budgets tag number mark = s ∙ rw (total, budgets, tag, number, mark)
 
-  pub root-of-row : (k : ℕ) {r : Link} → r ≡ linkFrom (word (getD rows (257 + k) []) 0) (word (getD rows (257 + k) []) 1) → k < 12 → r ≡ rootOf (queueOf rows) k
+  pub root-of-row : (k : ℕ) {r : Link}
+      → r ≡ linkFrom (word (getD rows (rootRows + k) []) headTag) (word (getD rows (rootRows + k) []) headWord)
+      → k < treeCount → r ≡ rootOf (queueOf rows) k
   unfolding rootFrom
   root-of-row k e h = e ∙ ap (λ (x : Root). x .root) (root-read k h)
 
-  pub list-of-row : (p : ℕ) {r : ThreadQueue} → r ≡ listFrom (getD rows p []) → p < 256 → r ≡ getD (queueOf rows .realtime) p emptyQueue
+  pub list-of-row : (p : ℕ) {r : ThreadQueue} → r ≡ listFrom (getD rows p []) → p < priorities
+      → r ≡ getD (queueOf rows .realtime) p emptyQueue
   list-of-row p e h = e ∙ list-read p h
 
 -- The fair list's length, of the list as it was read.
 pub fair-length : {n : ℕ} {l : ThreadQueue} (q : CpuRunQueue) → l ≡ q .fair → n ≡ l .len → n ≡ fairLen q
 fair-length q e h = h ∙ ap (λ (l : ThreadQueue). l .len) e
 
-pub list-words : (w : List ℕ) {l : ThreadQueue} → linkFrom (word w 0) (word w 1) ≡ l .head → linkFrom (word w 2) (word w 3) ≡ l .tail → word w 4 ≡ l .len → listFrom w ≡ l
+pub list-words : (w : List ℕ) {l : ThreadQueue} → linkFrom (word w headTag) (word w headWord) ≡ l .head
+    → linkFrom (word w tailTag) (word w tailWord) ≡ l .tail → word w lenWord ≡ l .len → listFrom w ≡ l
 unfolding listFrom
 list-words w head tail len = rw (head, tail, len)
 
 -- The list, the root and the counts stored in this order are the parts stored.
 module _ (x : CpuRunQueue) (k : ℕ) (p : Parts) {x₁ x₂ x₃ : CpuRunQueue} where
-  pub real-time-parts : (n : ℕ) → x₁ ≡ withRealtime x n (p .list) → x₂ ≡ withRoot x₁ k (p .root) → x₃ ≡ withCounts x₂ (p .«realtime_len») (p .«budget_threads»)
+  pub real-time-parts : (n : ℕ) → x₁ ≡ withRealtime x n (p .list) → x₂ ≡ withRoot x₁ k (p .root)
+      → x₃ ≡ withCounts x₂ (p .«realtime_len») (p .«budget_threads»)
       → x₃ ≡ stored x k p (set (x .realtime) n (p .list)) (x .fair)
   unfolding withRealtime withRoot withCounts
   real-time-parts n list root counts = counts ∙ rw root (rw list)
 
-  pub fair-parts : x₁ ≡ withFair x (p .list) → x₂ ≡ withRoot x₁ k (p .root) → x₃ ≡ withCounts x₂ (p .«realtime_len») (p .«budget_threads»)
+  pub fair-parts : x₁ ≡ withFair x (p .list) → x₂ ≡ withRoot x₁ k (p .root)
+      → x₃ ≡ withCounts x₂ (p .«realtime_len») (p .«budget_threads»)
       → x₃ ≡ stored x k p (x .realtime) (p .list)
   unfolding withFair withRoot withCounts
   fair-parts list root counts = counts ∙ rw root (rw list)
 
 -- The mark is read before the plan is made.
 module _ {y : Out (Step (Unit {0}))} (t : List ThreadRecord) (q : CpuRunQueue) (id : ℕ) (c : CpuIndex) {h : Bool} where
-  pub enqueue-planned-by : (front : Bool) {r : Planned} {p : Plan} → h ≡ q .halted → plannedAnswer r ≡ insertionPlan t h id c → r ≡ planned.Plan p → y ≡ insertBy front t q id p → y ≡ enqueueCall front t q id c
+  pub enqueue-planned-by : (front : Bool) {r : Planned} {p : Plan} → h ≡ q .halted
+      → plannedAnswer r ≡ insertionPlan t h id c → r ≡ planned.Plan p → y ≡ insertBy front t q id p
+      → y ≡ enqueueCall front t q id c
   enqueue-planned-by front m e = enqueue-planned t q id c front (e ∙ ap (λ h. insertionPlan t h id c) m)
 
-  pub enqueue-refused-by : (front : Bool) {r : Planned} {n : Refusal} → h ≡ q .halted → plannedAnswer r ≡ insertionPlan t h id c → r ≡ planned.Refused n → y ≡ kept t q (numberOf n) → y ≡ enqueueCall front t q id c
+  pub enqueue-refused-by : (front : Bool) {r : Planned} {n : Refusal} → h ≡ q .halted
+      → plannedAnswer r ≡ insertionPlan t h id c → r ≡ planned.Refused n → y ≡ kept t q (numberOf n)
+      → y ≡ enqueueCall front t q id c
   enqueue-refused-by front m e = enqueue-refused t q id c front (e ∙ ap (λ h. insertionPlan t h id c) m)
 
-  pub remove-judged-by : {r : Judgement} {f : Filed} → h ≡ q .halted → judgementAnswer r ≡ judgement t h id → r ≡ judged.Filed f → y ≡ removeFiled t q id c f → y ≡ removeCall t q id c
+  pub remove-judged-by : {r : Judgement} {f : Filed} → h ≡ q .halted → judgementAnswer r ≡ judgement t h id
+      → r ≡ judged.Filed f → y ≡ removeFiled t q id c f → y ≡ removeCall t q id c
   remove-judged-by m e = remove-judged t q id c (e ∙ ap (λ h. judgement t h id) m)
 
-  pub remove-refused-by : {r : Judgement} {n : Refusal} → h ≡ q .halted → judgementAnswer r ≡ judgement t h id → r ≡ judged.Refused n → y ≡ kept t q (numberOf n) → y ≡ removeCall t q id c
+  pub remove-refused-by : {r : Judgement} {n : Refusal} → h ≡ q .halted → judgementAnswer r ≡ judgement t h id
+      → r ≡ judged.Refused n → y ≡ kept t q (numberOf n) → y ≡ removeCall t q id c
   remove-refused-by m e = remove-refused t q id c (e ∙ ap (λ h. judgement t h id) m)
 
-pub new-rows : queueOf (replicate 270 (replicate 5 0)) ≡ newQueue
+pub new-rows : queueOf (replicate queueRows (replicate 5 0)) ≡ newQueue
 unfolding queueOf listFrom rootFrom haltedFrom linkFrom epochFrom ifEqual choose
 new-rows = refl
 
-pub ruleset stores = (real-time-stored, fair-stored, root-stored, counts-stored, mark-stored, root-of-row, list-of-row, fair-length, list-words)
+pub ruleset stores = (
+  real-time-stored,
+  fair-stored,
+  root-stored,
+  marks-stored,
+  counts-stored,
+  mark-stored,
+  root-of-row,
+  list-of-row,
+  fair-length,
+  list-words,
+)
 
-pub ruleset lending = (real-time-parts, fair-parts, enqueue-planned-by, enqueue-refused-by, remove-judged-by, remove-refused-by)
+pub ruleset lending =
+    (real-time-parts, fair-parts, enqueue-planned-by, enqueue-refused-by, remove-judged-by, remove-refused-by)

@@ -1,5 +1,5 @@
-// The ready queue over words that a board lends: the same calls as crate queue by value, with the same definitions. Only the list, the root and the counts
-// that a call touches are read and stored.
+// The ready queue over words that a board lends: enqueue at either end and remove. Only the list, the root and the
+// counts that a call touches are read and stored. After `CpuRunQueue` of scheduler/queue.rs.
 ghost use Prim.Native.Nat.{_<_};
 ghost use mathlib.Core.Path.{_≡_};
 ghost use lib.ListN.{getD, length, set};
@@ -9,7 +9,9 @@ ghost use Rattle.queue_work.specs.Work.{workOf};
 ghost use Rattle.queue.specs.Queue as calls;
 ghost use Rattle.queue.specs.Plan as plans;
 ghost use Rattle.queue.specs.Answers.{verdictAnswer};
-ghost use Rattle.lent_queue.specs.LentQueue.{listFrom, queueOf, withRealtime, withFair, withRoot, withCounts};
+ghost use Rattle.lent_queue.specs.LentQueue.{treeCount, listFrom, queueOf, withRealtime, withFair, withRoot};
+ghost use Rattle.lent_queue.specs.LentQueue.{withCounts, withMarks};
+use codec::Row;
 use codec::link_from;
 use codec::words_of_link;
 use queue::Filed;
@@ -25,26 +27,66 @@ use queue_work::Parts;
 use queue_work::Worked;
 use queue_work::insert_work;
 use queue_work::remove_work;
+use ready_index::Path;
 use refusal::Refusal;
 use thread::CpuIndex;
 use thread::Link;
 use thread::QueueMembership;
 use thread::ThreadId;
 use thread::ThreadQueue;
+use time::Epoch;
 
-fn list_from(w: [u64; 5]) -> ThreadQueue
+// The rows of a queue: a list for each priority, the fair list, the roots of the trees, and one row of counts, epoch
+// and mark.
+pub const QUEUE_ROWS: usize = 270;
+
+pub const QUEUE_ROW_WORDS: usize = 5;
+
+pub const FAIR_ROW: usize = 256;
+
+pub const ROOT_ROWS: usize = 257;
+
+pub const MARKS_ROW: usize = 269;
+
+// The words of a list's row, and of a root's, which has a head alone.
+pub const HEAD_TAG: usize = 0;
+
+pub const HEAD: usize = 1;
+
+const TAIL_TAG: usize = 2;
+
+const TAIL: usize = 3;
+
+const LEN: usize = 4;
+
+// The words of the row of counts, epoch and mark.
+pub const REALTIME_LEN: usize = 0;
+
+pub const BUDGET_THREADS: usize = 1;
+
+pub const EPOCH_TAG: usize = 2;
+
+pub const EPOCH: usize = 3;
+
+pub const HALTED: usize = 4;
+
+pub type QueueRow = [u64; QUEUE_ROW_WORDS];
+
+pub type QueueRows = [QueueRow; QUEUE_ROWS];
+
+pub fn list_from(w: QueueRow) -> ThreadQueue
     ensures { λ r. ⌜ r ≡ listFrom w ⌝ }
 {
-    let head = link_from(w[0], w[1]);
-    let tail = link_from(w[2], w[3]);
+    let head = link_from(w[HEAD_TAG], w[HEAD]);
+    let tail = link_from(w[TAIL_TAG], w[TAIL]);
     ThreadQueue {
         head,
         tail,
-        len: w[4],
+        len: w[LEN],
     }
 }
 
-fn words_of_list(list: ThreadQueue) -> [u64; 5]
+pub fn words_of_list(list: ThreadQueue) -> QueueRow
     ensures { λ w. ⌜ listFrom w ≡ list ⌝ }
 {
     let its_head = list.head;
@@ -55,16 +97,16 @@ fn words_of_list(list: ThreadQueue) -> [u64; 5]
 }
 
 // The root of one of the twelve trees.
-fn root_at(q: &[[u64; 5]; 270], index: u64) -> Link
-    requires { ⌜ index < 12 ⌝ }
+fn root_at(q: &QueueRows, index: u64) -> Link
+    requires { ⌜ index < treeCount ⌝ }
     ensures { λ r. ⌜ r ≡ calls.rootOf (queueOf (now (q .entry))) index ⌝ }
 {
-    let at = 257 + index as usize;
+    let at = ROOT_ROWS + index as usize;
     let row = q[at];
-    link_from(row[0], row[1])
+    link_from(row[HEAD_TAG], row[HEAD])
 }
 
-fn real_time_at(q: &[[u64; 5]; 270], priority: u8) -> ThreadQueue
+fn real_time_at(q: &QueueRows, priority: u8) -> ThreadQueue
     ensures { λ r. ⌜ r ≡ getD (queueOf (now (q .entry)) .realtime) priority emptyQueue ⌝ }
 {
     let at = priority as usize;
@@ -72,14 +114,14 @@ fn real_time_at(q: &[[u64; 5]; 270], priority: u8) -> ThreadQueue
     list_from(row)
 }
 
-fn fair_list(q: &[[u64; 5]; 270]) -> ThreadQueue
+pub fn fair_list(q: &QueueRows) -> ThreadQueue
     ensures { λ r. ⌜ r ≡ queueOf (now (q .entry)) .fair ⌝ }
 {
-    let row = q[256];
+    let row = q[FAIR_ROW];
     list_from(row)
 }
 
-fn set_real_time(q: &mut [[u64; 5]; 270], priority: u8, list: ThreadQueue)
+fn set_real_time(q: &mut QueueRows, priority: u8, list: ThreadQueue)
     ensures { λ r. ⌜ queueOf (now (q .exit)) ≡ withRealtime (queueOf (now (q .entry))) priority list ⌝ }
 {
     let at = priority as usize;
@@ -87,60 +129,91 @@ fn set_real_time(q: &mut [[u64; 5]; 270], priority: u8, list: ThreadQueue)
     q[at] = row;
 }
 
-fn store_row(q: &mut [[u64; 5]], at: usize, row: [u64; 5])
+fn store_row(q: &mut [QueueRow], at: usize, row: QueueRow)
     requires { ⌜ at < length (now q) ⌝ }
     ensures { λ r. ⌜ now (q .exit) ≡ set (now (q .entry)) at row ⌝ }
 {
     q[at] = row;
 }
 
-fn set_fair(q: &mut [[u64; 5]; 270], list: ThreadQueue)
+pub fn set_fair(q: &mut QueueRows, list: ThreadQueue)
     ensures { λ r. ⌜ queueOf (now (q .exit)) ≡ withFair (queueOf (now (q .entry))) list ⌝ }
 {
     let row = words_of_list(list);
-    store_row(q, 256, row);
+    store_row(q, FAIR_ROW, row);
 }
 
-fn set_root(q: &mut [[u64; 5]; 270], index: u64, root: Link)
-    requires { ⌜ index < 12 ⌝ }
+fn set_root(q: &mut QueueRows, index: u64, root: Link)
+    requires { ⌜ index < treeCount ⌝ }
     ensures { λ r. ⌜ queueOf (now (q .exit)) ≡ withRoot (queueOf (now (q .entry))) index root ⌝ }
 {
-    let at = 257 + index as usize;
+    let at = ROOT_ROWS + index as usize;
     let row = q[at];
     let words = words_of_link(root);
     q[at] = [words[0], words[1], row[2], row[3], row[4]];
 }
 
-fn set_counts(q: &mut [[u64; 5]; 270], realtime_len: u64, budget_threads: u64)
+// The row of counts, epoch and mark stored; that there is one is a matter of type.
+pub fn store_marks(q: &mut QueueRows, row: QueueRow)
+    ensures { λ r. ⌜ queueOf (now (q .exit)) ≡ withMarks (queueOf (now (q .entry))) row ⌝ }
+{
+    store_row(q, MARKS_ROW, row);
+}
+
+fn set_counts(q: &mut QueueRows, realtime_len: u64, budget_threads: u64)
     ensures { λ r. ⌜ queueOf (now (q .exit)) ≡ withCounts (queueOf (now (q .entry))) «realtime_len» «budget_threads» ⌝ }
 {
-    let row = q[269];
-    store_row(
+    let row = q[MARKS_ROW];
+    store_marks(
         q,
-        269,
-        [realtime_len, budget_threads, row[2], row[3], row[4]],
+        [
+            realtime_len,
+            budget_threads,
+            row[EPOCH_TAG],
+            row[EPOCH],
+            row[HALTED],
+        ],
     );
 }
 
-fn set_mark(q: &mut [[u64; 5]; 270])
+fn set_mark(q: &mut QueueRows)
     ensures { λ r. ⌜ queueOf (now (q .exit)) ≡ calls.marked (queueOf (now (q .entry))) ⌝ }
 {
-    let row = q[269];
-    store_row(q, 269, [row[0], row[1], row[2], row[3], 1]);
+    let row = q[MARKS_ROW];
+    store_marks(
+        q,
+        [
+            row[REALTIME_LEN],
+            row[BUDGET_THREADS],
+            row[EPOCH_TAG],
+            row[EPOCH],
+            1,
+        ],
+    );
 }
 
-pub fn is_halted(q: &[[u64; 5]; 270]) -> bool
+pub fn epoch_at(q: &QueueRows) -> Epoch
+    ensures { λ r. ⌜ r ≡ queueOf (now (q .entry)) .«budget_epoch» ⌝ }
+{
+    let row = q[MARKS_ROW];
+    if row[EPOCH_TAG] == 0 {
+        return Epoch::None;
+    }
+    Epoch::Some(row[EPOCH])
+}
+
+pub fn is_halted(q: &QueueRows) -> bool
     ensures { λ r. ⌜ r ≡ queueOf (now (q .entry)) .halted ⌝ }
 {
-    let row = q[269];
-    if row[4] == 0 {
+    let row = q[MARKS_ROW];
+    if row[HALTED] == 0 {
         return false;
     }
     true
 }
 
 // The list that a ready membership names.
-fn list_of(q: &[[u64; 5]; 270], membership: QueueMembership) -> ThreadQueue
+fn list_of(q: &QueueRows, membership: QueueMembership) -> ThreadQueue
     ensures { λ r. ⌜ r ≡ calls.listOf (queueOf (now (q .entry))) membership ⌝ }
 {
     match membership {
@@ -152,24 +225,25 @@ fn list_of(q: &[[u64; 5]; 270], membership: QueueMembership) -> ThreadQueue
     }
 }
 
-fn parts_of(q: &[[u64; 5]; 270], membership: QueueMembership, index: u64) -> Parts
-    requires { ⌜ index < 12 ⌝ }
+fn parts_of(q: &QueueRows, membership: QueueMembership, index: u64) -> Parts
+    requires { ⌜ index < treeCount ⌝ }
     ensures { λ r. ⌜ r ≡ calls.partsOf (queueOf (now (q .entry))) membership index ⌝ }
 {
     let list = list_of(q, membership);
     let root = root_at(q, index);
-    let row = q[269];
+    let row = q[MARKS_ROW];
     Parts {
         list,
-        realtime_len: row[0],
+        realtime_len: row[REALTIME_LEN],
         root,
-        budget_threads: row[1],
+        budget_threads: row[BUDGET_THREADS],
     }
 }
 
-fn store_real_time(q: &mut [[u64; 5]; 270], priority: u8, index: u64, parts: Parts)
-    requires { ⌜ index < 12 ⌝ }
-    ensures { λ r. ⌜ queueOf (now (q .exit)) ≡ calls.stored (queueOf (now (q .entry))) index parts (set (queueOf (now (q .entry)) .realtime) priority (parts .list)) (queueOf (now (q .entry)) .fair) ⌝ }
+fn store_real_time(q: &mut QueueRows, priority: u8, index: u64, parts: Parts)
+    requires { ⌜ index < treeCount ⌝ }
+    ensures { λ r. ⌜ queueOf (now (q .exit)) ≡ calls.stored (queueOf (now (q .entry))) index parts
+        (set (queueOf (now (q .entry)) .realtime) priority (parts .list)) (queueOf (now (q .entry)) .fair) ⌝ }
 {
     let list = parts.list;
     let root = parts.root;
@@ -178,9 +252,10 @@ fn store_real_time(q: &mut [[u64; 5]; 270], priority: u8, index: u64, parts: Par
     set_counts(q, parts.realtime_len, parts.budget_threads);
 }
 
-fn store_fair(q: &mut [[u64; 5]; 270], index: u64, parts: Parts)
-    requires { ⌜ index < 12 ⌝ }
-    ensures { λ r. ⌜ queueOf (now (q .exit)) ≡ calls.stored (queueOf (now (q .entry))) index parts (queueOf (now (q .entry)) .realtime) (parts .list) ⌝ }
+fn store_fair(q: &mut QueueRows, index: u64, parts: Parts)
+    requires { ⌜ index < treeCount ⌝ }
+    ensures { λ r. ⌜ queueOf (now (q .exit)) ≡ calls.stored (queueOf (now (q .entry))) index parts
+        (queueOf (now (q .entry)) .realtime) (parts .list) ⌝ }
 {
     let list = parts.list;
     let root = parts.root;
@@ -190,8 +265,8 @@ fn store_fair(q: &mut [[u64; 5]; 270], index: u64, parts: Parts)
 }
 
 // The parts stored back.
-fn store_parts(q: &mut [[u64; 5]; 270], membership: QueueMembership, index: u64, parts: Parts)
-    requires { ⌜ index < 12 ⌝ }
+fn store_parts(q: &mut QueueRows, membership: QueueMembership, index: u64, parts: Parts)
+    requires { ⌜ index < treeCount ⌝ }
     ensures { λ r. ⌜ queueOf (now (q .exit)) ≡ calls.withParts (queueOf (now (q .entry))) membership index parts ⌝ }
 {
     match membership {
@@ -208,14 +283,10 @@ fn store_parts(q: &mut [[u64; 5]; 270], membership: QueueMembership, index: u64,
 }
 
 // A call's work put back into the queue; where the source halts, with the mark.
-fn settle(
-    q: &mut [[u64; 5]; 270],
-    membership: QueueMembership,
-    index: u64,
-    worked: Worked,
-) -> Verdict
-    requires { ⌜ index < 12 ⌝ }
-    ensures { λ r. ⌜ calls.step (verdictAnswer r) (queueOf (now (q .exit))) ≡ plans.settled (queueOf (now (q .entry))) membership index (workOf worked) ⌝ }
+fn settle(q: &mut QueueRows, membership: QueueMembership, index: u64, worked: Worked) -> Verdict
+    requires { ⌜ index < treeCount ⌝ }
+    ensures { λ r. ⌜ calls.step (verdictAnswer r) (queueOf (now (q .exit)))
+        ≡ plans.settled (queueOf (now (q .entry))) membership index (workOf worked) ⌝ }
 {
     match worked {
         Worked::Refused(refusal) => Verdict::Refused(refusal),
@@ -231,15 +302,16 @@ fn settle(
 }
 
 fn insert_by(
-    q: &mut [[u64; 5]; 270],
-    t: &mut [[u64; 32]],
-    path: &mut [[u64; 2]; 40],
+    q: &mut QueueRows,
+    t: &mut [Row],
+    path: &mut Path,
     id: u64,
     plan: Plan,
     front: bool,
 ) -> Verdict
-    requires { ⌜ plan .index < 12 ⌝ }
-    ensures { λ r. ⌜ out (calls.step (verdictAnswer r) (queueOf (now (q .exit)))) (table (now (t .exit))) ≡ plans.insertBy front (table (now (t .entry))) (queueOf (now (q .entry))) id plan ⌝ }
+    requires { ⌜ plan .index < treeCount ⌝ }
+    ensures { λ r. ⌜ out (calls.step (verdictAnswer r) (queueOf (now (q .exit)))) (table (now (t .exit)))
+        ≡ plans.insertBy front (table (now (t .entry))) (queueOf (now (q .entry))) id plan ⌝ }
 {
     let membership = plan.membership;
     let parts = parts_of(q, membership, plan.index);
@@ -256,15 +328,10 @@ fn insert_by(
     settle(q, membership, plan.index, worked)
 }
 
-fn remove_by(
-    q: &mut [[u64; 5]; 270],
-    t: &mut [[u64; 32]],
-    path: &mut [[u64; 2]; 40],
-    id: u64,
-    plan: Plan,
-) -> Verdict
-    requires { ⌜ plan .index < 12 ⌝ }
-    ensures { λ r. ⌜ out (calls.step (verdictAnswer r) (queueOf (now (q .exit)))) (table (now (t .exit))) ≡ plans.removeBy (table (now (t .entry))) (queueOf (now (q .entry))) id plan ⌝ }
+fn remove_by(q: &mut QueueRows, t: &mut [Row], path: &mut Path, id: u64, plan: Plan) -> Verdict
+    requires { ⌜ plan .index < treeCount ⌝ }
+    ensures { λ r. ⌜ out (calls.step (verdictAnswer r) (queueOf (now (q .exit)))) (table (now (t .exit)))
+        ≡ plans.removeBy (table (now (t .entry))) (queueOf (now (q .entry))) id plan ⌝ }
 {
     let membership = plan.membership;
     let parts = parts_of(q, membership, plan.index);
@@ -274,15 +341,16 @@ fn remove_by(
 
 // Out of the tree and the list of a judged thread.
 fn remove_filed(
-    q: &mut [[u64; 5]; 270],
-    t: &mut [[u64; 32]],
-    path: &mut [[u64; 2]; 40],
+    q: &mut QueueRows,
+    t: &mut [Row],
+    path: &mut Path,
     id: u64,
     cpu: CpuIndex,
     filed: Filed,
 ) -> Verdict
-    requires { ⌜ filed .index < 12 ⌝ }
-    ensures { λ r. ⌜ out (calls.step (verdictAnswer r) (queueOf (now (q .exit)))) (table (now (t .exit))) ≡ plans.removeFiled (table (now (t .entry))) (queueOf (now (q .entry))) id cpu filed ⌝ }
+    requires { ⌜ filed .index < treeCount ⌝ }
+    ensures { λ r. ⌜ out (calls.step (verdictAnswer r) (queueOf (now (q .exit)))) (table (now (t .exit)))
+        ≡ plans.removeFiled (table (now (t .entry))) (queueOf (now (q .entry))) id cpu filed ⌝ }
 {
     let root = root_at(q, filed.index);
     let beside = partner(filed.index);
@@ -295,44 +363,45 @@ fn remove_filed(
 }
 
 // A new queue.
-pub fn new_lent(q: &mut [[u64; 5]; 270])
+pub fn new_lent(q: &mut QueueRows)
     ensures { λ r. ⌜ queueOf (now (q .exit)) ≡ calls.newQueue ⌝ }
 {
-    let row = [0; 5];
-    *q = [row; 270];
+    let row = [0; QUEUE_ROW_WORDS];
+    *q = [row; QUEUE_ROWS];
 }
 
-pub fn real_time_len(q: &[[u64; 5]; 270]) -> u64
+pub fn real_time_len(q: &QueueRows) -> u64
     ensures { λ r. ⌜ r ≡ calls.realTimeLen (queueOf (now (q .entry))) ⌝ }
 {
-    let row = q[269];
-    row[0]
+    let row = q[MARKS_ROW];
+    row[REALTIME_LEN]
 }
 
-pub fn fair_len(q: &[[u64; 5]; 270]) -> u64
+pub fn fair_len(q: &QueueRows) -> u64
     ensures { λ r. ⌜ r ≡ calls.fairLen (queueOf (now (q .entry))) ⌝ }
 {
     let list = fair_list(q);
     list.len
 }
 
-pub fn budget_len(q: &[[u64; 5]; 270]) -> u64
+pub fn budget_len(q: &QueueRows) -> u64
     ensures { λ r. ⌜ r ≡ calls.budgetLen (queueOf (now (q .entry))) ⌝ }
 {
-    let row = q[269];
-    row[1]
+    let row = q[MARKS_ROW];
+    row[BUDGET_THREADS]
 }
 
 // `enqueue`, and with `front` `enqueue_front`.
 pub fn enqueue_lent(
-    q: &mut [[u64; 5]; 270],
-    t: &mut [[u64; 32]],
-    path: &mut [[u64; 2]; 40],
+    q: &mut QueueRows,
+    t: &mut [Row],
+    path: &mut Path,
     id: ThreadId,
     cpu: CpuIndex,
     front: bool,
 ) -> Verdict
-    ensures { λ r. ⌜ out (calls.step (verdictAnswer r) (queueOf (now (q .exit)))) (table (now (t .exit))) ≡ calls.enqueueCall front (table (now (t .entry))) (queueOf (now (q .entry))) (id .0) cpu ⌝ }
+    ensures { λ r. ⌜ out (calls.step (verdictAnswer r) (queueOf (now (q .exit)))) (table (now (t .exit)))
+        ≡ calls.enqueueCall front (table (now (t .entry))) (queueOf (now (q .entry))) (id .0) cpu ⌝ }
 {
     let halted = is_halted(q);
     let planned = insertion_plan(t, halted, id.0, cpu);
@@ -344,13 +413,14 @@ pub fn enqueue_lent(
 
 // `remove`.
 pub fn remove_lent(
-    q: &mut [[u64; 5]; 270],
-    t: &mut [[u64; 32]],
-    path: &mut [[u64; 2]; 40],
+    q: &mut QueueRows,
+    t: &mut [Row],
+    path: &mut Path,
     id: ThreadId,
     cpu: CpuIndex,
 ) -> Verdict
-    ensures { λ r. ⌜ out (calls.step (verdictAnswer r) (queueOf (now (q .exit)))) (table (now (t .exit))) ≡ calls.removeCall (table (now (t .entry))) (queueOf (now (q .entry))) (id .0) cpu ⌝ }
+    ensures { λ r. ⌜ out (calls.step (verdictAnswer r) (queueOf (now (q .exit)))) (table (now (t .exit)))
+        ≡ calls.removeCall (table (now (t .entry))) (queueOf (now (q .entry))) (id .0) cpu ⌝ }
 {
     let halted = is_halted(q);
     let judgement = judge(t, halted, id.0);

@@ -7,16 +7,16 @@ use mathlib.Core.List.{List, [], _∷_, _++_}
 use lib.Dec.{ltb}
 use lib.ListN.{length, getD, set, take, drop, length-take, length-drop}
 use borrow.Author.Tests.{eq-eqb, ne-eqb}
-use Rattle.refusal.specs.Answer.{Answer, value, refused, numberOf}
+use Rattle.refusal.specs.Answer.{Answer, value, refused, numberOf, badConfig, queueHalted, badTable}
 use Rattle.refusal.specs.declared.Refusal.{Refusal}
 use Rattle.refusal.specs.Cases.{choose, given, ifLess, ifEqual}
 use Rattle.queue.specs.declared.Root.{Root}
-use Rattle.queue.specs.declared.CpuRunQueue.{CpuRunQueue}
+use Rattle.queue.specs.RunQueue.{CpuRunQueue, treeCount}
 use Rattle.queue.specs.declared.Verdict.{Verdict}
 use Rattle.queue.specs.declared.Verdict.the-variants as verdict
 use Rattle.queue.specs.Answers.{verdictAnswer}
-use Rattle.lent_queue.specs.LentQueue.{haltedFrom, queueOf}
-use Rattle.lent_queue.specs.LentLaws.{counts-row}
+use Rattle.lent_queue.specs.LentQueue.{queueRows, priorities, treeCount, fairRow, rootRows, marksRow, totalWord}
+use Rattle.lent_queue.specs.LentQueue.{budgetsWord, epochTag, epochWord, markWord, haltedFrom, queueOf, withMarks}
 use Rattle.codec.specs.Codec.{word, epochFrom}
 use Rattle.time.specs.declared.Epoch.{Epoch}
 use Rattle.time.specs.declared.Epoch.the-variants as epoch
@@ -30,16 +30,18 @@ use Rattle.queue.specs.Queue.{maxRecords}
 use Rattle.queue.specs.PlanLaws.{too-many, not-too-many}
 use Rattle.demands.specs.declared.CandidateOption.{CandidateOption}
 use Rattle.selection.specs.declared.Selection.{Selection}
-use Rattle.renewal.specs.declared.SelectionParts.{SelectionParts}
+use Rattle.renewal.specs.Parts.{SelectionParts}
 use Rattle.renewal.specs.Leaves.{Leaves, leaves, onLeaves}
 use Rattle.demands.specs.Demands.{ofCurrent}
 use Rattle.selection.specs.Heads.{noHeads, gatherHeads}
 use Rattle.renewal.specs.Renewal.{renewRoles, isEpoch, isHalt, renew}
 use Rattle.renewal.specs.RootRows.{rootsOf}
-use Rattle.selection.specs.Peek.{Peeked, peeked, chosen, peekRunning, peekParts, peekNext, selectionParts, withSelectionParts, restored}
+use Rattle.selection.specs.Peek.{Peeked, peeked, chosen, peekRunning, peekParts, peekNext, selectionParts}
+use Rattle.selection.specs.Peek.{withSelectionParts, restored}
 use Rattle.selection.specs.Steps.{Looked, looked, lookedAt}
 use Rattle.selection.specs.PeekLaws.{besideParts, heads-apart}
-use Rattle.lent_selection.specs.LentParts.{withIndices, withEpoch, withMark, renewedRoots, renewedQueue, besideQueue, runningQueue, peekQueue}
+use Rattle.lent_selection.specs.LentParts.{withIndices, withEpoch, withMark, renewedRoots, renewedQueue}
+use Rattle.lent_selection.specs.LentParts.{besideQueue, runningQueue, peekQueue}
 
 -- The rows of the roots put back: the other rows are as they were.
 module _ {A : Type 0} (a p z : List A) where
@@ -66,25 +68,29 @@ module _ {A : Type 0} (a p z : List A) where
       go [] = refl
       go (x ∷ a) = go a
 
-  read-last : (k : ℕ) (d : A) → getD (a ++ (p ++ z)) (length a + (length p + k)) d ≡ getD z k d
+  pub read-last : (k : ℕ) (d : A) → getD (a ++ (p ++ z)) (length a + (length p + k)) d ≡ getD z k d
   read-last k d = go a
     where
       part : (p : List A) → getD (p ++ z) (length p + k) d ≡ getD z k d
       part [] = let e : 0 + k ≡ k = omega arith in ap (λ n. getD z n d) e
-      part (x ∷ p) = let e : suc (length p) + k ≡ suc (length p + k) = omega arith in ap (λ n. getD (x ∷ (p ++ z)) n d) e ∙ part p
+      part (x ∷ p) =
+          let e : suc (length p) + k ≡ suc (length p + k) = omega arith in ap (λ n. getD (x ∷ (p ++ z)) n d) e ∙ part p
 
       go : (a : List A) → getD (a ++ (p ++ z)) (length a + (length p + k)) d ≡ getD z k d
       go [] = let e : 0 + (length p + k) ≡ length p + k = omega arith in ap (λ n. getD (p ++ z) n d) e ∙ part p
-      go (x ∷ a) = let e : suc (length a) + (length p + k) ≡ suc (length a + (length p + k)) = omega arith in ap (λ n. getD (x ∷ (a ++ (p ++ z))) n d) e ∙ go a
+      go (x ∷ a) =
+          let e : suc (length a) + (length p + k) ≡ suc (length a + (length p + k)) = omega arith in
+          ap (λ n. getD (x ∷ (a ++ (p ++ z))) n d) e ∙ go a
 
-take-all : {A : Type 0} (p z : List A) → take (length p) (p ++ z) ≡ p
+pub take-all : {A : Type 0} (p z : List A) → take (length p) (p ++ z) ≡ p
 take-all [] z = refl
 take-all {A} (x ∷ p) z = ap {B = List A} (λ r. x ∷ r) (take-all p z)
 
-read-dropped : {A : Type 0} (l : List A) (n k : ℕ) (d : A) → getD (drop n l) k d ≡ getD l (n + k) d
+pub read-dropped : {A : Type 0} (l : List A) (n k : ℕ) (d : A) → getD (drop n l) k d ≡ getD l (n + k) d
 read-dropped l zero k d = let e : k ≡ 0 + k = omega arith in ap (λ n. getD l n d) e
 read-dropped [] (suc n) k d = refl
-read-dropped (x ∷ l) (suc n) k d = let e : suc (n + k) ≡ suc n + k = omega arith in read-dropped l n k d ∙ ap (λ m. getD (x ∷ l) m d) e
+read-dropped (x ∷ l) (suc n) k d =
+    let e : suc (n + k) ≡ suc n + k = omega arith in read-dropped l n k d ∙ ap (λ m. getD (x ∷ l) m d) e
 
 read-taken : {A : Type 0} (l : List A) (n k : ℕ) (d : A) → k < n → getD (take n l) k d ≡ getD l k d
 read-taken l zero k d h = absurd (omega arith)
@@ -100,71 +106,86 @@ take-taken (x ∷ l) (suc n) zero h = absurd (omega arith)
 take-taken {A} (x ∷ l) (suc n) (suc m) h = ap {B = List A} (λ r. x ∷ r) (take-taken l n m (omega arith))
 
 -- The queue with other rows for its roots.
-module _ (rows part : List (List ℕ)) (size : length rows ≡ 270) (of-part : length part ≡ 12) where
+module _ (rows part : List (List ℕ)) (size : length rows ≡ queueRows) (of-part : length part ≡ treeCount) where
   abbrev front : List (List ℕ)
-  front = take 257 rows
+  front = take rootRows rows
 
   abbrev rear : List (List ℕ)
-  rear = drop 12 (drop 257 rows)
+  rear = drop treeCount (drop rootRows rows)
 
   abbrev put : List (List ℕ)
   put = front ++ (part ++ rear)
 
-  front-size : length front ≡ 257
-  front-size = length-take 257 rows ∙ (let least : min 257 (length rows) ≡ 257 = omega arith in least)
+  front-size : length front ≡ rootRows
+  front-size = length-take rootRows rows ∙ (let least : min rootRows (length rows) ≡ rootRows = omega arith in least)
 
-  lists-kept : take 256 put ≡ take 256 rows
-  lists-kept = take-first front part rear 256 (let s : length front ≡ 257 = front-size in omega arith) ∙ take-taken rows 256 257 (omega arith)
+  lists-kept : take priorities put ≡ take priorities rows
+  lists-kept =
+      take-first front part rear priorities (let s : length front ≡ rootRows = front-size in omega arith)
+      ∙ take-taken rows priorities rootRows (omega arith)
 
-  fair-kept : getD put 256 [] ≡ getD rows 256 []
-  fair-kept = read-first front part rear 256 [] (let s : length front ≡ 257 = front-size in omega arith) ∙ read-taken rows 257 256 [] (omega arith)
+  fair-kept : getD put fairRow [] ≡ getD rows fairRow []
+  fair-kept =
+      read-first front part rear fairRow [] (let s : length front ≡ rootRows = front-size in omega arith)
+      ∙ read-taken rows rootRows fairRow [] (omega arith)
 
-  roots-put : take 12 (drop 257 put) ≡ part
+  roots-put : take treeCount (drop rootRows put) ≡ part
   roots-put =
-      ap (λ n. take 12 (drop n put)) (sym front-size)
-      ∙ ap (take 12) (drop-first front part rear)
+      ap (λ n. take treeCount (drop n put)) (sym front-size)
+      ∙ ap (take treeCount) (drop-first front part rear)
       ∙ ap (λ n. take n (part ++ rear)) (sym of-part)
       ∙ take-all part rear
 
-  marks-kept : getD put 269 [] ≡ getD rows 269 []
+  marks-kept : getD put marksRow [] ≡ getD rows marksRow []
   marks-kept =
-      ap (λ n. getD put n []) (let s : length front ≡ 257 = front-size in let p : 269 ≡ length front + (length part + 0) = omega arith in p)
+      ap (λ n. getD put n []) (let s : length front ≡ rootRows = front-size in
+      let p : marksRow ≡ length front + (length part + 0) = omega arith in p)
       ∙ read-last front part rear 0 []
-      ∙ read-dropped (drop 257 rows) 12 0 []
-      ∙ read-dropped rows 257 12 []
+      ∙ read-dropped (drop rootRows rows) treeCount 0 []
+      ∙ read-dropped rows rootRows treeCount []
 
-  roots-stored : queueOf put ≡ withIndices (queueOf rows) (rootsOf part)
+  pub roots-stored : queueOf put ≡ withIndices (queueOf rows) (rootsOf part)
   unfolding queueOf withIndices rootsOf
   roots-stored = rw (lists-kept, fair-kept, roots-put, marks-kept)
 
-part-size : (rows : List (List ℕ)) → length rows ≡ 270 → length (take 12 (drop 257 rows)) ≡ 12
-part-size rows h = length-take 12 (drop 257 rows) ∙ ap (min 12) (length-drop 257 rows ∙ ap (λ n. n - 257) h)
+pub part-size : (rows : List (List ℕ)) → length rows ≡ queueRows
+    → length (take treeCount (drop rootRows rows)) ≡ treeCount
+part-size rows h =
+    length-take treeCount (drop rootRows rows)
+    ∙ ap (min treeCount) (length-drop rootRows rows ∙ ap (λ n. n - rootRows) h)
 
-pub roots-renewed : {a : Answer (Unit {0})} {t₁ : List ThreadRecord} (t : List ThreadRecord) (rows part : List (List ℕ)) (now : ℕ) → length rows ≡ 270 → length part ≡ length (take 12 (drop 257 rows))
-    → out (leaves a (rootsOf part)) t₁ ≡ renewRoles 3 (length t) t (rootsOf (take 12 (drop 257 rows))) now
-    → out (leaves a (queueOf (take 257 rows ++ (part ++ drop 12 (drop 257 rows))))) t₁ ≡ renewedRoots t (queueOf rows) now
+pub roots-renewed : {a : Answer (Unit {0})} {t₁ : List ThreadRecord} (t : List ThreadRecord) (rows part : List (List ℕ))
+    (now : ℕ) → length rows ≡ queueRows → length part ≡ length (take treeCount (drop rootRows rows))
+    → out (leaves a (rootsOf part)) t₁ ≡ renewRoles 3 (length t) t (rootsOf (take treeCount (drop rootRows rows))) now
+    → out (leaves a (queueOf (take rootRows rows ++ (part ++ drop treeCount (drop rootRows rows))))) t₁
+    ≡ renewedRoots t (queueOf rows) now
 unfolding renewedRoots queueOf rootsOf onOut onLeaves
 roots-renewed {a} {t₁} t rows part now h k s = rw (sym s, roots-stored rows part h (k ∙ part-size rows h)) (go a)
   where
     go : (a : Answer (Unit {0}))
         → out (leaves a (withIndices (queueOf rows) (rootsOf part))) t₁
-        ≡ onLeaves (leaves a (rootsOf part)) (λ n roots. out (leaves (refused n) (withIndices (queueOf rows) roots)) t₁) (λ u roots. out (leaves (value tt) (withIndices (queueOf rows) roots)) t₁)
+        ≡ onLeaves (leaves a (rootsOf part)) (λ n roots. out (leaves (refused n) (withIndices (queueOf rows) roots)) t₁)
+        (λ u roots. out (leaves (value tt) (withIndices (queueOf rows) roots)) t₁)
     go (value u) = refl
     go (refused n) = refl
 
--- The last row, with the epoch or the mark.
-module _ {x : List (List ℕ)} (rows : List (List ℕ)) (w : List ℕ) (s : x ≡ set rows 269 w) where
-  pub epoch-stored : (e : ℕ) → word w 0 ≡ word (getD rows 269 []) 0 → word w 1 ≡ word (getD rows 269 []) 1 → word w 2 ≡ 1 → word w 3 ≡ e → word w 4 ≡ word (getD rows 269 []) 4
-      → length rows ≡ 270 → queueOf x ≡ withEpoch (queueOf rows) e
-  unfolding queueOf withEpoch epochFrom ifEqual choose
-  epoch-stored e total budgets tag when mark h = ap queueOf s ∙ counts-row rows w (omega arith) ∙ rw (total, budgets, tag, when, mark)
+-- The row of counts, epoch and mark as it was but for the epoch, or for the mark.
+module _ {q : CpuRunQueue} (rows : List (List ℕ)) (w : List ℕ) (s : q ≡ withMarks (queueOf rows) w) where
+  pub epoch-stored : (e : ℕ) → word w totalWord ≡ word (getD rows marksRow []) totalWord
+      → word w budgetsWord ≡ word (getD rows marksRow []) budgetsWord → word w epochTag ≡ 1 → word w epochWord ≡ e
+      → word w markWord ≡ word (getD rows marksRow []) markWord → q ≡ withEpoch (queueOf rows) e
+  unfolding queueOf withMarks withEpoch epochFrom ifEqual choose
+  epoch-stored e total budgets tag when mark = s ∙ rw (total, budgets, tag, when, mark)
 
-  pub mark-left : (n : ℕ) {r : ℕ} → r ≡ n → r ≡ 9 → word w 0 ≡ word (getD rows 269 []) 0 → word w 1 ≡ word (getD rows 269 []) 1 → word w 2 ≡ word (getD rows 269 []) 2 → word w 3 ≡ word (getD rows 269 []) 3 → word w 4 ≡ 1
-      → length rows ≡ 270 → queueOf x ≡ withMark (queueOf rows) n
-  unfolding queueOf withMark isHalt haltedFrom ifEqual choose
-  mark-left n {r} e m total budgets tag when mark h = ap queueOf s ∙ counts-row rows w (omega arith) ∙ rw (total, budgets, tag, when, mark, eq-eqb n 9 (sym e ∙ m))
+  pub mark-left : (n : ℕ) {r : ℕ} → r ≡ n → r ≡ 9 → word w totalWord ≡ word (getD rows marksRow []) totalWord
+      → word w budgetsWord ≡ word (getD rows marksRow []) budgetsWord
+      → word w epochTag ≡ word (getD rows marksRow []) epochTag
+      → word w epochWord ≡ word (getD rows marksRow []) epochWord → word w markWord ≡ 1 → q ≡ withMark (queueOf rows) n
+  unfolding queueOf withMarks withMark isHalt haltedFrom ifEqual choose
+  mark-left n {r} e m total budgets tag when mark = s ∙ rw (total, budgets, tag, when, mark, eq-eqb n 9 (sym e ∙ m))
 
-pub no-mark-left : (rows : List (List ℕ)) (n : ℕ) {r : ℕ} → r ≡ n → (r ≡ 9 → ⊥) → queueOf rows ≡ withMark (queueOf rows) n
+pub no-mark-left : (rows : List (List ℕ)) (n : ℕ) {r : ℕ} → r ≡ n → (r ≡ 9 → ⊥)
+    → queueOf rows ≡ withMark (queueOf rows) n
 unfolding withMark isHalt choose
 no-mark-left rows n {r} e m = rw (ne-eqb n 9 (λ z. m (e ∙ z)))
 
@@ -187,15 +208,22 @@ module _ (t : List ThreadRecord) (q : CpuRunQueue) (now e : ℕ) where
       (λ s t₁. onLeaves s
       (λ n q₁. out (leaves (refused n) (withMark q₁ n)) t₁)
       (λ u q₁. out (leaves (value tt) (withEpoch q₁ e)) t₁)))
-  unfolding renewedQueue renewedRoots renew selectionParts withSelectionParts withIndices withMark withEpoch choose onOut onLeaves
+  unfolding renewedQueue renewedRoots renew selectionParts withSelectionParts withIndices withMark withEpoch choose
+      onOut onLeaves
   apart = go (isEpoch (q .«budget_epoch») e) (renewRoles 3 (length t) t (q .indices) now)
     where
       go : (same : Bool) (x : Out (Leaves (Unit {0}) (List Root)))
           → onOut (choose same (out (leaves (value (tt {0})) (selectionParts q)) t)
           (onOut x
           (λ s t₁. onLeaves s
-          (λ n roots. out (leaves (refused n) (record { indices = roots; «budget_epoch» = q .«budget_epoch»; halted = choose (isHalt n) true (q .halted) })) t₁)
-          (λ u roots. out (leaves (value (tt {0})) (record { indices = roots; «budget_epoch» = epoch.Some e; halted = q .halted })) t₁))))
+          (λ n roots. out (leaves (refused n)
+          (record {
+            indices = roots;
+            «budget_epoch» = q .«budget_epoch»;
+            halted = choose (isHalt n) true (q .halted);
+          })) t₁)
+          (λ u roots. out (leaves (value (tt {0}))
+          (record { indices = roots; «budget_epoch» = epoch.Some e; halted = q .halted })) t₁))))
           (λ s t₁. onLeaves s
           (λ n p. out (leaves (refused n) (withSelectionParts q p)) t₁)
           (λ u p. out (leaves (value (tt {0})) (withSelectionParts q p)) t₁))
@@ -211,49 +239,61 @@ module _ (t : List ThreadRecord) (q : CpuRunQueue) (now e : ℕ) where
       go false (out (leaves (value u) roots) t₁) = refl
       go false (out (leaves (refused n) roots) t₁) = refl
 
-  changes : {r : Bool} {last : Epoch} → last ≡ q .«budget_epoch» → r ≡ isEpoch last e → r ≡ false → isEpoch (q .«budget_epoch») e ≡ false
+  changes : {r : Bool} {last : Epoch} → last ≡ q .«budget_epoch» → r ≡ isEpoch last e → r ≡ false
+      → isEpoch (q .«budget_epoch») e ≡ false
   changes a b c = ap (λ x. isEpoch x e) (sym a) ∙ sym b ∙ c
 
   module _ {r : Bool} {last : Epoch} {v : Verdict} {q₁ q₂ : CpuRunQueue} {t₁ : List ThreadRecord} where
-    pub renewed-made : last ≡ q .«budget_epoch» → r ≡ isEpoch last e → r ≡ false → out (leaves (verdictAnswer v) q₁) t₁ ≡ renewedRoots t q now → v ≡ verdict.Accepted
+    pub renewed-made : last ≡ q .«budget_epoch» → r ≡ isEpoch last e → r ≡ false
+        → out (leaves (verdictAnswer v) q₁) t₁ ≡ renewedRoots t q now → v ≡ verdict.Accepted
         → q₂ ≡ withEpoch q₁ e → out (leaves (value tt) q₂) t₁ ≡ renewedQueue t q now e
     unfolding choose onOut onLeaves
     renewed-made a b c s m f = rw (apart, changes a b c, sym s, m, f)
 
-    pub renewed-refused : {n : Refusal} → last ≡ q .«budget_epoch» → r ≡ isEpoch last e → r ≡ false → out (leaves (verdictAnswer v) q₁) t₁ ≡ renewedRoots t q now → v ≡ verdict.Refused n
+    pub renewed-refused : {n : Refusal} → last ≡ q .«budget_epoch» → r ≡ isEpoch last e → r ≡ false
+        → out (leaves (verdictAnswer v) q₁) t₁ ≡ renewedRoots t q now → v ≡ verdict.Refused n
         → q₂ ≡ withMark q₁ (numberOf n) → out (leaves (refused (numberOf n)) q₂) t₁ ≡ renewedQueue t q now e
     unfolding choose onOut onLeaves
     renewed-refused a b c s m f = rw (apart, changes a b c, sym s, m, f)
 
-pub ruleset renewals = (roots-renewed, epoch-stored, mark-left, no-mark-left, renewed-already, renewed-made, renewed-refused)
+pub ruleset renewals =
+    (roots-renewed, epoch-stored, mark-left, no-mark-left, renewed-already, renewed-made, renewed-refused)
 
 -- The heads beside the queue that the change of period left.
-module _ (t : List ThreadRecord) (q : CpuRunQueue) (c : CpuIndex) (now : ℕ) (w : CpuWindow) (current : CandidateOption) where
-  pub queue-looked : {a : Answer Selection} {w₁ : CpuWindow} {t₁ : List ThreadRecord} → out (looked a w₁) t₁ ≡ lookedAt t (q .indices) c now w current
+module _ (t : List ThreadRecord) (q : CpuRunQueue) (c : CpuIndex) (now : ℕ) (w : CpuWindow)
+    (current : CandidateOption) where
+  pub queue-looked : {a : Answer Selection} {w₁ : CpuWindow} {t₁ : List ThreadRecord}
+      → out (looked a w₁) t₁ ≡ lookedAt t (q .indices) c now w current
       → out (peeked a w₁ q) t₁ ≡ onOut (lookedAt t (q .indices) c now w current) (λ x t₂. out (besideQueue q x) t₂)
   unfolding onOut
   queue-looked e = rw (sym e)
 
   looked-restored : (p : SelectionParts) (y : Out Looked)
-      → onOut (onOut y (λ x t₂. out (besideParts p x) t₂)) (λ x t₁. out (restored q x) t₁) ≡ onOut y (λ x t₂. out (besideQueue (withSelectionParts q p) x) t₂)
+      → onOut (onOut y (λ x t₂. out (besideParts p x) t₂)) (λ x t₁. out (restored q x) t₁)
+      ≡ onOut y (λ x t₂. out (besideQueue (withSelectionParts q p) x) t₂)
   unfolding onOut restored
   looked-restored p (out (looked a w₁) t₁) = refl
 
-  running-apart : onOut (peekRunning t (selectionParts q) c now w current) (λ x t₁. out (restored q x) t₁) ≡ runningQueue t q c now w current
+  running-apart : onOut (peekRunning t (selectionParts q) c now w current) (λ x t₁. out (restored q x) t₁)
+      ≡ runningQueue t q c now w current
   unfolding peekRunning runningQueue renewedQueue given onOut onLeaves restored withSelectionParts
   running-apart = go (renew t (selectionParts q) now (now / w .config .«period_ns»))
     where
       heads : (p : SelectionParts) (t₁ : List ThreadRecord)
-          → onOut (onOut (gatherHeads 12 t₁ (p .indices) c now noHeads (ofCurrent current)) (λ a t₂. onAnswer a (λ n. out (peeked (refused n) w p) t₂) (λ h. chosen t₂ p now w h)))
+          → onOut (onOut (gatherHeads treeCount t₁ (p .indices) c now noHeads (ofCurrent current))
+          (λ a t₂. onAnswer a (λ n. out (peeked (refused n) w p) t₂) (λ h. chosen t₂ p now w h)))
           (λ x t₂. out (restored q x) t₂)
           ≡ onOut (lookedAt t₁ (p .indices) c now w current) (λ x t₂. out (besideQueue (withSelectionParts q p) x) t₂)
-      heads p t₁ = ap (λ y. onOut y (λ x t₂. out (restored q x) t₂)) (heads-apart t₁ p c now w current) ∙ looked-restored p (lookedAt t₁ (p .indices) c now w current)
+      heads p t₁ =
+          ap (λ y. onOut y (λ x t₂. out (restored q x) t₂)) (heads-apart t₁ p c now w current)
+          ∙ looked-restored p (lookedAt t₁ (p .indices) c now w current)
 
       go : (x : Out (Leaves (Unit {0}) SelectionParts))
           → onOut (onOut x
           (λ s t₁. onLeaves s
           (λ n p₁. out (peeked (refused n) w p₁) t₁)
-          (λ u p₁. onOut (gatherHeads 12 t₁ (p₁ .indices) c now noHeads (ofCurrent current)) (λ a t₂. onAnswer a (λ n. out (peeked (refused n) w p₁) t₂) (λ h. chosen t₂ p₁ now w h)))))
+          (λ u p₁. onOut (gatherHeads treeCount t₁ (p₁ .indices) c now noHeads (ofCurrent current))
+          (λ a t₂. onAnswer a (λ n. out (peeked (refused n) w p₁) t₂) (λ h. chosen t₂ p₁ now w h)))))
           (λ x t₁. out (restored q x) t₁)
           ≡ onOut (onOut {B = Out (Leaves (Unit {0}) CpuRunQueue)} x
           (λ s t₁. onLeaves s
@@ -271,24 +311,28 @@ module _ (t : List ThreadRecord) (q : CpuRunQueue) (c : CpuIndex) (now : ℕ) (w
   peek-apart = go (ltb maxRecords (length t)) (soundConfig (w .config)) (q .halted) (same-parts q)
     where
       go : (large sound halted : Bool) → withSelectionParts q (selectionParts q) ≡ q
-          → onOut (choose large (out (peeked (refused 10) w (selectionParts q)) t)
+          → onOut (choose large (out (peeked (refused badTable) w (selectionParts q)) t)
           (choose sound
-          (choose halted (out (peeked (refused 9) w (selectionParts q)) t) (peekRunning t (selectionParts q) c now w current))
-          (out (peeked (refused 5) w (selectionParts q)) t)))
+          (choose halted (out (peeked (refused queueHalted) w (selectionParts q)) t)
+          (peekRunning t (selectionParts q) c now w current))
+          (out (peeked (refused badConfig) w (selectionParts q)) t)))
           (λ x t₁. out (restored q x) t₁)
-          ≡ choose large (out (peeked (refused 10) w q) t)
-          (choose sound (choose halted (out (peeked (refused 9) w q) t) (runningQueue t q c now w current)) (out (peeked (refused 5) w q) t))
-      go true sound halted e = ap (λ q. out (peeked (refused 10) w q) t) e
-      go false false halted e = ap (λ q. out (peeked (refused 5) w q) t) e
-      go false true true e = ap (λ q. out (peeked (refused 9) w q) t) e
+          ≡ choose large (out (peeked (refused badTable) w q) t)
+          (choose sound (choose halted (out (peeked (refused queueHalted) w q) t) (runningQueue t q c now w current))
+          (out (peeked (refused badConfig) w q) t))
+      go true sound halted e = ap (λ q. out (peeked (refused badTable) w q) t) e
+      go false false halted e = ap (λ q. out (peeked (refused badConfig) w q) t) e
+      go false true true e = ap (λ q. out (peeked (refused queueHalted) w q) t) e
       go false true false e = running-apart
 
   pub peeked-so : {y : Out (Peeked CpuRunQueue)} → y ≡ peekQueue t q c now w current → y ≡ peekNext t q c now w current
   peeked-so h = h ∙ sym peek-apart
 
 -- The rows of the roots are those of the queue.
-pub roots-looked : {y : Out Looked} (t : List ThreadRecord) (rows : List (List ℕ)) (c : CpuIndex) (now : ℕ) (w : CpuWindow) (current : CandidateOption)
-    → y ≡ lookedAt t (rootsOf (take 12 (drop 257 rows))) c now w current → y ≡ lookedAt t (queueOf rows .indices) c now w current
+pub roots-looked : {y : Out Looked} (t : List ThreadRecord) (rows : List (List ℕ)) (c : CpuIndex) (now : ℕ)
+    (w : CpuWindow) (current : CandidateOption)
+    → y ≡ lookedAt t (rootsOf (take treeCount (drop rootRows rows))) c now w current
+    → y ≡ lookedAt t (queueOf rows .indices) c now w current
 unfolding queueOf rootsOf
 roots-looked t rows c now w current h = h
 

@@ -1,9 +1,10 @@
--- Selection over a queue as the code takes it: the change of period on the queue, and then the heads. The laws say that this is `peekNext`.
+-- Selection over a queue as the code takes it: the change of period on the queue, and then the heads. The laws say that
+-- this is `peekNext`.
 use Prim.Native.Nat.{ℕ, _/_}
 use mathlib.Core.Bool.{true}
 use mathlib.Core.List.{List}
 use lib.ListN.{length}
-use Rattle.refusal.specs.Answer.{value, refused}
+use Rattle.refusal.specs.Answer.{value, refused, badConfig, queueHalted, badTable}
 use Rattle.refusal.specs.Cases.{choose, given, ifLess}
 use Rattle.time.specs.declared.Epoch.the-variants as epoch
 use Rattle.arbitration.specs.declared.CpuWindow.{CpuWindow}
@@ -13,7 +14,7 @@ use Rattle.thread.specs.declared.ThreadRecord.{ThreadRecord}
 use Rattle.rows.specs.Table.{Out, out}
 use Rattle.lists.specs.Lists.{onOut}
 use Rattle.queue.specs.declared.Root.{Root}
-use Rattle.queue.specs.declared.CpuRunQueue.{CpuRunQueue}
+use Rattle.queue.specs.RunQueue.{CpuRunQueue}
 use Rattle.queue.specs.Queue.{maxRecords}
 use Rattle.demands.specs.declared.CandidateOption.{CandidateOption}
 use Rattle.renewal.specs.Leaves.{Leaves, leaves, onLeaves}
@@ -24,17 +25,41 @@ use Rattle.selection.specs.Steps.{Looked, looked, lookedAt}
 -- The twelve roots stored.
 unfoldable pub withIndices : CpuRunQueue → List Root → CpuRunQueue
 withIndices q roots =
-    record { realtime = q .realtime; «realtime_len» = q .«realtime_len»; fair = q .fair; indices = roots; «budget_epoch» = q .«budget_epoch»; «budget_threads» = q .«budget_threads»; halted = q .halted }
+    record {
+      realtime = q .realtime;
+      «realtime_len» = q .«realtime_len»;
+      fair = q .fair;
+      indices = roots;
+      «budget_epoch» = q .«budget_epoch»;
+      «budget_threads» = q .«budget_threads»;
+      halted = q .halted;
+    }
 
 -- The epoch stored.
 unfoldable pub withEpoch : CpuRunQueue → ℕ → CpuRunQueue
 withEpoch q e =
-    record { realtime = q .realtime; «realtime_len» = q .«realtime_len»; fair = q .fair; indices = q .indices; «budget_epoch» = epoch.Some e; «budget_threads» = q .«budget_threads»; halted = q .halted }
+    record {
+      realtime = q .realtime;
+      «realtime_len» = q .«realtime_len»;
+      fair = q .fair;
+      indices = q .indices;
+      «budget_epoch» = epoch.Some e;
+      «budget_threads» = q .«budget_threads»;
+      halted = q .halted;
+    }
 
 -- The mark that a refusal leaves.
 unfoldable pub withMark : CpuRunQueue → ℕ → CpuRunQueue
 withMark q n =
-    record { realtime = q .realtime; «realtime_len» = q .«realtime_len»; fair = q .fair; indices = q .indices; «budget_epoch» = q .«budget_epoch»; «budget_threads» = q .«budget_threads»; halted = choose (isHalt n) true (q .halted) }
+    record {
+      realtime = q .realtime;
+      «realtime_len» = q .«realtime_len»;
+      fair = q .fair;
+      indices = q .indices;
+      «budget_epoch» = q .«budget_epoch»;
+      «budget_threads» = q .«budget_threads»;
+      halted = choose (isHalt n) true (q .halted);
+    }
 
 -- The moves of the three roles, on a queue.
 unfoldable pub renewedRoots : List ThreadRecord → CpuRunQueue → ℕ → Out (Leaves (Unit {0}) CpuRunQueue)
@@ -56,7 +81,8 @@ abbrev pub besideQueue : CpuRunQueue → Looked → Peeked CpuRunQueue
 besideQueue q (looked a w) = peeked a w q
 
 -- With a window that is sound and a queue that runs.
-unfoldable pub runningQueue : List ThreadRecord → CpuRunQueue → CpuIndex → ℕ → CpuWindow → CandidateOption → Out (Peeked CpuRunQueue)
+unfoldable pub runningQueue : List ThreadRecord → CpuRunQueue → CpuIndex → ℕ → CpuWindow → CandidateOption
+    → Out (Peeked CpuRunQueue)
 runningQueue t q c now w current =
     given (now / w .config .«period_ns»)
     (λ e. onOut (renewedQueue t q now e)
@@ -64,9 +90,10 @@ runningQueue t q c now w current =
     (λ n q₁. out (peeked (refused n) w q₁) t₁)
     (λ u q₁. onOut (lookedAt t₁ (q₁ .indices) c now w current) (λ x t₂. out (besideQueue q₁ x) t₂))))
 
-unfoldable pub peekQueue : List ThreadRecord → CpuRunQueue → CpuIndex → ℕ → CpuWindow → CandidateOption → Out (Peeked CpuRunQueue)
+unfoldable pub peekQueue : List ThreadRecord → CpuRunQueue → CpuIndex → ℕ → CpuWindow → CandidateOption
+    → Out (Peeked CpuRunQueue)
 peekQueue t q c now w current =
-    ifLess maxRecords (length t) (out (peeked (refused 10) w q) t)
+    ifLess maxRecords (length t) (out (peeked (refused badTable) w q) t)
     (choose (soundConfig (w .config))
-    (choose (q .halted) (out (peeked (refused 9) w q) t) (runningQueue t q c now w current))
-    (out (peeked (refused 5) w q) t))
+    (choose (q .halted) (out (peeked (refused queueHalted) w q) t) (runningQueue t q c now w current))
+    (out (peeked (refused badConfig) w q) t))

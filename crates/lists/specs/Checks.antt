@@ -1,8 +1,9 @@
--- What push, push_front and remove ask before they store anything. After `preflight_insert` and `validate_neighbors` of scheduler/queue.rs.
+-- What push, push_front and remove ask before they store anything. After `preflight_insert` and `validate_neighbors` of
+-- scheduler/queue.rs.
 use Prim.Native.Nat.{ℕ, _+_}
 use mathlib.Core.Bool.{Bool, true, false}
 use mathlib.Core.List.{List}
-use Rattle.refusal.specs.Answer.{Answer, value, refused}
+use Rattle.refusal.specs.Answer.{Answer, value, refused, damaged, badState, already}
 use Rattle.refusal.specs.Cases.{choose, ifEqual}
 use Rattle.thread.specs.declared.CpuIndex.{CpuIndex}
 use Rattle.thread.specs.declared.QueueMembership.{QueueMembership}
@@ -23,11 +24,14 @@ assignedTo m assigned = onCpu (readyCpu m) true (λ c. ifEqual (c .0) (assigned 
 
 -- The head is of this list and has nothing before it. A head outside the table is not.
 unfoldable pub headAgrees : List ThreadRecord → ℕ → QueueMembership → Bool
-headAgrees t head m = onQueueLinks (queueLinksAt t head) false (λ l. choose (sameMembership (l .membership) m) (isNone (l .previous)) false)
+headAgrees t head m =
+    onQueueLinks (queueLinksAt t head) false
+    (λ l. choose (sameMembership (l .membership) m) (isNone (l .previous)) false)
 
 -- The tail is of this list and has nothing after it.
 unfoldable pub tailAgrees : List ThreadRecord → ℕ → QueueMembership → Bool
-tailAgrees t tail m = onQueueLinks (queueLinksAt t tail) false (λ l. choose (sameMembership (l .membership) m) (isNone (l .next)) false)
+tailAgrees t tail m =
+    onQueueLinks (queueLinksAt t tail) false (λ l. choose (sameMembership (l .membership) m) (isNone (l .next)) false)
 
 -- Neither end and length 0, or both ends with another length; any other mix is not a list.
 unfoldable pub endsAgree : List ThreadRecord → ThreadQueue → QueueMembership → Bool
@@ -37,15 +41,16 @@ endsAgree t q m =
     (λ head. onLink (q .tail) false
     (λ tail. ifEqual (q .len) 0 false (choose (headAgrees t head m) (tailAgrees t tail m) false)))
 
--- The length after the insertion: the thread is in no list, of the right processor, the length can rise, and the ends agree (`preflight_insert`).
+-- The length after the insertion: the thread is in no list, of the right processor, the length can rise, and the ends
+-- agree (`preflight_insert`).
 unfoldable pub preflightInsert : List ThreadRecord → ThreadQueue → ℕ → QueueMembership → Answer ℕ
 preflightInsert t q id m =
-    onRecord (recordAt t id) (refused 1)
+    onRecord (recordAt t id) (refused damaged)
     (λ r. choose (isUnqueued (r .«queue_links» .membership))
     (choose (assignedTo m (r .cpu))
-    (ifEqual (q .len) maxLength (refused 1) (choose (endsAgree t q m) (value (q .len + 1)) (refused 1)))
-    (refused 2))
-    (refused 3))
+    (ifEqual (q .len) maxLength (refused damaged) (choose (endsAgree t q m) (value (q .len + 1)) (refused damaged)))
+    (refused badState))
+    (refused already))
 
 -- What stands before the thread, or else the list's head, points to it.
 unfoldable pub previousValid : List ThreadRecord → ThreadQueue → QueueLinks → ℕ → Bool

@@ -1,9 +1,10 @@
--- push, push_front and remove on one list over the table: each read and store in the source's order. After scheduler/queue.rs.
--- A refusal leaves table and list as they were. Where the source would halt, after its checks, there is no case here: each number that is stored to was
--- read by a check before, and no store takes a record out of the table.
+-- push, push_front and remove on one list over the table: each read and store in the source's order. After
+-- scheduler/queue.rs. A refusal leaves table and list as they were. Where the source would halt, after its checks,
+-- there is no case here: each number that is stored to was read by a check before, and no store takes a record out of
+-- the table.
 use Prim.Native.Nat.{ℕ, _-_}
 use mathlib.Core.List.{List}
-use Rattle.refusal.specs.Answer.{Answer, value, refused}
+use Rattle.refusal.specs.Answer.{Answer, value, refused, damaged}
 use Rattle.refusal.specs.Cases.{choose, ifEqual, given}
 use Rattle.thread.specs.declared.Link.{Link}
 use Rattle.thread.specs.declared.Link.the-variants as link
@@ -73,21 +74,27 @@ prepend t q id m n =
 
 -- The thread becomes the list's last.
 unfoldable pub push : List ThreadRecord → ThreadQueue → ℕ → QueueMembership → Out (Answer ThreadQueue)
-push t q id m = onAnswer (preflightInsert t q id m) (λ n. out (refused n) t) (λ n. onOut (append t q id m n) (λ s t₁. out (value s) t₁))
+push t q id m =
+    onAnswer (preflightInsert t q id m) (λ n. out (refused n) t)
+    (λ n. onOut (append t q id m n) (λ s t₁. out (value s) t₁))
 
 -- The thread becomes the list's first.
 unfoldable pub pushFront : List ThreadRecord → ThreadQueue → ℕ → QueueMembership → Out (Answer ThreadQueue)
-pushFront t q id m = onAnswer (preflightInsert t q id m) (λ n. out (refused n) t) (λ n. onOut (prepend t q id m n) (λ s t₁. out (value s) t₁))
+pushFront t q id m =
+    onAnswer (preflightInsert t q id m) (λ n. out (refused n) t)
+    (λ n. onOut (prepend t q id m n) (λ s t₁. out (value s) t₁))
 
 -- `update_previous_link`: what stands before, or else the list's head, goes on to what stands after.
 unfoldable pub updatePreviousLink : List ThreadRecord → ThreadQueue → QueueLinks → Out ThreadQueue
 updatePreviousLink t q l =
-    onLink (l .previous) (out (record { head = l .next; tail = q .tail; len = q .len }) t) (λ previous. out q (setNext t previous (l .next)))
+    onLink (l .previous) (out (record { head = l .next; tail = q .tail; len = q .len }) t)
+    (λ previous. out q (setNext t previous (l .next)))
 
 -- `update_next_link`: what stands after, or else the list's tail, goes back to what stands before.
 unfoldable pub updateNextLink : List ThreadRecord → ThreadQueue → QueueLinks → Out ThreadQueue
 updateNextLink t q l =
-    onLink (l .next) (out (record { head = q .head; tail = l .previous; len = q .len }) t) (λ next. out q (setPrevious t next (l .previous)))
+    onLink (l .next) (out (record { head = q .head; tail = l .previous; len = q .len }) t)
+    (λ next. out q (setPrevious t next (l .previous)))
 
 -- The stores of `remove`, with the length after it.
 unfoldable pub unlink : List ThreadRecord → ThreadQueue → QueueLinks → ℕ → ℕ → Out ThreadQueue
@@ -99,10 +106,10 @@ unlink t q l id n =
 -- The thread leaves the list.
 unfoldable pub remove : List ThreadRecord → ThreadQueue → ℕ → QueueMembership → Out (Answer ThreadQueue)
 remove t q id m =
-    onQueueLinks (queueLinksAt t id) (out (refused 1) t)
+    onQueueLinks (queueLinksAt t id) (out (refused damaged) t)
     (λ l. choose (sameMembership (l .membership) m)
-    (ifEqual (q .len) 0 (out (refused 1) t)
+    (ifEqual (q .len) 0 (out (refused damaged) t)
     (choose (validateNeighbors t q l id)
     (onOut (unlink t q l id (q .len - 1)) (λ s t₁. out (value s) t₁))
-    (out (refused 1) t)))
-    (out (refused 1) t))
+    (out (refused damaged) t)))
+    (out (refused damaged) t))

@@ -14,16 +14,18 @@ use Rattle.thread.specs.declared.ThreadQueue.{ThreadQueue}
 use Rattle.thread.specs.declared.ThreadRecord.{ThreadRecord}
 use Rattle.thread.specs.Membership.{isUnqueued}
 use Rattle.thread.specs.Records.{withQueueLinks}
-use Rattle.codec.specs.Codec.{word, linkFrom, parametersOf, runtimeOf, linksOf, queueLinksOf, decoded}
+use Rattle.codec.specs.Codec.{word, linkFrom, parametersOf, runtimeOf, linksOf, queueLinksOf, decoded, cpuWord}
 use Rattle.codec.specs.RowLaws.{by-words}
 use Rattle.rows.specs.declared.QueueLinksRead.the-variants as queueLinks
 use Rattle.rows.specs.Table.{Out, out, after, table, recordAt, queueLinksAt, setQueueLinks}
 use Rattle.rows.specs.TableCases.{onRecord, onQueueLinks}
-use Rattle.rows.specs.RowTableLaws.{record-inside, record-outside, queue-links-inside, queue-links-outside, set-queue-links-inside}
+use Rattle.rows.specs.RowTableLaws.{record-inside, record-outside, queue-links-inside, queue-links-outside}
+use Rattle.rows.specs.RowTableLaws.{set-queue-links-inside}
 use Rattle.lists.specs.declared.Preflight.{Preflight}
 use Rattle.lists.specs.declared.Preflight.the-variants as preflight
 use Rattle.lists.specs.Checks.{assignedTo, preflightInsert}
-use Rattle.lists.specs.Lists.{onAnswer, onOut, withNext, withPrevious, setNext, setPrevious, append, prepend, push, pushFront}
+use Rattle.lists.specs.Lists.{onAnswer, onOut, withNext, withPrevious, setNext, setPrevious, append, prepend}
+use Rattle.lists.specs.Lists.{push, pushFront}
 use Rattle.lists.specs.Answers.{preflightAnswer}
 
 module _ {B : Type 0} {y : B} {r : Preflight} {x : Answer ℕ} (g f : ℕ → B) where
@@ -31,17 +33,21 @@ module _ {B : Type 0} {y : B} {r : Preflight} {x : Answer ℕ} (g f : ℕ → B)
   unfolding onAnswer
   allowed e m h = rw (sym e, m) h
 
-  pub turned-down : {n : Refusal} → preflightAnswer r ≡ x → r ≡ preflight.Refused n → y ≡ g (numberOf n) → y ≡ onAnswer x g f
+  pub turned-down : {n : Refusal} → preflightAnswer r ≡ x → r ≡ preflight.Refused n → y ≡ g (numberOf n)
+      → y ≡ onAnswer x g f
   unfolding onAnswer
   turned-down e m h = rw (sym e, m) h
 
-pub went-out : {A B : Type 0} {y : B} {r : A} {t : List ThreadRecord} {x : Out A} (f : A → List ThreadRecord → B) → out r t ≡ x → y ≡ f r t → y ≡ onOut x f
+pub went-out : {A B : Type 0} {y : B} {r : A} {t : List ThreadRecord} {x : Out A} (f : A → List ThreadRecord → B)
+    → out r t ≡ x → y ≡ f r t → y ≡ onOut x f
 unfolding onOut
 went-out f e h = rw (sym e) h
 
 -- Both ends have the same checks.
-pub either-end : (front : Bool) (t : List ThreadRecord) (q : ThreadQueue) (id : ℕ) (m : QueueMembership) {y : Out (Answer ThreadQueue)}
-    → y ≡ onAnswer (preflightInsert t q id m) (λ n. out (refused n) t) (λ n. onOut (choose front (prepend t q id m n) (append t q id m n)) (λ s t₁. out (value s) t₁))
+pub either-end : (front : Bool) (t : List ThreadRecord) (q : ThreadQueue) (id : ℕ) (m : QueueMembership)
+    {y : Out (Answer ThreadQueue)}
+    → y ≡ onAnswer (preflightInsert t q id m) (λ n. out (refused n) t)
+    (λ n. onOut (choose front (prepend t q id m n) (append t q id m n)) (λ s t₁. out (value s) t₁))
     → y ≡ choose front (pushFront t q id m) (push t q id m)
 unfolding choose push pushFront
 either-end true t q id m e = e
@@ -65,53 +71,68 @@ module _ {A : Type 0} {y : A} (rows : List (List ℕ)) (i : ℕ) (a : A) (f : Th
   unfolding onRecord
   row-outside h e = rw (sym (record-outside rows i h)) e
 
-pub unqueued-row : (w : List ℕ) {l : QueueLinks} {r : Bool} → l ≡ queueLinksOf w → r ≡ isUnqueued (l .membership) → r ≡ isUnqueued (decoded w .«queue_links» .membership)
+pub unqueued-row : (w : List ℕ) {l : QueueLinks} {r : Bool} → l ≡ queueLinksOf w → r ≡ isUnqueued (l .membership)
+    → r ≡ isUnqueued (decoded w .«queue_links» .membership)
 unfolding decoded
 unqueued-row w e h = rw (sym e) h
 
-pub assigned-row : (w : List ℕ) (m : QueueMembership) {n : ℕ} {r : Bool} → n ≡ word w 29 % 256 → r ≡ assignedTo m (record { 0 = n }) → r ≡ assignedTo m (decoded w .cpu)
+pub assigned-row : (w : List ℕ) (m : QueueMembership) {n : ℕ} {r : Bool} → n ≡ word w cpuWord % 256
+    → r ≡ assignedTo m (record { 0 = n }) → r ≡ assignedTo m (decoded w .cpu)
 unfolding decoded
 assigned-row w m e h = rw (sym e) h
 
 -- Two words stored are one link, and no other part of the record.
 pub next-stored : (r : List ℕ) (l : Link) (a : List ℕ) → length r ≡ 32 → linkFrom (word a 0) (word a 1) ≡ l
-    → decoded (set (set r 24 (word a 0)) 25 (word a 1)) ≡ withQueueLinks (withNext (decoded r .«queue_links») l) (decoded r)
+    → decoded (set (set r 24 (word a 0)) 25 (word a 1)) ≡ withQueueLinks (withNext (decoded r .«queue_links») l)
+    (decoded r)
 unfolding decoded parametersOf runtimeOf linksOf queueLinksOf
 next-stored r l a size e =
-    by-words 32 (λ (r : List ℕ). decoded (set (set r 24 (word a 0)) 25 (word a 1)) ≡ withQueueLinks (withNext (decoded r .«queue_links») l) (decoded r))
-    (λ x0 x1 x2 x3 x4 x5 x6 x7 x8 x9 x10 x11 x12 x13 x14 x15 x16 x17 x18 x19 x20 x21 x22 x23 x24 x25 x26 x27 x28 x29 x30 x31. rw (e))
+    by-words 32 (λ (r : List ℕ). decoded (set (set r 24 (word a 0)) 25 (word a 1))
+    ≡ withQueueLinks (withNext (decoded r .«queue_links») l) (decoded r))
+    (λ x0 x1 x2 x3 x4 x5 x6 x7 x8 x9 x10 x11 x12 x13 x14 x15 x16 x17 x18 x19 x20 x21 x22 x23 x24 x25 x26 x27 x28 x29 x30
+    x31. rw (e))
     r size
 
 pub previous-stored : (r : List ℕ) (l : Link) (a : List ℕ) → length r ≡ 32 → linkFrom (word a 0) (word a 1) ≡ l
-    → decoded (set (set r 22 (word a 0)) 23 (word a 1)) ≡ withQueueLinks (withPrevious (decoded r .«queue_links») l) (decoded r)
+    → decoded (set (set r 22 (word a 0)) 23 (word a 1)) ≡ withQueueLinks (withPrevious (decoded r .«queue_links») l)
+    (decoded r)
 unfolding decoded parametersOf runtimeOf linksOf queueLinksOf
 previous-stored r l a size e =
-    by-words 32 (λ (r : List ℕ). decoded (set (set r 22 (word a 0)) 23 (word a 1)) ≡ withQueueLinks (withPrevious (decoded r .«queue_links») l) (decoded r))
-    (λ x0 x1 x2 x3 x4 x5 x6 x7 x8 x9 x10 x11 x12 x13 x14 x15 x16 x17 x18 x19 x20 x21 x22 x23 x24 x25 x26 x27 x28 x29 x30 x31. rw (e))
+    by-words 32 (λ (r : List ℕ). decoded (set (set r 22 (word a 0)) 23 (word a 1))
+    ≡ withQueueLinks (withPrevious (decoded r .«queue_links») l) (decoded r))
+    (λ x0 x1 x2 x3 x4 x5 x6 x7 x8 x9 x10 x11 x12 x13 x14 x15 x16 x17 x18 x19 x20 x21 x22 x23 x24 x25 x26 x27 x28 x29 x30
+    x31. rw (e))
     r size
 
 -- The table with such a row in it.
 module _ (rows : List (List ℕ)) (i : ℕ) where
-  links-of-row : i < length rows → queueLinks.Got (decoded (getD rows i []) .«queue_links») ≡ queueLinksAt (table rows) i
+  links-of-row : i < length rows
+      → queueLinks.Got (decoded (getD rows i []) .«queue_links») ≡ queueLinksAt (table rows) i
   unfolding decoded
   links-of-row h = queue-links-inside rows i h refl
 
-  relinked : (l : QueueLinks) (w : List ℕ) → i < length rows → decoded w ≡ withQueueLinks l (decoded (getD rows i [])) → table (set rows i w) ≡ after (setQueueLinks (table rows) i l)
+  relinked : (l : QueueLinks) (w : List ℕ) → i < length rows → decoded w ≡ withQueueLinks l (decoded (getD rows i []))
+      → table (set rows i w) ≡ after (setQueueLinks (table rows) i l)
   relinked l w h e = ap after (set-queue-links-inside rows i l w h e)
 
-  pub next-set : (next : Link) (w : List ℕ) → i < length rows → decoded w ≡ withQueueLinks (withNext (decoded (getD rows i []) .«queue_links») next) (decoded (getD rows i []))
+  pub next-set : (next : Link) (w : List ℕ) → i < length rows
+      → decoded w ≡ withQueueLinks (withNext (decoded (getD rows i []) .«queue_links») next) (decoded (getD rows i []))
       → table (set rows i w) ≡ setNext (table rows) i next
   unfolding setNext onQueueLinks
-  next-set next w h e = rw (sym (links-of-row h)) (relinked (withNext (decoded (getD rows i []) .«queue_links») next) w h e)
+  next-set next w h e =
+      rw (sym (links-of-row h)) (relinked (withNext (decoded (getD rows i []) .«queue_links») next) w h e)
 
   pub next-not-set : (next : Link) → length rows ≤ i → table rows ≡ setNext (table rows) i next
   unfolding setNext onQueueLinks
   next-not-set next h = rw (sym (queue-links-outside rows i h))
 
-  pub previous-set : (previous : Link) (w : List ℕ) → i < length rows → decoded w ≡ withQueueLinks (withPrevious (decoded (getD rows i []) .«queue_links») previous) (decoded (getD rows i []))
+  pub previous-set : (previous : Link) (w : List ℕ) → i < length rows
+      → decoded w ≡ withQueueLinks (withPrevious (decoded (getD rows i []) .«queue_links») previous)
+      (decoded (getD rows i []))
       → table (set rows i w) ≡ setPrevious (table rows) i previous
   unfolding setPrevious onQueueLinks
-  previous-set previous w h e = rw (sym (links-of-row h)) (relinked (withPrevious (decoded (getD rows i []) .«queue_links») previous) w h e)
+  previous-set previous w h e =
+      rw (sym (links-of-row h)) (relinked (withPrevious (decoded (getD rows i []) .«queue_links») previous) w h e)
 
   pub previous-not-set : (previous : Link) → length rows ≤ i → table rows ≡ setPrevious (table rows) i previous
   unfolding setPrevious onQueueLinks

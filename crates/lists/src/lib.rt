@@ -1,14 +1,24 @@
-// One list of threads over the table: push, push_front and remove. After scheduler/queue.rs, with the source's order of checks and stores.
-// Every number that is stored to was read in the checks before (crate sound_lists, specs/Inside.antt), so the source's `queue_invariant` has no place here.
+// One list of threads over the table: push, push_front and remove. After scheduler/queue.rs, with the source's order of
+// checks and stores. Every number that is stored to was read in the checks before (crate sound_lists,
+// specs/Inside.antt), so the source's `queue_invariant` has no place here.
 ghost use mathlib.Core.Path.{_≡_};
 ghost use Rattle.refusal.specs.Cases.{choose};
 ghost use Rattle.thread.specs.Membership.{isUnqueued};
 ghost use Rattle.thread.specs.Records.{withQueueLinks};
 ghost use Rattle.codec.specs.Codec.{decoded};
 ghost use Rattle.rows.specs.Table.{table, out};
-ghost use Rattle.lists.specs.Checks.{assignedTo, headAgrees, tailAgrees, endsAgree, preflightInsert, previousValid, nextValid, validateNeighbors};
-ghost use Rattle.lists.specs.Lists.{withNext, withPrevious, setNext, setPrevious, commitInsert, commitRemove, append, push, prepend, pushFront, updatePreviousLink, updateNextLink, unlink, remove};
+ghost use Rattle.lists.specs.Checks.{assignedTo, headAgrees, tailAgrees, endsAgree, preflightInsert};
+ghost use Rattle.lists.specs.Checks.{previousValid, nextValid, validateNeighbors};
+ghost use Rattle.lists.specs.Lists.{withNext, withPrevious, setNext, setPrevious, commitInsert, commitRemove};
+ghost use Rattle.lists.specs.Lists.{append, push, prepend, pushFront, updatePreviousLink, updateNextLink, unlink};
+ghost use Rattle.lists.specs.Lists.{remove};
 ghost use Rattle.lists.specs.Answers.{preflightAnswer, listed};
+use codec::CPU;
+use codec::NEXT;
+use codec::NEXT_TAG;
+use codec::PREVIOUS;
+use codec::PREVIOUS_TAG;
+use codec::Row;
 use codec::byte_from;
 use codec::queue_links_of;
 use codec::words_of_link;
@@ -51,7 +61,7 @@ fn assigned_to(membership: QueueMembership, assigned: CpuIndex) -> bool
 }
 
 // The checks of an insertion read a row's membership and processor alone, not the whole record.
-fn is_unqueued_row(w: [u64; 32]) -> bool
+fn is_unqueued_row(w: Row) -> bool
     ensures { λ r. ⌜ r ≡ isUnqueued (decoded w .«queue_links» .membership) ⌝ }
 {
     let links = queue_links_of(w);
@@ -59,15 +69,15 @@ fn is_unqueued_row(w: [u64; 32]) -> bool
     membership.is_unqueued()
 }
 
-fn is_assigned_row(w: [u64; 32], membership: QueueMembership) -> bool
+fn is_assigned_row(w: Row, membership: QueueMembership) -> bool
     ensures { λ r. ⌜ r ≡ assignedTo membership (decoded w .cpu) ⌝ }
 {
-    let number = byte_from(w[29]);
+    let number = byte_from(w[CPU]);
     assigned_to(membership, CpuIndex(number))
 }
 
 // The head is of this list and has nothing before it.
-fn head_agrees(t: &[[u64; 32]], head: u64, membership: QueueMembership) -> bool
+fn head_agrees(t: &[Row], head: u64, membership: QueueMembership) -> bool
     ensures { λ r. ⌜ r ≡ headAgrees (table (now (t .entry))) head membership ⌝ }
 {
     let QueueLinksRead::Got(links) = queue_links_at(t, head) else {
@@ -82,7 +92,7 @@ fn head_agrees(t: &[[u64; 32]], head: u64, membership: QueueMembership) -> bool
 }
 
 // The tail is of this list and has nothing after it.
-fn tail_agrees(t: &[[u64; 32]], tail: u64, membership: QueueMembership) -> bool
+fn tail_agrees(t: &[Row], tail: u64, membership: QueueMembership) -> bool
     ensures { λ r. ⌜ r ≡ tailAgrees (table (now (t .entry))) tail membership ⌝ }
 {
     let QueueLinksRead::Got(links) = queue_links_at(t, tail) else {
@@ -97,7 +107,7 @@ fn tail_agrees(t: &[[u64; 32]], tail: u64, membership: QueueMembership) -> bool
 }
 
 // Empty with length 0, or with both ends and another length.
-fn ends_agree(t: &[[u64; 32]], queue: ThreadQueue, membership: QueueMembership) -> bool
+fn ends_agree(t: &[Row], queue: ThreadQueue, membership: QueueMembership) -> bool
     ensures { λ r. ⌜ r ≡ endsAgree (table (now (t .entry))) queue membership ⌝ }
 {
     let first = queue.head;
@@ -128,7 +138,7 @@ fn ends_agree(t: &[[u64; 32]], queue: ThreadQueue, membership: QueueMembership) 
 }
 
 fn preflight_insert(
-    t: &[[u64; 32]],
+    t: &[Row],
     queue: ThreadQueue,
     id: u64,
     membership: QueueMembership,
@@ -156,28 +166,28 @@ fn preflight_insert(
 }
 
 // Of a record's list links one alone: two words are stored, and none has to be read.
-fn with_next(w: [u64; 32], next: Link) -> [u64; 32]
+fn with_next(w: Row, next: Link) -> Row
     ensures { λ r. ⌜ decoded r ≡ withQueueLinks (withNext (decoded w .«queue_links») next) (decoded w) ⌝ }
 {
     let words = words_of_link(next);
     let mut row = w;
-    row[24] = words[0];
-    row[25] = words[1];
+    row[NEXT_TAG] = words[0];
+    row[NEXT] = words[1];
     row
 }
 
-fn with_previous(w: [u64; 32], previous: Link) -> [u64; 32]
+fn with_previous(w: Row, previous: Link) -> Row
     ensures { λ r. ⌜ decoded r ≡ withQueueLinks (withPrevious (decoded w .«queue_links») previous) (decoded w) ⌝ }
 {
     let words = words_of_link(previous);
     let mut row = w;
-    row[22] = words[0];
-    row[23] = words[1];
+    row[PREVIOUS_TAG] = words[0];
+    row[PREVIOUS] = words[1];
     row
 }
 
 // The record's next is stored, its other links as they are at this moment.
-fn set_next(t: &mut [[u64; 32]], i: u64, next: Link)
+fn set_next(t: &mut [Row], i: u64, next: Link)
     ensures { λ r. ⌜ table (now (t .exit)) ≡ setNext (table (now (t .entry))) i next ⌝ }
 {
     let k = i as usize;
@@ -188,7 +198,7 @@ fn set_next(t: &mut [[u64; 32]], i: u64, next: Link)
 }
 
 // The record's previous is stored, its other links as they are at this moment.
-fn set_previous(t: &mut [[u64; 32]], i: u64, previous: Link)
+fn set_previous(t: &mut [Row], i: u64, previous: Link)
     ensures { λ r. ⌜ table (now (t .exit)) ≡ setPrevious (table (now (t .entry))) i previous ⌝ }
 {
     let k = i as usize;
@@ -198,13 +208,13 @@ fn set_previous(t: &mut [[u64; 32]], i: u64, previous: Link)
     }
 }
 
-fn commit_insert(t: &mut [[u64; 32]], id: u64, links: QueueLinks)
+fn commit_insert(t: &mut [Row], id: u64, links: QueueLinks)
     ensures { λ r. ⌜ table (now (t .exit)) ≡ commitInsert (table (now (t .entry))) id links ⌝ }
 {
     set_queue_links(t, id, links);
 }
 
-fn commit_remove(t: &mut [[u64; 32]], id: u64)
+fn commit_remove(t: &mut [Row], id: u64)
     ensures { λ r. ⌜ table (now (t .exit)) ≡ commitRemove (table (now (t .entry))) id ⌝ }
 {
     set_queue_links(t, id, QueueLinks::EMPTY);
@@ -212,7 +222,7 @@ fn commit_remove(t: &mut [[u64; 32]], id: u64)
 
 // The stores of `push`, after its checks.
 fn append(
-    t: &mut [[u64; 32]],
+    t: &mut [Row],
     queue: ThreadQueue,
     id: u64,
     membership: QueueMembership,
@@ -261,7 +271,7 @@ fn append(
 
 // The stores of `push_front`, after its checks.
 fn prepend(
-    t: &mut [[u64; 32]],
+    t: &mut [Row],
     queue: ThreadQueue,
     id: u64,
     membership: QueueMembership,
@@ -310,14 +320,16 @@ fn prepend(
 
 // The stores of either end, after the checks.
 fn place(
-    t: &mut [[u64; 32]],
+    t: &mut [Row],
     front: bool,
     queue: ThreadQueue,
     id: u64,
     membership: QueueMembership,
     len: u64,
 ) -> ThreadQueue
-    ensures { λ r. ⌜ out r (table (now (t .exit))) ≡ choose front (prepend (table (now (t .entry))) queue id membership len) (append (table (now (t .entry))) queue id membership len) ⌝ }
+    ensures { λ r. ⌜ out r (table (now (t .exit)))
+        ≡ choose front (prepend (table (now (t .entry))) queue id membership len)
+        (append (table (now (t .entry))) queue id membership len) ⌝ }
 {
     if front {
         return prepend(t, queue, id, membership, len);
@@ -325,15 +337,18 @@ fn place(
     append(t, queue, id, membership, len)
 }
 
-// `push`, and with `front` `push_front`. The checks of both are called from this one place, so that the compiler puts them into it.
+// `push`, and with `front` `push_front`. The checks of both are called from this one place, so that the compiler puts
+// them into it.
 pub fn push_at(
-    t: &mut [[u64; 32]],
+    t: &mut [Row],
     front: bool,
     queue: ThreadQueue,
     id: u64,
     membership: QueueMembership,
 ) -> Listed
-    ensures { λ r. ⌜ out (listed r) (table (now (t .exit))) ≡ choose front (pushFront (table (now (t .entry))) queue id membership) (push (table (now (t .entry))) queue id membership) ⌝ }
+    ensures { λ r. ⌜ out (listed r) (table (now (t .exit)))
+        ≡ choose front (pushFront (table (now (t .entry))) queue id membership)
+        (push (table (now (t .entry))) queue id membership) ⌝ }
 {
     let preflight = preflight_insert(t, queue, id, membership);
     match preflight {
@@ -343,26 +358,21 @@ pub fn push_at(
 }
 
 // The thread becomes the list's last.
-pub fn push(t: &mut [[u64; 32]], queue: ThreadQueue, id: u64, membership: QueueMembership) -> Listed
+pub fn push(t: &mut [Row], queue: ThreadQueue, id: u64, membership: QueueMembership) -> Listed
     ensures { λ r. ⌜ out (listed r) (table (now (t .exit))) ≡ push (table (now (t .entry))) queue id membership ⌝ }
 {
     push_at(t, false, queue, id, membership)
 }
 
 // The thread becomes the list's first.
-pub fn push_front(
-    t: &mut [[u64; 32]],
-    queue: ThreadQueue,
-    id: u64,
-    membership: QueueMembership,
-) -> Listed
+pub fn push_front(t: &mut [Row], queue: ThreadQueue, id: u64, membership: QueueMembership) -> Listed
     ensures { λ r. ⌜ out (listed r) (table (now (t .exit))) ≡ pushFront (table (now (t .entry))) queue id membership ⌝ }
 {
     push_at(t, true, queue, id, membership)
 }
 
 // What stands before the thread points to it.
-fn previous_valid(t: &[[u64; 32]], queue: ThreadQueue, links: QueueLinks, id: u64) -> bool
+fn previous_valid(t: &[Row], queue: ThreadQueue, links: QueueLinks, id: u64) -> bool
     ensures { λ r. ⌜ r ≡ previousValid (table (now (t .entry))) queue links id ⌝ }
 {
     let head = queue.head;
@@ -380,7 +390,7 @@ fn previous_valid(t: &[[u64; 32]], queue: ThreadQueue, links: QueueLinks, id: u6
 }
 
 // What stands after the thread points back to it.
-fn next_valid(t: &[[u64; 32]], queue: ThreadQueue, links: QueueLinks, id: u64) -> bool
+fn next_valid(t: &[Row], queue: ThreadQueue, links: QueueLinks, id: u64) -> bool
     ensures { λ r. ⌜ r ≡ nextValid (table (now (t .entry))) queue links id ⌝ }
 {
     let tail = queue.tail;
@@ -397,7 +407,7 @@ fn next_valid(t: &[[u64; 32]], queue: ThreadQueue, links: QueueLinks, id: u64) -
     }
 }
 
-fn validate_neighbors(t: &[[u64; 32]], queue: ThreadQueue, links: QueueLinks, id: u64) -> bool
+fn validate_neighbors(t: &[Row], queue: ThreadQueue, links: QueueLinks, id: u64) -> bool
     ensures { λ r. ⌜ r ≡ validateNeighbors (table (now (t .entry))) queue links id ⌝ }
 {
     if previous_valid(t, queue, links, id) {
@@ -406,7 +416,7 @@ fn validate_neighbors(t: &[[u64; 32]], queue: ThreadQueue, links: QueueLinks, id
     false
 }
 
-fn update_previous_link(t: &mut [[u64; 32]], queue: ThreadQueue, links: QueueLinks) -> ThreadQueue
+fn update_previous_link(t: &mut [Row], queue: ThreadQueue, links: QueueLinks) -> ThreadQueue
     ensures { λ r. ⌜ out r (table (now (t .exit))) ≡ updatePreviousLink (table (now (t .entry))) queue links ⌝ }
 {
     let link = links.previous;
@@ -425,7 +435,7 @@ fn update_previous_link(t: &mut [[u64; 32]], queue: ThreadQueue, links: QueueLin
     }
 }
 
-fn update_next_link(t: &mut [[u64; 32]], queue: ThreadQueue, links: QueueLinks) -> ThreadQueue
+fn update_next_link(t: &mut [Row], queue: ThreadQueue, links: QueueLinks) -> ThreadQueue
     ensures { λ r. ⌜ out r (table (now (t .exit))) ≡ updateNextLink (table (now (t .entry))) queue links ⌝ }
 {
     let link = links.next;
@@ -445,13 +455,7 @@ fn update_next_link(t: &mut [[u64; 32]], queue: ThreadQueue, links: QueueLinks) 
 }
 
 // The stores of `remove`, after its checks.
-fn unlink(
-    t: &mut [[u64; 32]],
-    queue: ThreadQueue,
-    links: QueueLinks,
-    id: u64,
-    len: u64,
-) -> ThreadQueue
+fn unlink(t: &mut [Row], queue: ThreadQueue, links: QueueLinks, id: u64, len: u64) -> ThreadQueue
     ensures { λ r. ⌜ out r (table (now (t .exit))) ≡ unlink (table (now (t .entry))) queue links id len ⌝ }
 {
     let without_previous = update_previous_link(t, queue, links);
@@ -463,12 +467,7 @@ fn unlink(
 }
 
 // The thread leaves the list, wherever it stands in it.
-pub fn remove(
-    t: &mut [[u64; 32]],
-    queue: ThreadQueue,
-    id: u64,
-    membership: QueueMembership,
-) -> Listed
+pub fn remove(t: &mut [Row], queue: ThreadQueue, id: u64, membership: QueueMembership) -> Listed
     ensures { λ r. ⌜ out (listed r) (table (now (t .exit))) ≡ remove (table (now (t .entry))) queue id membership ⌝ }
 {
     let QueueLinksRead::Got(links) = queue_links_at(t, id) else {

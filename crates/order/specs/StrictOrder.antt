@@ -1,4 +1,5 @@
--- Comparing part by part is a strict total order: equal only of equal keys, turned about where the keys are, and transitive.
+-- Comparing part by part is a strict total order: equal only of equal keys, turned about where the keys are, and
+-- transitive.
 use Prim.Native.Nat.{ℕ, _<_, _≤_}
 use native.Mathlib.Omega.{arith}
 use mathlib.Core.Path.{_≡_, refl, sym, ap, _∙_}
@@ -82,7 +83,8 @@ equal-only [] (y ∷ b) e = never cc
 equal-only (x ∷ a) [] e = never cc
 equal-only (x ∷ a) (y ∷ b) e = go (compareNumbers x y) (says x y) e (equal-only a b)
   where
-    go : (o : Ordering) → Says o x y → thenBy o (compareParts a b) ≡ Equal → (compareParts a b ≡ Equal → a ≡ b) → x ∷ a ≡ y ∷ b
+    go : (o : Ordering) → Says o x y → thenBy o (compareParts a b) ≡ Equal → (compareParts a b ≡ Equal → a ≡ b)
+        → x ∷ a ≡ y ∷ b
     go Less h f k = never cc
     go Equal h f k = rw (h, k f)
     go Greater h f k = never cc
@@ -95,10 +97,13 @@ less-transitive [] (y ∷ b) [] e f = never cc
 less-transitive [] (y ∷ b) (z ∷ c) e f = refl
 less-transitive (x ∷ a) [] c e f = never cc
 less-transitive (x ∷ a) (y ∷ b) [] e f = never cc
-less-transitive (x ∷ a) (y ∷ b) (z ∷ c) e f = go (compareNumbers x y) (compareNumbers y z) (says x y) (says y z) e f (less-transitive a b c)
+less-transitive (x ∷ a) (y ∷ b) (z ∷ c) e f =
+    go (compareNumbers x y) (compareNumbers y z) (says x y) (says y z) e f (less-transitive a b c)
   where
-    go : (o p : Ordering) → Says o x y → Says p y z → thenBy o (compareParts a b) ≡ Less → thenBy p (compareParts b c) ≡ Less
-        → (compareParts a b ≡ Less → compareParts b c ≡ Less → compareParts a c ≡ Less) → thenBy (compareNumbers x z) (compareParts a c) ≡ Less
+    go : (o p : Ordering) → Says o x y → Says p y z → thenBy o (compareParts a b) ≡ Less
+        → thenBy p (compareParts b c) ≡ Less
+        → (compareParts a b ≡ Less → compareParts b c ≡ Less → compareParts a c ≡ Less)
+        → thenBy (compareNumbers x z) (compareParts a c) ≡ Less
     go Less Less h k e f r = rw (compare-less x z (omega arith))
     go Less Equal h k e f r = rw (compare-less x z (omega arith))
     go Less Greater h k e f r = never cc

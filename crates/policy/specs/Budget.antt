@@ -1,7 +1,7 @@
 -- Budget parameters: which `BudgetParameters::new` takes. After task/policy.rs.
 use Prim.Native.Nat.{ℕ}
 use mathlib.Core.Bool.{Bool, true, false}
-use Rattle.refusal.specs.Answer.{Answer, value, refused, numberOf}
+use Rattle.refusal.specs.Answer.{Answer, value, refused, numberOf, badBudget}
 use Rattle.refusal.specs.Cases.{choose, ifLess, ifEqual}
 use Rattle.policy.specs.declared.BudgetParameters.{BudgetParameters}
 use Rattle.policy.specs.declared.BudgetMade.{BudgetMade}
@@ -26,7 +26,7 @@ soundBudget p =
 unfoldable pub newBudget : ℕ → ℕ → ℕ → Answer BudgetParameters
 newBudget budget period burst =
     let p : BudgetParameters = record { «budget_ns» = budget; «period_ns» = period; «burst_ns» = burst } in
-    choose (soundBudget p) (value p) (refused 6)
+    choose (soundBudget p) (value p) (refused badBudget)
 
 abbrev pub budgetMade : BudgetMade → Answer BudgetParameters
 budgetMade (Made p) = value p

@@ -48,17 +48,49 @@ unfoldable pub newFair : ThreadWeight → ℕ → ThreadPriority → SchedulingR
 newFair w quantum b r f =
     ifEqual quantum 0 parameters.None
     (ifLess maxPeriod quantum parameters.None
-    (parameters.Some (record { policy = policy.Fair; band = b; role = r; weight = w; «quantum_ns» = quantum; «fair_backend» = f; budget = budget.None })))
+    (parameters.Some (record {
+      policy = policy.Fair;
+      band = b;
+      role = r;
+      weight = w;
+      «quantum_ns» = quantum;
+      «fair_backend» = f;
+      budget = budget.None;
+    })))
 
 abbrev pub ofBudget : BudgetParameters → ThreadPriority → SchedulingRole → SchedulingParameters
 ofBudget p b r =
-    record { policy = policy.Budget; band = b; role = r; weight = defaultWeight; «quantum_ns» = 0; «fair_backend» = backend.Stride; budget = budget.Some p }
+    record {
+      policy = policy.Budget;
+      band = b;
+      role = r;
+      weight = defaultWeight;
+      «quantum_ns» = 0;
+      «fair_backend» = backend.Stride;
+      budget = budget.Some p;
+    }
 
 abbrev pub ofFifo : ThreadPriority → ThreadPriority → SchedulingRole → SchedulingParameters
 ofFifo p b r =
-    record { policy = policy.Fifo p; band = b; role = r; weight = defaultWeight; «quantum_ns» = 0; «fair_backend» = backend.Stride; budget = budget.None }
+    record {
+      policy = policy.Fifo p;
+      band = b;
+      role = r;
+      weight = defaultWeight;
+      «quantum_ns» = 0;
+      «fair_backend» = backend.Stride;
+      budget = budget.None;
+    }
 
 -- The lowest priority, 255, as its band.
 abbrev pub ofIdle : SchedulingParameters
 ofIdle =
-    record { policy = policy.Idle; band = record { 0 = 255 }; role = role.Ordinary; weight = defaultWeight; «quantum_ns» = 0; «fair_backend» = backend.Stride; budget = budget.None }
+    record {
+      policy = policy.Idle;
+      band = record { 0 = 255 };
+      role = role.Ordinary;
+      weight = defaultWeight;
+      «quantum_ns» = 0;
+      «fair_backend» = backend.Stride;
+      budget = budget.None;
+    }

@@ -82,4 +82,16 @@ module _ {A : Type 0} {y : A} {x : BudgetOption} (a : A) (f : BudgetParameters â
   unfolding onBudget
   some-budget e h = rw e h
 
-pub ruleset policies = (is-fifo, is-fair, is-budget, is-idle, is-ordinary, is-priority, is-protected, is-stride, is-round-robin, no-budget, some-budget)
+pub ruleset policies = (
+  is-fifo,
+  is-fair,
+  is-budget,
+  is-idle,
+  is-ordinary,
+  is-priority,
+  is-protected,
+  is-stride,
+  is-round-robin,
+  no-budget,
+  some-budget,
+)

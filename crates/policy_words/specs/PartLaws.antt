@@ -1,4 +1,5 @@
--- Laws of the words: those that are stored for each variant stand for it, and the parts that they stand for make the whole.
+-- Laws of the words: those that are stored for each variant stand for it, and the parts that they stand for make the
+-- whole.
 use Prim.Native.Nat.{ℕ, _%_}
 use mathlib.Core.Path.{_≡_, refl, sym}
 use mathlib.Core.List.{List, [], _∷_}
@@ -22,7 +23,11 @@ use Rattle.algorithms.specs.declared.FairRuntime.{FairRuntime}
 use Rattle.algorithms.specs.declared.PolicyRuntime.{PolicyRuntime}
 use Rattle.algorithms.specs.declared.PolicyRuntime.the-variants as runtime
 use Rattle.policy.specs.declared.SchedulingParameters.{SchedulingParameters}
-use Rattle.policy_words.specs.PolicyWords.{word, policyFrom, roleFrom, backendFrom, budgetFrom, epochFrom, runtimeFrom, deadlineOf, parametersOf}
+use Rattle.policy_words.specs.PolicyWords.{word, policyTag, fifoPriority, bandWord, roleTag, weightWord}
+use Rattle.policy_words.specs.PolicyWords.{quantumWord, backendTag}
+use Rattle.policy_words.specs.PolicyWords.{budgetTag, budgetWord, budgetPeriod, budgetBurst}
+use Rattle.policy_words.specs.PolicyWords.{policyFrom, roleFrom, backendFrom, budgetFrom, epochFrom, runtimeFrom}
+use Rattle.policy_words.specs.PolicyWords.{deadlineOf, parametersOf}
 
 module _ {p : SchedulingPolicy} where
   pub fifo-words : {x : ThreadPriority} (n : ℕ) → n % 256 ≡ x .0 → p ≡ policy.Fifo x → policyFrom 0 n ≡ p
@@ -68,7 +73,8 @@ module _ {x : BudgetOption} where
   unfolding budgetFrom ifEqual choose
   no-budget-words h = sym h
 
-  pub some-budget-words : {b : BudgetParameters} → x ≡ budget.Some b → budgetFrom 1 (b .«budget_ns») (b .«period_ns») (b .«burst_ns») ≡ x
+  pub some-budget-words : {b : BudgetParameters} → x ≡ budget.Some b
+      → budgetFrom 1 (b .«budget_ns») (b .«period_ns») (b .«burst_ns») ≡ x
   unfolding budgetFrom ifEqual choose
   some-budget-words h = sym h
 
@@ -86,7 +92,8 @@ module _ {x : PolicyRuntime} where
   unfolding runtimeFrom ifEqual choose
   runs-fifo-words h = sym h
 
-  pub runs-fair-words : {f : FairRuntime} → x ≡ runtime.Fair f → runtimeFrom 1 (f .pass .high) (f .pass .low) (f .«remaining_ns») 0 ≡ x
+  pub runs-fair-words : {f : FairRuntime} → x ≡ runtime.Fair f
+      → runtimeFrom 1 (f .pass .high) (f .pass .low) (f .«remaining_ns») 0 ≡ x
   unfolding runtimeFrom ifEqual choose
   runs-fair-words h = sym h
 
@@ -115,20 +122,24 @@ pub parameters-words : (p : SchedulingParameters) (a b : List ℕ) (band role we
     → weight % 65536 ≡ p .weight .0
     → backendFrom backend ≡ p .«fair_backend»
     → budgetFrom (word b 0) (word b 1) (word b 2) (word b 3) ≡ p .budget
-    → parametersOf (word a 0 ∷ word a 1 ∷ band ∷ role ∷ weight ∷ p .«quantum_ns» ∷ backend ∷ word b 0 ∷ word b 1 ∷ word b 2 ∷ word b 3 ∷ []) ≡ p
+    → parametersOf (word a 0 ∷ word a 1 ∷ band ∷ role ∷ weight ∷ p .«quantum_ns» ∷ backend ∷ word b 0 ∷ word b 1
+    ∷ word b 2 ∷ word b 3 ∷ []) ≡ p
 unfolding parametersOf
 parameters-words p a b band role weight backend e₁ e₂ e₃ e₄ e₅ e₆ = rw (e₁, e₂, e₃, e₄, e₅, e₆)
 
 -- The parts that the words stand for make the whole.
-pub parameters-read : (w : List ℕ) {policy : SchedulingPolicy} {band weight : ℕ} {role : SchedulingRole} {backend : FairBackend} {budget : BudgetOption}
-    → policy ≡ policyFrom (word w 0) (word w 1) → band ≡ word w 2 % 256 → role ≡ roleFrom (word w 3) → weight ≡ word w 4 % 65536
-    → backend ≡ backendFrom (word w 6) → budget ≡ budgetFrom (word w 7) (word w 8) (word w 9) (word w 10)
+pub parameters-read : (w : List ℕ) {policy : SchedulingPolicy} {band weight : ℕ} {role : SchedulingRole}
+    {backend : FairBackend} {budget : BudgetOption}
+    → policy ≡ policyFrom (word w policyTag) (word w fifoPriority) → band ≡ word w bandWord % 256
+    → role ≡ roleFrom (word w roleTag) → weight ≡ word w weightWord % 65536
+    → backend ≡ backendFrom (word w backendTag)
+    → budget ≡ budgetFrom (word w budgetTag) (word w budgetWord) (word w budgetPeriod) (word w budgetBurst)
     → record {
       policy = policy;
       band = record { 0 = band };
       role = role;
       weight = record { 0 = weight };
-      «quantum_ns» = word w 5;
+      «quantum_ns» = word w quantumWord;
       «fair_backend» = backend;
       budget = budget;
     }

@@ -1,7 +1,9 @@
-// Scheduling parameters, a policy's runtime and times as words. Nothing here is partial: all words stand for some value.
+// Scheduling parameters, a policy's runtime and times as words. Nothing here is partial: all words stand for some
+// value.
 ghost use mathlib.Core.Path.{_≡_};
 ghost use Prim.Native.Nat.{_%_};
-ghost use Rattle.policy_words.specs.PolicyWords.{word, policyFrom, roleFrom, backendFrom, budgetFrom, epochFrom, runtimeFrom, deadlineOf, parametersOf, runtimeOf};
+ghost use Rattle.policy_words.specs.PolicyWords.{word, policyFrom, roleFrom, backendFrom, budgetFrom, epochFrom};
+ghost use Rattle.policy_words.specs.PolicyWords.{runtimeFrom, deadlineOf, parametersOf, runtimeOf};
 use algorithms::FairRuntime;
 use algorithms::PolicyRuntime;
 use algorithms::Wide;
@@ -16,6 +18,60 @@ use policy::ThreadPriority;
 use policy::ThreadWeight;
 use time::Deadline;
 use time::Epoch;
+
+// A thread's row.
+pub const ROW_WORDS: usize = 32;
+
+pub type Row = [u64; ROW_WORDS];
+
+// Where the words of parameters and of a policy's runtime stand in a thread's row.
+pub const POLICY_TAG: usize = 0;
+
+pub const FIFO_PRIORITY: usize = 1;
+
+pub const BAND: usize = 2;
+
+pub const ROLE_TAG: usize = 3;
+
+pub const WEIGHT: usize = 4;
+
+pub const QUANTUM: usize = 5;
+
+pub const BACKEND_TAG: usize = 6;
+
+pub const BUDGET_TAG: usize = 7;
+
+pub const BUDGET_NS: usize = 8;
+
+pub const BUDGET_PERIOD: usize = 9;
+
+pub const BUDGET_BURST: usize = 10;
+
+pub const RUNTIME_TAG: usize = 11;
+// The runtime's own words: of a fair thread its pass by halves and its slice; of a budget its epoch's two words,
+// its time and its burst.
+pub const RUNTIME_FIRST: usize = 12;
+
+pub const RUNTIME_SECOND: usize = 13;
+
+pub const RUNTIME_THIRD: usize = 14;
+
+pub const RUNTIME_FOURTH: usize = 15;
+
+// Parameters alone: the words before a runtime's.
+pub const PARAMETER_WORDS: usize = 11;
+
+pub type ParameterWords = [u64; PARAMETER_WORDS];
+
+// A policy's runtime alone.
+pub const POLICY_RUNTIME_WORDS: usize = 5;
+
+pub type PolicyRuntimeWords = [u64; POLICY_RUNTIME_WORDS];
+
+// A deadline: 0 and none, or the time.
+pub const DEADLINE_WORDS: usize = 2;
+
+pub type DeadlineWords = [u64; DEADLINE_WORDS];
 
 pub fn byte_from(w: u64) -> u8
     ensures { λ x. ⌜ x ≡ w % 256 ⌝ }
@@ -115,30 +171,41 @@ fn runtime_from(tag: u64, first: u64, second: u64, third: u64, fourth: u64) -> P
     PolicyRuntime::Idle
 }
 
-pub fn parameters_of(w: [u64; 32]) -> SchedulingParameters
+pub fn parameters_of(w: Row) -> SchedulingParameters
     ensures { λ p. ⌜ p ≡ parametersOf w ⌝ }
 {
-    let policy = policy_from(w[0], w[1]);
-    let band = ThreadPriority(byte_from(w[2]));
-    let role = role_from(w[3]);
-    let weight = ThreadWeight(half_from(w[4]));
-    let fair_backend = backend_from(w[6]);
-    let budget = budget_from(w[7], w[8], w[9], w[10]);
+    let policy = policy_from(w[POLICY_TAG], w[FIFO_PRIORITY]);
+    let band = ThreadPriority(byte_from(w[BAND]));
+    let role = role_from(w[ROLE_TAG]);
+    let weight = ThreadWeight(half_from(w[WEIGHT]));
+    let fair_backend = backend_from(w[BACKEND_TAG]);
+    let budget = budget_from(
+        w[BUDGET_TAG],
+        w[BUDGET_NS],
+        w[BUDGET_PERIOD],
+        w[BUDGET_BURST],
+    );
     SchedulingParameters {
         policy,
         band,
         role,
         weight,
-        quantum_ns: w[5],
+        quantum_ns: w[QUANTUM],
         fair_backend,
         budget,
     }
 }
 
-pub fn runtime_of(w: [u64; 32]) -> PolicyRuntime
+pub fn runtime_of(w: Row) -> PolicyRuntime
     ensures { λ r. ⌜ r ≡ runtimeOf w ⌝ }
 {
-    runtime_from(w[11], w[12], w[13], w[14], w[15])
+    runtime_from(
+        w[RUNTIME_TAG],
+        w[RUNTIME_FIRST],
+        w[RUNTIME_SECOND],
+        w[RUNTIME_THIRD],
+        w[RUNTIME_FOURTH],
+    )
 }
 
 pub fn word_of_byte(x: u8) -> u64
@@ -201,7 +268,7 @@ pub fn words_of_epoch(epoch: Epoch) -> [u64; 2]
     }
 }
 
-pub fn words_of_runtime(runtime: PolicyRuntime) -> [u64; 5]
+pub fn words_of_runtime(runtime: PolicyRuntime) -> PolicyRuntimeWords
     ensures { λ w. ⌜ runtimeFrom (word w 0) (word w 1) (word w 2) (word w 3) (word w 4) ≡ runtime ⌝ }
 {
     match runtime {
@@ -220,7 +287,7 @@ pub fn words_of_runtime(runtime: PolicyRuntime) -> [u64; 5]
 }
 
 // Words 0 to 10 of these parameters' row.
-pub fn words_of_parameters(parameters: SchedulingParameters) -> [u64; 11]
+pub fn words_of_parameters(parameters: SchedulingParameters) -> ParameterWords
     ensures { λ w. ⌜ parametersOf w ≡ parameters ⌝ }
 {
     let its_policy = parameters.policy;
@@ -250,7 +317,7 @@ pub fn words_of_parameters(parameters: SchedulingParameters) -> [u64; 11]
     ]
 }
 
-pub fn words_of_deadline(deadline: Deadline) -> [u64; 2]
+pub fn words_of_deadline(deadline: Deadline) -> DeadlineWords
     ensures { λ w. ⌜ deadlineOf w ≡ deadline ⌝ }
 {
     match deadline {

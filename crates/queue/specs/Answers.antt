@@ -11,8 +11,6 @@ use Rattle.queue.specs.declared.Planned.{Planned}
 use Rattle.queue.specs.declared.Planned.the-variants as planned
 use Rattle.queue.specs.declared.Verdict.{Verdict}
 use Rattle.queue.specs.declared.Verdict.the-variants as verdict
-use Rattle.queue.specs.declared.QueueStep.{QueueStep}
-use Rattle.queue.specs.Queue.{Step, step}
 
 abbrev pub judgementAnswer : Judgement → Answer Filed
 judgementAnswer (judgement.Filed f) = value f
@@ -29,7 +27,3 @@ plannedAnswer (planned.Refused n) = refused (numberOf n)
 abbrev pub verdictAnswer : Verdict → Answer (Unit {0})
 verdictAnswer verdict.Accepted = value tt
 verdictAnswer (verdict.Refused n) = refused (numberOf n)
-
--- The verdict and the queue of a step.
-abbrev pub stepOf : QueueStep → Step (Unit {0})
-stepOf s = step (verdictAnswer (s .answer)) (s .queue)

@@ -1,3 +1,5 @@
+-- The queue that the definitions speak of.
+pub mod RunQueue
 -- The queue's calls, with every refusal and what each leaves behind.
 pub mod Queue
 -- A call in two halves: its plan and its work.

@@ -7,7 +7,6 @@ use mathlib.Core.List.{List}
 use lib.Dec.{eqb}
 use borrow.Author.Tests.{eq-eqb, ne-eqb, eqb-true}
 use Rattle.refusal.specs.Cases.{choose, given, ifEqual}
-use Rattle.policy.specs.declared.BudgetOption.{BudgetOption}
 use Rattle.policy.specs.declared.BudgetOption.the-variants as budget
 use Rattle.policy.specs.declared.BudgetParameters.{BudgetParameters}
 use Rattle.policy.specs.declared.SchedulingParameters.{SchedulingParameters}
@@ -18,7 +17,6 @@ use Rattle.policy.specs.PolicyCases.{onPolicy, onRole, onBudget}
 use Rattle.policy.specs.Budget.{soundBudget}
 use Rattle.budget.specs.declared.BudgetRuntime.{BudgetRuntime}
 use Rattle.algorithms.specs.declared.FairRuntime.{FairRuntime}
-use Rattle.algorithms.specs.declared.PolicyRuntime.{PolicyRuntime}
 use Rattle.algorithms.specs.declared.PolicyRuntime.the-variants as runtime
 use Rattle.algorithms.specs.Runtime.{runtimeKind, policyKind, sameKind, onRuntime}
 use Rattle.thread.specs.declared.IndexFor.{IndexFor}
@@ -26,8 +24,13 @@ use Rattle.thread.specs.declared.IndexFor.the-variants as index
 use Rattle.thread.specs.declared.QueueMembership.{QueueMembership}
 use Rattle.thread.specs.Judgement.{hasBudget, isBadBudget, isBadRecord}
 use Rattle.thread.specs.Filing.{budgetAvailable, roleIndex, indexFor}
-use Rattle.codec.specs.Codec.{word, policyFrom, roleFrom, budgetFrom, epochFrom, runtimeFrom, membershipFrom, parametersOf, runtimeOf, queueLinksOf, decoded}
+use Rattle.codec.specs.Codec.{word, policyFrom, roleFrom, budgetFrom, epochFrom, runtimeFrom, membershipFrom}
+use Rattle.codec.specs.Codec.{parametersOf, runtimeOf, queueLinksOf, decoded, membershipTag, membershipFirst}
+use Rattle.codec.specs.Codec.{membershipSecond, cpuWord}
 use Rattle.queue.specs.Plan.{filedOf}
+use Rattle.policy_words.specs.PolicyWords.{policyTag, fifoPriority, roleTag, budgetTag, budgetWord, budgetPeriod}
+use Rattle.policy_words.specs.PolicyWords.{budgetBurst, runtimeTag, runtimeFirst, runtimeSecond, runtimeThird}
+use Rattle.policy_words.specs.PolicyWords.{runtimeFourth}
 
 -- FIFO, Fair, Budget and Idle as 0 to 3: `policyKind` and `runtimeKind` by the tag.
 unfoldable pub kindFrom : ℕ → ℕ
@@ -39,31 +42,36 @@ roleNumber tag = ifEqual tag 0 0 (ifEqual tag 1 1 2)
 
 -- A budget's parameters and its runtime, by their words.
 abbrev pub budgetParameters : List ℕ → BudgetParameters
-budgetParameters w = record { «budget_ns» = word w 8; «period_ns» = word w 9; «burst_ns» = word w 10 }
+budgetParameters w =
+    record { «budget_ns» = word w budgetWord; «period_ns» = word w budgetPeriod; «burst_ns» = word w budgetBurst }
 
 abbrev pub budgetRuntime : List ℕ → BudgetRuntime
-budgetRuntime w = record { epoch = epochFrom (word w 12) (word w 13); «remaining_ns» = word w 14; «burst_remaining_ns» = word w 15 }
+budgetRuntime w = record {
+  epoch = epochFrom (word w runtimeFirst) (word w runtimeSecond);
+  «remaining_ns» = word w runtimeThird;
+  «burst_remaining_ns» = word w runtimeFourth;
+}
 
 -- `isBadRecord` by the tags.
 unfoldable pub badRow : List ℕ → Bool
 badRow w =
-    given (kindFrom (word w 0))
-    (λ p. given (kindFrom (word w 11))
+    given (kindFrom (word w policyTag))
+    (λ p. given (kindFrom (word w runtimeTag))
     (λ r. ifEqual r p
     (ifEqual p 2
-    (ifEqual (word w 7) 0 true (choose (soundBudget (budgetParameters w)) false true))
-    (ifEqual (word w 7) 0 false true))
+    (ifEqual (word w budgetTag) 0 true (choose (soundBudget (budgetParameters w)) false true))
+    (ifEqual (word w budgetTag) 0 false true))
     true))
 
 -- `budgetAvailable` by the tag.
 unfoldable pub timeLeft : List ℕ → Bool
-timeLeft w = given (kindFrom (word w 11)) (λ r. ifEqual r 2 (ifEqual (word w 14) 0 false true) false)
+timeLeft w = given (kindFrom (word w runtimeTag)) (λ r. ifEqual r 2 (ifEqual (word w runtimeThird) 0 false true) false)
 
 -- `indexFor` by the tags.
 unfoldable pub indexRow : List ℕ → IndexFor
 indexRow w =
-    given (roleNumber (word w 3))
-    (λ role. given (kindFrom (word w 0))
+    given (roleNumber (word w roleTag))
+    (λ role. given (kindFrom (word w policyTag))
     (λ p. ifEqual p 0 (index.Index role)
     (ifEqual p 1 (index.Index (3 + role))
     (ifEqual p 2 (choose (budgetAvailable (decoded w .runtime)) (index.Index (6 + role)) (index.Index (9 + role)))
@@ -73,7 +81,9 @@ policy-kind : (tag priority : ℕ) → policyKind (policyFrom tag priority) ≡ 
 unfolding policyFrom kindFrom ifEqual choose
 policy-kind tag priority = go (eqb tag 0) (eqb tag 1) (eqb tag 2)
   where
-    go : (a b c : Bool) → policyKind (choose a (policy.Fifo (record { 0 = priority % 256 })) (choose b policy.Fair (choose c policy.Budget policy.Idle))) ≡ choose a 0 (choose b 1 (choose c 2 3))
+    go : (a b c : Bool) → policyKind
+        (choose a (policy.Fifo (record { 0 = priority % 256 }))
+        (choose b policy.Fair (choose c policy.Budget policy.Idle))) ≡ choose a 0 (choose b 1 (choose c 2 3))
     go true b c = refl
     go false true c = refl
     go false false true = refl
@@ -90,18 +100,23 @@ module _ (tag first second third fourth : ℕ) where
   unfolding runtimeFrom kindFrom ifEqual choose given
   runtime-kind = go (eqb tag 0) (eqb tag 1) (eqb tag 2)
     where
-      go : (a b c : Bool) → runtimeKind (choose a runtime.Fifo (choose b (runtime.Fair fair) (choose c (runtime.Budget budgeted) runtime.Idle))) ≡ choose a 0 (choose b 1 (choose c 2 3))
+      go : (a b c : Bool) → runtimeKind
+          (choose a runtime.Fifo (choose b (runtime.Fair fair) (choose c (runtime.Budget budgeted) runtime.Idle)))
+          ≡ choose a 0 (choose b 1 (choose c 2 3))
       go true b c = refl
       go false true c = refl
       go false false true = refl
       go false false false = refl
 
-  available : budgetAvailable (runtimeFrom tag first second third fourth) ≡ ifEqual (kindFrom tag) 2 (ifEqual third 0 false true) false
+  available : budgetAvailable (runtimeFrom tag first second third fourth)
+      ≡ ifEqual (kindFrom tag) 2 (ifEqual third 0 false true) false
   unfolding budgetAvailable onRuntime runtimeFrom kindFrom ifEqual choose given
   available = go (eqb tag 0) (eqb tag 1) (eqb tag 2)
     where
       go : (a b c : Bool)
-          → onRuntime (choose a runtime.Fifo (choose b (runtime.Fair fair) (choose c (runtime.Budget budgeted) runtime.Idle))) false (λ f. false) (λ b. choose (eqb (b .«remaining_ns») 0) false true) false
+          → onRuntime (choose a runtime.Fifo
+          (choose b (runtime.Fair fair) (choose c (runtime.Budget budgeted) runtime.Idle))) false (λ f. false)
+          (λ b. choose (eqb (b .«remaining_ns») 0) false true) false
           ≡ choose (eqb (choose a 0 (choose b 1 (choose c 2 3))) 2) (choose (eqb third 0) false true) false
       go true b c = refl
       go false true c = refl
@@ -112,7 +127,8 @@ role-number : (tag : ℕ) → roleIndex (roleFrom tag) ≡ roleNumber tag
 unfolding roleIndex onRole roleFrom roleNumber ifEqual choose
 role-number tag = go (eqb tag 0) (eqb tag 1)
   where
-    go : (a b : Bool) → _≡_ {A = ℕ} (onRole (choose a role.Ordinary (choose b role.Priority role.Protected)) 0 1 2) (choose a 0 (choose b 1 2))
+    go : (a b : Bool) → _≡_ {A = ℕ} (onRole (choose a role.Ordinary (choose b role.Priority role.Protected)) 0 1 2)
+        (choose a 0 (choose b 1 2))
     go true b = refl
     go false true = refl
     go false false = refl
@@ -122,22 +138,30 @@ module _ (tag ns period burst : ℕ) where
   unfolding hasBudget onBudget budgetFrom ifEqual choose
   budget-there = go (eqb tag 0)
     where
-      go : (a : Bool) → onBudget (choose a budget.None (budget.Some (record { «budget_ns» = ns; «period_ns» = period; «burst_ns» = burst }))) false (λ q. true) ≡ choose a false true
+      go : (a : Bool) → onBudget (choose a budget.None
+          (budget.Some (record { «budget_ns» = ns; «period_ns» = period; «burst_ns» = burst }))) false (λ q. true)
+          ≡ choose a false true
       go true = refl
       go false = refl
 
   budget-bad : isBadBudget (budgetFrom tag ns period burst)
-      ≡ ifEqual tag 0 true (choose (soundBudget (record { «budget_ns» = ns; «period_ns» = period; «burst_ns» = burst })) false true)
+      ≡ ifEqual tag 0 true (choose (soundBudget (record { «budget_ns» = ns; «period_ns» = period; «burst_ns» = burst }))
+      false true)
   unfolding isBadBudget onBudget budgetFrom ifEqual choose
   budget-bad = go (eqb tag 0)
     where
       go : (a : Bool)
-          → onBudget (choose a budget.None (budget.Some (record { «budget_ns» = ns; «period_ns» = period; «burst_ns» = burst }))) true (λ q. choose (soundBudget q) false true)
-          ≡ choose a true (choose (soundBudget (record { «budget_ns» = ns; «period_ns» = period; «burst_ns» = burst })) false true)
+          → onBudget (choose a budget.None
+          (budget.Some (record { «budget_ns» = ns; «period_ns» = period; «burst_ns» = burst }))) true
+          (λ q. choose (soundBudget q) false true)
+          ≡ choose a true (choose (soundBudget (record { «budget_ns» = ns; «period_ns» = period; «burst_ns» = burst }))
+          false true)
       go true = refl
       go false = refl
 
-by-kind : (p : SchedulingPolicy) (same here bad : Bool) → choose same (onPolicy p (λ priority. here) here bad here) true ≡ choose same (choose (eqb (policyKind p) 2) bad here) true
+by-kind : (p : SchedulingPolicy) (same here bad : Bool)
+    → choose same (onPolicy p (λ priority. here) here bad here) true
+    ≡ choose same (choose (eqb (policyKind p) 2) bad here) true
 unfolding onPolicy choose
 by-kind (policy.Fifo x) same here bad = refl
 by-kind policy.Fair same here bad = refl
@@ -145,7 +169,8 @@ by-kind policy.Budget same here bad = refl
 by-kind policy.Idle same here bad = refl
 
 index-by-kind : (p : SchedulingPolicy) (a b c d : IndexFor)
-    → onPolicy p (λ priority. a) b c d ≡ choose (eqb (policyKind p) 0) a (choose (eqb (policyKind p) 1) b (choose (eqb (policyKind p) 2) c d))
+    → onPolicy p (λ priority. a) b c d
+    ≡ choose (eqb (policyKind p) 0) a (choose (eqb (policyKind p) 1) b (choose (eqb (policyKind p) 2) c d))
 unfolding onPolicy choose
 index-by-kind (policy.Fifo x) a b c d = refl
 index-by-kind policy.Fair a b c d = refl
@@ -156,22 +181,33 @@ module _ (w : List ℕ) where
   bad-row : isBadRecord (decoded w) ≡ badRow w
   unfolding isBadRecord sameKind decoded parametersOf runtimeOf badRow given ifEqual
   bad-row =
-      by-kind (policyFrom (word w 0) (word w 1))
-      (eqb (runtimeKind (runtimeFrom (word w 11) (word w 12) (word w 13) (word w 14) (word w 15))) (policyKind (policyFrom (word w 0) (word w 1))))
-      (hasBudget (budgetFrom (word w 7) (word w 8) (word w 9) (word w 10)))
-      (isBadBudget (budgetFrom (word w 7) (word w 8) (word w 9) (word w 10)))
-      ∙ rw (policy-kind (word w 0) (word w 1), runtime-kind (word w 11) (word w 12) (word w 13) (word w 14) (word w 15), budget-there (word w 7) (word w 8) (word w 9) (word w 10), budget-bad (word w 7) (word w 8) (word w 9) (word w 10))
+      by-kind (policyFrom (word w policyTag) (word w fifoPriority))
+      (eqb (runtimeKind (runtimeFrom (word w runtimeTag) (word w runtimeFirst) (word w runtimeSecond)
+      (word w runtimeThird) (word w runtimeFourth))) (policyKind (policyFrom (word w policyTag) (word w fifoPriority))))
+      (hasBudget (budgetFrom (word w budgetTag) (word w budgetWord) (word w budgetPeriod) (word w budgetBurst)))
+      (isBadBudget (budgetFrom (word w budgetTag) (word w budgetWord) (word w budgetPeriod) (word w budgetBurst)))
+      ∙ rw (
+        policy-kind (word w policyTag) (word w fifoPriority),
+        runtime-kind (word w runtimeTag) (word w runtimeFirst) (word w runtimeSecond) (word w runtimeThird)
+            (word w runtimeFourth),
+        budget-there (word w budgetTag) (word w budgetWord) (word w budgetPeriod) (word w budgetBurst),
+        budget-bad (word w budgetTag) (word w budgetWord) (word w budgetPeriod) (word w budgetBurst),
+      )
 
   time-left : budgetAvailable (decoded w .runtime) ≡ timeLeft w
   unfolding decoded runtimeOf timeLeft given
-  time-left = available (word w 11) (word w 12) (word w 13) (word w 14) (word w 15)
+  time-left =
+      available (word w runtimeTag) (word w runtimeFirst) (word w runtimeSecond) (word w runtimeThird)
+      (word w runtimeFourth)
 
   index-row : indexFor (decoded w .parameters) (decoded w .runtime) ≡ indexRow w
   unfolding indexFor decoded parametersOf indexRow given ifEqual
   index-row =
-      index-by-kind (policyFrom (word w 0) (word w 1)) (index.Index (roleIndex (roleFrom (word w 3)))) (index.Index (3 + roleIndex (roleFrom (word w 3))))
-      (choose (budgetAvailable (runtimeOf w)) (index.Index (6 + roleIndex (roleFrom (word w 3)))) (index.Index (9 + roleIndex (roleFrom (word w 3))))) index.None
-      ∙ rw (policy-kind (word w 0) (word w 1), role-number (word w 3))
+      index-by-kind (policyFrom (word w policyTag) (word w fifoPriority))
+      (index.Index (roleIndex (roleFrom (word w roleTag)))) (index.Index (3 + roleIndex (roleFrom (word w roleTag))))
+      (choose (budgetAvailable (runtimeOf w)) (index.Index (6 + roleIndex (roleFrom (word w roleTag))))
+      (index.Index (9 + roleIndex (roleFrom (word w roleTag))))) index.None
+      ∙ rw (policy-kind (word w policyTag) (word w fifoPriority), role-number (word w roleTag))
 
   pub judged-by-tags : {r : Bool} → r ≡ badRow w → r ≡ isBadRecord (decoded w)
   judged-by-tags e = e ∙ sym bad-row
@@ -183,7 +219,8 @@ module _ (w : List ℕ) where
   filed-by-tags e = e ∙ sym index-row
 
   pub filed-read : (k : ℕ) {p : SchedulingParameters} {m : QueueMembership} {n : ℕ}
-      → p ≡ parametersOf w → m ≡ membershipFrom (word w 26) (word w 27) (word w 28) → n ≡ word w 29 % 256
+      → p ≡ parametersOf w → m ≡ membershipFrom (word w membershipTag) (word w membershipFirst)
+      (word w membershipSecond) → n ≡ word w cpuWord % 256
       → record { policy = p .policy; membership = m; cpu = record { 0 = n }; index = k } ≡ filedOf (decoded w) k
   unfolding decoded queueLinksOf
   filed-read k e₁ e₂ e₃ = rw (e₁, e₂, e₃)
@@ -201,17 +238,17 @@ kind-of-two tag = go (eqb tag 0) (eqb tag 1) (eqb tag 2) refl
 
 -- What stands in a row whose tags say so.
 module _ (w : List ℕ) where
-  pub budget-runs : word w 11 ≡ 2 → decoded w .runtime ≡ runtime.Budget (budgetRuntime w)
+  pub budget-runs : word w runtimeTag ≡ 2 → decoded w .runtime ≡ runtime.Budget (budgetRuntime w)
   unfolding decoded runtimeOf runtimeFrom ifEqual choose given
   budget-runs m = rw m
 
-  pub without-budget : word w 7 ≡ 0 → decoded w .parameters .budget ≡ budget.None
+  pub without-budget : word w budgetTag ≡ 0 → decoded w .parameters .budget ≡ budget.None
   unfolding decoded parametersOf budgetFrom ifEqual choose
-  without-budget n = rw (eq-eqb (word w 7) 0 n)
+  without-budget n = rw (eq-eqb (word w budgetTag) 0 n)
 
-  pub with-budget : (word w 7 ≡ 0 → ⊥) → decoded w .parameters .budget ≡ budget.Some (budgetParameters w)
+  pub with-budget : (word w budgetTag ≡ 0 → ⊥) → decoded w .parameters .budget ≡ budget.Some (budgetParameters w)
   unfolding decoded parametersOf budgetFrom ifEqual choose
-  with-budget n = rw (ne-eqb (word w 7) 0 n)
+  with-budget n = rw (ne-eqb (word w budgetTag) 0 n)
 
 -- The numbers of the twelve trees are words.
 pub role-fits : (base : ℕ) {n : ℕ} (tag : ℕ) → n ≡ roleNumber tag → base ≤ 9 → base + n < 18446744073709551616

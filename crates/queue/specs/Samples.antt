@@ -18,7 +18,7 @@ use Rattle.thread.specs.declared.QueueMembership.the-variants as membership
 use Rattle.thread.specs.declared.ThreadRecord.{ThreadRecord}
 use Rattle.thread.specs.Membership.{emptyLinks, emptyQueueLinks}
 use Rattle.rows.specs.Table.{Out, out}
-use Rattle.queue.specs.declared.CpuRunQueue.{CpuRunQueue}
+use Rattle.queue.specs.RunQueue.{CpuRunQueue}
 use Rattle.queue.specs.Queue.{Step, step, enqueueCall, removeCall}
 
 abbrev pub cpu : ℕ → CpuIndex
@@ -26,14 +26,30 @@ cpu n = record { 0 = n }
 
 -- A record in no list, on processor c.
 abbrev pub thread : SchedulingParameters → PolicyRuntime → ℕ → ThreadRecord
-thread p r c = record { parameters = p; runtime = r; «ready_turn» = 7; «ready_tree» = emptyLinks; «queue_links» = emptyQueueLinks; cpu = cpu c }
+thread p r c =
+    record {
+      parameters = p;
+      runtime = r;
+      «ready_turn» = 7;
+      «ready_tree» = emptyLinks;
+      «queue_links» = emptyQueueLinks;
+      cpu = cpu c;
+    }
 
 abbrev pub fifo : ℕ → ℕ → ThreadRecord
 fifo priority c = thread (ofFifo (record { 0 = priority }) (record { 0 = 1 }) role.Ordinary) runtime.Fifo c
 
 abbrev pub fairParameters : SchedulingParameters
 fairParameters =
-    record { policy = policy.Fair; band = record { 0 = 1 }; role = role.Priority; weight = defaultWeight; «quantum_ns» = 1; «fair_backend» = backend.Stride; budget = budget.None }
+    record {
+      policy = policy.Fair;
+      band = record { 0 = 1 };
+      role = role.Priority;
+      weight = defaultWeight;
+      «quantum_ns» = 1;
+      «fair_backend» = backend.Stride;
+      budget = budget.None;
+    }
 
 -- A budget of 2 in 10 with this much left.
 abbrev pub budgetThread : ℕ → ThreadRecord
@@ -43,12 +59,21 @@ budgetThread left =
 
 abbrev pub terminated : ThreadRecord
 terminated =
-    record { parameters = ofFifo (record { 0 = 5 }) (record { 0 = 1 }) role.Ordinary; runtime = runtime.Fifo; «ready_turn» = 7; «ready_tree» = emptyLinks; «queue_links» = record { previous = link.Some 70; next = link.Some 71; membership = membership.Terminated }; cpu = cpu 0 }
+    record {
+      parameters = ofFifo (record { 0 = 5 }) (record { 0 = 1 }) role.Ordinary;
+      runtime = runtime.Fifo;
+      «ready_turn» = 7;
+      «ready_tree» = emptyLinks;
+      «queue_links» = record { previous = link.Some 70; next = link.Some 71; membership = membership.Terminated };
+      cpu = cpu 0;
+    }
 
--- FIFO, Fair, Budget with time left, Budget exhausted, Idle, FIFO of another processor, a Fair record with a FIFO runtime, one in another list, FIFO.
+-- FIFO, Fair, Budget with time left, Budget exhausted, Idle, FIFO of another processor, a Fair record with a FIFO
+-- runtime, one in another list, FIFO.
 abbrev pub nine : List ThreadRecord
 nine =
-    fifo 5 0 ∷ thread fairParameters (runtime.Fair (record { pass = record { high = 0; low = 9 }; «remaining_ns» = 1 })) 0 ∷ budgetThread 2 ∷ budgetThread 0
+    fifo 5 0 ∷ thread fairParameters (runtime.Fair (record { pass = record { high = 0; low = 9 }; «remaining_ns» = 1 }))
+    0 ∷ budgetThread 2 ∷ budgetThread 0
     ∷ thread ofIdle runtime.Idle 0 ∷ fifo 5 1 ∷ thread fairParameters runtime.Fifo 0 ∷ terminated ∷ fifo 5 0 ∷ []
 
 pub data Call : Type 0 where

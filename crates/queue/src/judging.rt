@@ -1,4 +1,5 @@
-// What the judgement asks of a record, read from the words of its row by the tags: no record is made only to be taken apart again.
+// What the judgement asks of a record, read from the words of its row by the tags: no record is made only to be taken
+// apart again.
 ghost use mathlib.Core.Path.{_≡_};
 ghost use Rattle.thread.specs.Judgement.{isBadRecord};
 ghost use Rattle.thread.specs.Filing.{budgetAvailable, indexFor};
@@ -6,6 +7,19 @@ ghost use Rattle.codec.specs.Codec.{decoded};
 ghost use Rattle.queue.specs.Plan.{filedOf};
 ghost use Rattle.queue.specs.RowJudgement.{kindFrom, roleNumber};
 use crate::Filed;
+use codec::BUDGET_BURST;
+use codec::BUDGET_NS;
+use codec::BUDGET_PERIOD;
+use codec::BUDGET_TAG;
+use codec::CPU;
+use codec::MEMBERSHIP_FIRST;
+use codec::MEMBERSHIP_SECOND;
+use codec::MEMBERSHIP_TAG;
+use codec::POLICY_TAG;
+use codec::ROLE_TAG;
+use codec::RUNTIME_TAG;
+use codec::RUNTIME_THIRD;
+use codec::Row;
 use codec::byte_from;
 use codec::membership_from;
 use codec::parameters_of;
@@ -41,27 +55,27 @@ pub fn role_number(tag: u64) -> u64
     2
 }
 
-pub fn is_bad_row(w: [u64; 32]) -> bool
+pub fn is_bad_row(w: Row) -> bool
     ensures { λ r. ⌜ r ≡ isBadRecord (decoded w) ⌝ }
 {
-    let policy = kind_from(w[0]);
-    let runtime = kind_from(w[11]);
+    let policy = kind_from(w[POLICY_TAG]);
+    let runtime = kind_from(w[RUNTIME_TAG]);
     if runtime == policy {
         if policy == 2 {
-            if w[7] == 0 {
+            if w[BUDGET_TAG] == 0 {
                 return true;
             }
             let budget = BudgetParameters {
-                budget_ns: w[8],
-                period_ns: w[9],
-                burst_ns: w[10],
+                budget_ns: w[BUDGET_NS],
+                period_ns: w[BUDGET_PERIOD],
+                burst_ns: w[BUDGET_BURST],
             };
             if budget.is_sound() {
                 return false;
             }
             return true;
         }
-        if w[7] == 0 {
+        if w[BUDGET_TAG] == 0 {
             return false;
         }
         return true;
@@ -70,12 +84,12 @@ pub fn is_bad_row(w: [u64; 32]) -> bool
 }
 
 // Whether the runtime is a budget's with time left.
-pub fn has_time_left(w: [u64; 32]) -> bool
+pub fn has_time_left(w: Row) -> bool
     ensures { λ r. ⌜ r ≡ budgetAvailable (decoded w .runtime) ⌝ }
 {
-    let runtime = kind_from(w[11]);
+    let runtime = kind_from(w[RUNTIME_TAG]);
     if runtime == 2 {
-        if w[14] == 0 {
+        if w[RUNTIME_THIRD] == 0 {
             return false;
         }
         return true;
@@ -84,11 +98,11 @@ pub fn has_time_left(w: [u64; 32]) -> bool
 }
 
 // The tree that the row's record is filed in. After `index_for`.
-pub fn index_of_row(w: [u64; 32]) -> IndexFor
+pub fn index_of_row(w: Row) -> IndexFor
     ensures { λ r. ⌜ r ≡ indexFor (decoded w .parameters) (decoded w .runtime) ⌝ }
 {
-    let role = role_number(w[3]);
-    let policy = kind_from(w[0]);
+    let role = role_number(w[ROLE_TAG]);
+    let policy = kind_from(w[POLICY_TAG]);
     if policy == 0 {
         return IndexFor::Index(role);
     }
@@ -104,13 +118,13 @@ pub fn index_of_row(w: [u64; 32]) -> IndexFor
     IndexFor::None
 }
 
-pub fn filed_of_row(w: [u64; 32], index: u64) -> Filed
+pub fn filed_of_row(w: Row, index: u64) -> Filed
     ensures { λ r. ⌜ r ≡ filedOf (decoded w) index ⌝ }
 {
     let parameters = parameters_of(w);
     let policy = parameters.policy;
-    let membership = membership_from(w[26], w[27], w[28]);
-    let number = byte_from(w[29]);
+    let membership = membership_from(w[MEMBERSHIP_TAG], w[MEMBERSHIP_FIRST], w[MEMBERSHIP_SECOND]);
+    let number = byte_from(w[CPU]);
     Filed {
         policy,
         membership,

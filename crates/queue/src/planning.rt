@@ -1,6 +1,4 @@
 // The plan of a call: the judgement of the named record, and the list and the tree that the call touches.
-ghost use Prim.Native.Nat.{_<_};
-ghost use mathlib.Core.Bool.{true, false};
 ghost use mathlib.Core.Path.{_≡_};
 ghost use Rattle.rows.specs.Table.{table};
 ghost use Rattle.queue.specs.Queue as calls;
@@ -14,20 +12,22 @@ use crate::TreeFound;
 use crate::judging::filed_of_row;
 use crate::judging::index_of_row;
 use crate::judging::is_bad_row;
+use codec::Row;
 use policy::SchedulingPolicy;
 use ready_index::Contained;
 use ready_index::contains;
 use refusal::Refusal;
+use rows::MAX_RECORDS;
 use thread::CpuIndex;
 use thread::IndexFor;
 use thread::Link;
 use thread::QueueMembership;
 
 // The named thread is judged: table, mark, number, record and policy, in this order.
-pub fn judge(t: &[[u64; 32]], halted: bool, id: u64) -> Judgement
+pub fn judge(t: &[Row], halted: bool, id: u64) -> Judgement
     ensures { λ r. ⌜ judgementAnswer r ≡ plans.judgement (table (now (t .entry))) halted id ⌝ }
 {
-    if 4096 < t.len() {
+    if MAX_RECORDS < t.len() {
         return Judgement::Refused(Refusal::BadTable);
     }
     if halted {
@@ -110,7 +110,7 @@ pub fn plan_insertion(filed: Filed, cpu: CpuIndex) -> Planned
 }
 
 // What an enqueue is to do.
-pub fn insertion_plan(t: &[[u64; 32]], halted: bool, id: u64, cpu: CpuIndex) -> Planned
+pub fn insertion_plan(t: &[Row], halted: bool, id: u64, cpu: CpuIndex) -> Planned
     ensures { λ r. ⌜ plannedAnswer r ≡ plans.insertionPlan (table (now (t .entry))) halted id cpu ⌝ }
 {
     let judgement = judge(t, halted, id);
@@ -132,7 +132,7 @@ pub fn partner(index: u64) -> u64
 
 // The tree that holds the thread: that of its filing, or of a budget the partner.
 pub fn tree_found(
-    t: &[[u64; 32]],
+    t: &[Row],
     root: Link,
     other: Link,
     id: u64,
@@ -219,7 +219,7 @@ pub fn plan_removal(filed: Filed, index: u64, cpu: CpuIndex) -> Planned
 
 // What a removal of a judged thread is to do, by the roots of the tree of its filing and of the partner.
 pub fn removal_plan(
-    t: &[[u64; 32]],
+    t: &[Row],
     filed: Filed,
     root: Link,
     other: Link,

@@ -1,9 +1,10 @@
--- The work of enqueue and remove on the parts of a queue that a call touches: a list, the FIFO total, a root, the number of budget threads.
--- Where the source halts, the parts are as it had stored them. After `CpuRunQueue::insert` and `remove` of scheduler/queue.rs.
+-- The work of enqueue and remove on the parts of a queue that a call touches: a list, the FIFO total, a root, the
+-- number of budget threads. Where the source halts, the parts are as it had stored them. After `CpuRunQueue::insert`
+-- and `remove` of scheduler/queue.rs.
 use Prim.Native.Nat.{ℕ, _+_, _-_}
 use mathlib.Core.Bool.{Bool, true, false}
 use mathlib.Core.List.{List}
-use Rattle.refusal.specs.Answer.{Answer, value, refused, numberOf}
+use Rattle.refusal.specs.Answer.{Answer, value, refused, numberOf, damaged}
 use Rattle.refusal.specs.Cases.{choose, ifEqual}
 use Rattle.thread.specs.declared.Link.{Link}
 use Rattle.thread.specs.declared.QueueMembership.{QueueMembership}
@@ -37,7 +38,8 @@ totalAnswer (total.Length n) = value n
 totalAnswer (total.Refused n) = refused (numberOf n)
 
 abbrev pub withBudgetThreads : Parts → ℕ → Parts
-withBudgetThreads p n = record { list = p .list; «realtime_len» = p .«realtime_len»; root = p .root; «budget_threads» = n }
+withBudgetThreads p n =
+    record { list = p .list; «realtime_len» = p .«realtime_len»; root = p .root; «budget_threads» = n }
 
 -- One budget thread more, for a budget thread; a count that would leave its range halts.
 unfoldable pub countedIn : Bool → Parts → Work
@@ -53,13 +55,14 @@ countedOut budgeted p =
     (ifEqual (p .«budget_threads») 0 (halts p) (done (withBudgetThreads p (p .«budget_threads» - 1))))
     (done p)
 
--- The FIFO total after an insertion: it counts FIFO threads alone, and one that would leave its range is Damaged (`FixedPriorityFifo::enqueue`).
+-- The FIFO total after an insertion: it counts FIFO threads alone, and one that would leave its range is Damaged
+-- (`FixedPriorityFifo::enqueue`).
 unfoldable pub totalIn : Bool → ℕ → Answer ℕ
-totalIn fifo n = choose fifo (ifEqual n maxLength (refused 1) (value (n + 1))) (value n)
+totalIn fifo n = choose fifo (ifEqual n maxLength (refused damaged) (value (n + 1))) (value n)
 
 -- The FIFO total after a removal (`FixedPriorityFifo::remove`).
 unfoldable pub totalOut : Bool → ℕ → Answer ℕ
-totalOut fifo n = choose fifo (ifEqual n 0 (refused 1) (value (n - 1))) (value n)
+totalOut fifo n = choose fifo (ifEqual n 0 (refused damaged) (value (n - 1))) (value n)
 
 -- At the front, or at the back.
 unfoldable pub pushAt : Bool → List ThreadRecord → ThreadQueue → ℕ → QueueMembership → Out (Answer ThreadQueue)

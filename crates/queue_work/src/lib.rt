@@ -2,8 +2,10 @@
 ghost use mathlib.Core.Path.{_≡_};
 ghost use Rattle.rows.specs.Table.{table, out};
 ghost use Rattle.queue_work.specs.Work as work;
+use codec::Row;
 use lists::Listed;
 use lists::push_at;
+use ready_index::Path;
 use ready_index::Rooted;
 use refusal::Refusal;
 use thread::Link;
@@ -18,8 +20,8 @@ pub struct Parts {
     pub budget_threads: u64,
 }
 
-// A refusal with nothing changed; or the parts afterwards, as the source had stored them where it halts. One case holds the parts, so that a shell
-// puts them back in one place.
+// A refusal with nothing changed; or the parts afterwards, as the source had stored them where it halts. One case holds
+// the parts, so that a shell puts them back in one place.
 pub enum Worked {
     Refused(Refusal),
     Stored { parts: Parts, halted: bool },
@@ -118,14 +120,9 @@ fn counted_out(budgeted: bool, parts: Parts) -> Worked
 }
 
 // A thread that stands in its list goes into its tree; an error there halts with list and total stored.
-fn insert_into_tree(
-    t: &mut [[u64; 32]],
-    path: &mut [[u64; 2]; 40],
-    parts: Parts,
-    id: u64,
-    budgeted: bool,
-) -> Worked
-    ensures { λ r. ⌜ out (work.workOf r) (table (now (t .exit))) ≡ work.treeInserted budgeted (table (now (t .entry))) parts id ⌝ }
+fn insert_into_tree(t: &mut [Row], path: &mut Path, parts: Parts, id: u64, budgeted: bool) -> Worked
+    ensures { λ r. ⌜ out (work.workOf r) (table (now (t .exit)))
+        ≡ work.treeInserted budgeted (table (now (t .entry))) parts id ⌝ }
 {
     let list = parts.list;
     let realtime_len = parts.realtime_len;
@@ -149,14 +146,9 @@ fn insert_into_tree(
 }
 
 // A thread that its list has let go leaves its tree; an error there halts with list and total stored.
-fn remove_from_tree(
-    t: &mut [[u64; 32]],
-    path: &mut [[u64; 2]; 40],
-    parts: Parts,
-    id: u64,
-    budgeted: bool,
-) -> Worked
-    ensures { λ r. ⌜ out (work.workOf r) (table (now (t .exit))) ≡ work.treeRemoved budgeted (table (now (t .entry))) parts id ⌝ }
+fn remove_from_tree(t: &mut [Row], path: &mut Path, parts: Parts, id: u64, budgeted: bool) -> Worked
+    ensures { λ r. ⌜ out (work.workOf r) (table (now (t .exit)))
+        ≡ work.treeRemoved budgeted (table (now (t .entry))) parts id ⌝ }
 {
     let list = parts.list;
     let realtime_len = parts.realtime_len;
@@ -181,8 +173,8 @@ fn remove_from_tree(
 
 // A judged thread goes into its list, then its tree, then is counted.
 pub fn insert_work(
-    t: &mut [[u64; 32]],
-    path: &mut [[u64; 2]; 40],
+    t: &mut [Row],
+    path: &mut Path,
     parts: Parts,
     id: u64,
     membership: QueueMembership,
@@ -190,7 +182,8 @@ pub fn insert_work(
     fifo: bool,
     budgeted: bool,
 ) -> Worked
-    ensures { λ r. ⌜ out (work.workOf r) (table (now (t .exit))) ≡ work.insertWork front fifo budgeted (table (now (t .entry))) parts id membership ⌝ }
+    ensures { λ r. ⌜ out (work.workOf r) (table (now (t .exit)))
+        ≡ work.insertWork front fifo budgeted (table (now (t .entry))) parts id membership ⌝ }
 {
     let queue = parts.list;
     let root = parts.root;
@@ -221,15 +214,16 @@ pub fn insert_work(
 
 // A thread that its tree holds leaves its list, then its tree, then the count.
 pub fn remove_work(
-    t: &mut [[u64; 32]],
-    path: &mut [[u64; 2]; 40],
+    t: &mut [Row],
+    path: &mut Path,
     parts: Parts,
     id: u64,
     membership: QueueMembership,
     fifo: bool,
     budgeted: bool,
 ) -> Worked
-    ensures { λ r. ⌜ out (work.workOf r) (table (now (t .exit))) ≡ work.removeWork fifo budgeted (table (now (t .entry))) parts id membership ⌝ }
+    ensures { λ r. ⌜ out (work.workOf r) (table (now (t .exit)))
+        ≡ work.removeWork fifo budgeted (table (now (t .entry))) parts id membership ⌝ }
 {
     let queue = parts.list;
     let root = parts.root;

@@ -11,7 +11,8 @@ use Rattle.ready_index.specs.declared.Sought.{Sought}
 use Rattle.ready_index.specs.declared.Sought.the-variants as sought
 use Rattle.rows.specs.Table.{Out, out}
 
--- In each, what to do where the answer is Damaged stands first. Of the table as it is left, as in crate rows: a refusal keeps the stores that were made.
+-- In each, what to do where the answer is Damaged stands first. Of the table as it is left, as in crate rows: a refusal
+-- keeps the stores that were made.
 unfoldable pub onRooted : {A : Type 0} → Out Rooted → (List ThreadRecord → A) → (Link → List ThreadRecord → A) → A
 onRooted (out (rooted.Root l) t) a f = f l t
 onRooted (out rooted.Damaged t) a f = a t

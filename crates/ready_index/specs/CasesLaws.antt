@@ -16,11 +16,13 @@ use Rattle.rows.specs.Table.{Out, out}
 use Rattle.ready_index.specs.Cases.{onRooted, onWay, onSought}
 
 module _ {A : Type 0} {y : A} {t : List ThreadRecord} (a : List ThreadRecord → A) where
-  pub rooted-root : {r : Rooted} {x : Out Rooted} {l : Link} (f : Link → List ThreadRecord → A) → out r t ≡ x → r ≡ rooted.Root l → y ≡ f l t → y ≡ onRooted x a f
+  pub rooted-root : {r : Rooted} {x : Out Rooted} {l : Link} (f : Link → List ThreadRecord → A) → out r t ≡ x
+      → r ≡ rooted.Root l → y ≡ f l t → y ≡ onRooted x a f
   unfolding onRooted
   rooted-root f e m h = rw (sym e) (rw m h)
 
-  pub rooted-damaged : {r : Rooted} {x : Out Rooted} (f : Link → List ThreadRecord → A) → out r t ≡ x → r ≡ rooted.Damaged → y ≡ a t → y ≡ onRooted x a f
+  pub rooted-damaged : {r : Rooted} {x : Out Rooted} (f : Link → List ThreadRecord → A) → out r t ≡ x
+      → r ≡ rooted.Damaged → y ≡ a t → y ≡ onRooted x a f
   unfolding onRooted
   rooted-damaged f e m h = rw (sym e) (rw m h)
 
@@ -66,4 +68,17 @@ of-parts e m = rw (e, m)
 pub made-anew : {r s : Rooted} {t : List ThreadRecord} {x : Out Rooted} → r ≡ s → out s t ≡ x → out r t ≡ x
 made-anew e h = rw e h
 
-pub ruleset answers = (orderings, turnings, rooted-root, rooted-damaged, way-left, way-right, way-equal, way-damaged, sought-left, sought-right, sought-found, sought-damaged)
+pub ruleset answers = (
+  orderings,
+  turnings,
+  rooted-root,
+  rooted-damaged,
+  way-left,
+  way-right,
+  way-equal,
+  way-damaged,
+  sought-left,
+  sought-right,
+  sought-found,
+  sought-damaged,
+)

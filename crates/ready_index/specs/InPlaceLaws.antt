@@ -1,4 +1,5 @@
--- A step of the way up, which stores one link and balances the node by the links that it has since, is what the definition says.
+-- A step of the way up, which stores one link and balances the node by the links that it has since, is what the
+-- definition says.
 use mathlib.Core.Path.{_≡_, refl, sym, _∙_}
 use mathlib.Core.List.{List}
 use Prim.Native.Nat.{ℕ}
@@ -24,30 +25,41 @@ use Rattle.ready_index.specs.declared.Step.{Step}
 use Rattle.ready_index.specs.Index.{hung, rebuildStep}
 use Rattle.ready_index.specs.Path.{stepOf}
 
-climbed : (t : List ThreadRecord) (s : Step) (sub : Link) {l m : Links} → linksAt t (s .id) ≡ links.Got l → hung s l sub ≡ m
-    → onMade (setLinks t (s .id) m) (out turned.Damaged) (λ t₁. balanceBy t₁ (s .id) (m .left) (m .right)) ≡ rebuildStep t s sub
+climbed : (t : List ThreadRecord) (s : Step) (sub : Link) {l m : Links} → linksAt t (s .id) ≡ links.Got l
+    → hung s l sub ≡ m
+    → onMade (setLinks t (s .id) m) (out turned.Damaged) (λ t₁. balanceBy t₁ (s .id) (m .left) (m .right))
+    ≡ rebuildStep t s sub
 unfolding rebuildStep onLinks onMade
-climbed t s sub {l} {m} e f = rw (e, f) (go (setLinks t (s .id) m) (links-set-links-same t (s .id) m (links-got-within t (s .id) e)))
+climbed t s sub {l} {m} e f =
+    rw (e, f) (go (setLinks t (s .id) m) (links-set-links-same t (s .id) m (links-got-within t (s .id) e)))
   where
     go : (x : Out Change) → linksAt (after x) (s .id) ≡ links.Got m
-        → onMade x (out turned.Damaged) (λ t₁. balanceBy t₁ (s .id) (m .left) (m .right)) ≡ onMade x (out turned.Damaged) (λ t₁. balance t₁ (s .id))
+        → onMade x (out turned.Damaged) (λ t₁. balanceBy t₁ (s .id) (m .left) (m .right))
+        ≡ onMade x (out turned.Damaged) (λ t₁. balance t₁ (s .id))
     go (out change.Made t₁) k = by-its-links t₁ (s .id) k
     go (out change.Damaged t₁) k = refl
 
 -- By what was read of the node, x, and by the side that the step's row says: with 0 the left one.
 module _ {y : Out Turned} {x : LinksRead} (t : List ThreadRecord) (step : List ℕ) (sub : Link) where
-  pub up-from-nowhere : x ≡ linksAt t (getD step 0 0) → x ≡ links.Damaged → y ≡ out turned.Damaged t → y ≡ rebuildStep t (stepOf step) sub
+  pub up-from-nowhere : x ≡ linksAt t (getD step 0 0) → x ≡ links.Damaged → y ≡ out turned.Damaged t
+      → y ≡ rebuildStep t (stepOf step) sub
   unfolding rebuildStep onLinks
   up-from-nowhere e m h = rw (sym e ∙ m) h
 
   pub up-from-left : {l : Links} → x ≡ linksAt t (getD step 0 0) → x ≡ links.Got l → getD step 1 0 ≡ 0
-      → y ≡ onMade (setLeft t (getD step 0 0) sub) (out turned.Damaged) (λ t₁. balanceBy t₁ (getD step 0 0) sub (l .right)) → y ≡ rebuildStep t (stepOf step) sub
+      → y ≡ onMade (setLeft t (getD step 0 0) sub) (out turned.Damaged)
+      (λ t₁. balanceBy t₁ (getD step 0 0) sub (l .right)) → y ≡ rebuildStep t (stepOf step) sub
   unfolding hung choose
-  up-from-left e m p h = (rw (set-left-links t (getD step 0 0) (sym e ∙ m) sub) at h) ∙ climbed t (stepOf step) sub (sym e ∙ m) (rw (eq-eqb (getD step 1 0) 0 p))
+  up-from-left e m p h =
+      (rw (set-left-links t (getD step 0 0) (sym e ∙ m) sub) at h)
+      ∙ climbed t (stepOf step) sub (sym e ∙ m) (rw (eq-eqb (getD step 1 0) 0 p))
 
   pub up-from-right : {l : Links} → x ≡ linksAt t (getD step 0 0) → x ≡ links.Got l → (getD step 1 0 ≡ 0 → ⊥)
-      → y ≡ onMade (setRight t (getD step 0 0) sub) (out turned.Damaged) (λ t₁. balanceBy t₁ (getD step 0 0) (l .left) sub) → y ≡ rebuildStep t (stepOf step) sub
+      → y ≡ onMade (setRight t (getD step 0 0) sub) (out turned.Damaged)
+      (λ t₁. balanceBy t₁ (getD step 0 0) (l .left) sub) → y ≡ rebuildStep t (stepOf step) sub
   unfolding hung choose
-  up-from-right e m p h = (rw (set-right-links t (getD step 0 0) (sym e ∙ m) sub) at h) ∙ climbed t (stepOf step) sub (sym e ∙ m) (rw (ne-eqb (getD step 1 0) 0 p))
+  up-from-right e m p h =
+      (rw (set-right-links t (getD step 0 0) (sym e ∙ m) sub) at h)
+      ∙ climbed t (stepOf step) sub (sym e ∙ m) (rw (ne-eqb (getD step 1 0) 0 p))
 
 pub ruleset step-up = (up-from-nowhere, up-from-left, up-from-right)

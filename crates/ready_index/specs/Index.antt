@@ -1,4 +1,5 @@
--- The ready index over the table: first, contains, insert and remove. A refusal keeps the stores that were made; the root is then the caller's old one.
+-- The ready index over the table: first, contains, insert and remove. A refusal keeps the stores that were made; the
+-- root is then the caller's old one.
 use mathlib.Core.List.{List, [], _∷_}
 use mathlib.Core.Bool.{true, false}
 use Prim.Native.Nat.{ℕ, zero, suc}
@@ -100,9 +101,11 @@ rebuildStep t s sub =
 -- A replaced subtree reconnected along a path (`rebuild`).
 unfoldable pub rebuild : List Step → List ThreadRecord → Link → Out Rooted
 rebuild [] t sub = out (rooted.Root sub) t
-rebuild (s ∷ rest) t sub = onTurned (rebuildStep t s sub) (out rooted.Damaged) (λ top t₁. rebuild rest t₁ (link.Some top))
+rebuild (s ∷ rest) t sub =
+    onTurned (rebuildStep t s sub) (out rooted.Damaged) (λ top t₁. rebuild rest t₁ (link.Some top))
 
--- A thread with this key put into the tree under a root, by a path with so much room (`insert_at`): equal keys and a path too long are refused before the first store.
+-- A thread with this key put into the tree under a root, by a path with so much room (`insert_at`): equal keys and a
+-- path too long are refused before the first store.
 abbrev pub insertAt : List ThreadRecord → ℕ → TreeKey → Link → ℕ → Out Rooted
 insertAt t room key root id =
     onWalk (walk room t key root []) (out rooted.Damaged t)
@@ -189,7 +192,8 @@ rebuildRemoved t steps sub id =
     (λ top t₁. onMade (setLinks t₁ id emptyLinks) (out rooted.Damaged)
     (λ t₂. out (rooted.Root top) t₂))
 
--- The thread at the end of a path, with these links and so much room beside the path: it is replaced, and the path rebuilt.
+-- The thread at the end of a path, with these links and so much room beside the path: it is replaced, and the path
+-- rebuilt.
 abbrev pub removeFound : List ThreadRecord → List Step → Links → ℕ → ℕ → Out Rooted
 removeFound t steps l room id =
     onRooted (replace t room (l .left) (l .right)) (out rooted.Damaged)

@@ -39,7 +39,8 @@ searchOf searched.Damaged rows = missing
 unfoldable pub lastSought : List ThreadRecord → TreeKey → ℕ → Link → ℕ → Searched
 lastSought t key id at n =
     onLink at searched.Damaged
-    (λ i. onSought (soughtAt t key id i) searched.Damaged (λ l. searched.Found n l) (λ l. searched.Damaged) (λ l. searched.Damaged))
+    (λ i. onSought (soughtAt t key id i) searched.Damaged (λ l. searched.Found n l) (λ l. searched.Damaged)
+    (λ l. searched.Damaged))
 
 unfoldable pub successorOf : Succeeded → List (List ℕ) → ℕ → Successor
 successorOf (succeeded.Next n i r) rows first = next (stack rows first n) i r

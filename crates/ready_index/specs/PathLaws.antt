@@ -19,7 +19,8 @@ module _ (rows : List (List ℕ)) (first : ℕ) where
       let less : first + n ≤ k = omega arith in
       rw (getD-set-other rows k (first + n) row [] other, kept k n row less)
 
-  pub push : (k n : ℕ) (row : List ℕ) → k ≡ first + n → k < length rows → stack (set rows k row) first (n + 1) ≡ stepOf row ∷ stack rows first n
+  pub push : (k n : ℕ) (row : List ℕ) → k ≡ first + n → k < length rows
+      → stack (set rows k row) first (n + 1) ≡ stepOf row ∷ stack rows first n
   unfolding stack
   push k n row e h =
       let within : first + n ≤ k = omega arith in

@@ -5,7 +5,9 @@ ghost use mathlib.Core.Path.{_≡_};
 ghost use lib.ListN.{length};
 ghost use Rattle.rows.specs.Table.{table, out};
 ghost use Rattle.ready_index.specs.Index as index;
-ghost use Rattle.ready_index.specs.Path.{stepOf, stack, walkOf, walkSteps, lastSought, searchOf, searchSteps, successorOf, successorSteps};
+ghost use Rattle.ready_index.specs.Path.{stepOf, stack, walkOf, walkSteps, lastSought, searchOf, searchSteps};
+ghost use Rattle.ready_index.specs.Path.{successorOf, successorSteps};
+use codec::Row;
 use order::Ordering;
 use rotations::Turned;
 use rotations::balance;
@@ -23,8 +25,16 @@ use thread::Links;
 use thread::TreeKey;
 use thread::compare_tree_keys;
 
-// A 24-bit registry slot namespace cannot contain the 24,157,816 nodes that height 35 needs; forty entries include the removal's successor path.
-const MAX_PATH: usize = 40;
+// A 24-bit registry slot namespace cannot contain the 24,157,816 nodes that height 35 needs; forty entries include the
+// removal's successor path.
+pub const MAX_PATH: usize = 40;
+
+// A step of a path: the number of a record, and the side.
+pub const PATH_STEP_WORDS: usize = 2;
+
+pub type PathStep = [u64; PATH_STEP_WORDS];
+
+pub type Path = [PathStep; MAX_PATH];
 
 // The tree's root afterwards.
 pub enum Rooted {
@@ -87,7 +97,7 @@ pub enum Succeeded {
 }
 
 // Down the left links. The loop of `Tree::first`.
-fn descend(t: &[[u64; 32]], start: u64) -> Least
+fn descend(t: &[Row], start: u64) -> Least
     ensures { λ r. ⌜ r ≡ index.descend index.maxPath (table (now (t .entry))) start ⌝ }
 {
     let mut id = start;
@@ -107,7 +117,7 @@ fn descend(t: &[[u64; 32]], start: u64) -> Least
 }
 
 // The least thread of the tree under a root. After `Tree::first`.
-pub fn first(t: &[[u64; 32]], root: Link) -> Least
+pub fn first(t: &[Row], root: Link) -> Least
     ensures { λ r. ⌜ r ≡ index.first (table (now (t .entry))) root ⌝ }
 {
     match root {
@@ -117,7 +127,7 @@ pub fn first(t: &[[u64; 32]], root: Link) -> Least
 }
 
 // Where a key goes on from a node.
-fn way_at(t: &[[u64; 32]], key: TreeKey, node: u64) -> Way
+fn way_at(t: &[Row], key: TreeKey, node: u64) -> Way
     ensures { λ r. ⌜ r ≡ index.wayAt (table (now (t .entry))) key node ⌝ }
 {
     let KeyRead::Got(other) = key_at(t, node) else {
@@ -143,7 +153,7 @@ fn way_at(t: &[[u64; 32]], key: TreeKey, node: u64) -> Way
 }
 
 // Down from the root by the key. The loop of `Tree::contains`.
-fn look_for(t: &[[u64; 32]], key: TreeKey, id: u64, root: Link) -> Contained
+fn look_for(t: &[Row], key: TreeKey, id: u64, root: Link) -> Contained
     ensures { λ r. ⌜ r ≡ index.lookFor index.maxPath (table (now (t .entry))) key id root ⌝ }
 {
     let mut current = root;
@@ -176,7 +186,7 @@ fn look_for(t: &[[u64; 32]], key: TreeKey, id: u64, root: Link) -> Contained
 }
 
 // Whether the tree under a root holds a thread. After `Tree::contains`.
-pub fn contains(t: &[[u64; 32]], root: Link, id: u64) -> Contained
+pub fn contains(t: &[Row], root: Link, id: u64) -> Contained
     ensures { λ r. ⌜ r ≡ index.contains (table (now (t .entry))) root id ⌝ }
 {
     let KeyRead::Got(key) = key_at(t, id) else {
@@ -186,8 +196,9 @@ pub fn contains(t: &[[u64; 32]], root: Link, id: u64) -> Contained
 }
 
 // Down from the root to where a key is to stand; each step is stored on the path. The loop of `insert_at`.
-fn walk(t: &[[u64; 32]], path: &mut [[u64; 2]], key: TreeKey, root: Link) -> Walked
-    ensures { λ r. ⌜ walkOf r (now (path .exit)) ≡ index.walk (length (now (path .entry))) (table (now (t .entry))) key root [] ⌝ }
+fn walk(t: &[Row], path: &mut [PathStep], key: TreeKey, root: Link) -> Walked
+    ensures { λ r. ⌜ walkOf r (now (path .exit)) ≡ index.walk (length (now (path .entry)))
+        (table (now (t .entry))) key root [] ⌝ }
     ensures { λ r. ⌜ walkSteps r ≤ length (now (path .exit)) ⌝ }
 {
     let mut current = root;
@@ -221,8 +232,9 @@ fn walk(t: &[[u64; 32]], path: &mut [[u64; 2]], key: TreeKey, root: Link) -> Wal
     }
 }
 
-// One step up: the new subtree is hung under the node where the step led, and the node balanced. Its links are read before the store and not again: a load that may or may not meet a store just made waits for it.
-fn rebuild_step(t: &mut [[u64; 32]], step: [u64; 2], sub: Link) -> Turned
+// One step up: the new subtree is hung under the node where the step led, and the node balanced. Its links are read
+// before the store and not again: a load that may or may not meet a store just made waits for it.
+fn rebuild_step(t: &mut [Row], step: [u64; 2], sub: Link) -> Turned
     ensures { λ r. ⌜ out r (table (now (t .exit))) ≡ index.rebuildStep (table (now (t .entry))) (stepOf step) sub ⌝ }
 {
     let parent = step[0];
@@ -243,7 +255,8 @@ fn rebuild_step(t: &mut [[u64; 32]], step: [u64; 2], sub: Link) -> Turned
     rebalance(t, parent, left, sub)
 }
 
-// The same answer made anew of its parts, so that it is stored part by part and read so: as a whole it could only be read once the stores of its parts are through.
+// The same answer made anew of its parts, so that it is stored part by part and read so: as a whole it could only be
+// read once the stores of its parts are through.
 fn by_parts(rooted: Rooted) -> Rooted
     ensures { λ r. ⌜ r ≡ rooted ⌝ }
 {
@@ -257,15 +270,10 @@ fn by_parts(rooted: Rooted) -> Rooted
 }
 
 // Up along so many steps of the path, those from the row `start` on. After `rebuild`.
-fn rebuild(
-    t: &mut [[u64; 32]],
-    path: &[[u64; 2]],
-    start: usize,
-    steps: usize,
-    subtree: Link,
-) -> Rooted
+fn rebuild(t: &mut [Row], path: &[PathStep], start: usize, steps: usize, subtree: Link) -> Rooted
     requires { ⌜ start + steps ≤ length (now path) ⌝ }
-    ensures { λ r. ⌜ out r (table (now (t .exit))) ≡ index.rebuild (stack (now (path .entry)) start steps) (table (now (t .entry))) subtree ⌝ }
+    ensures { λ r. ⌜ out r (table (now (t .exit))) ≡ index.rebuild (stack (now (path .entry)) start steps)
+        (table (now (t .entry))) subtree ⌝ }
 {
     let mut len = steps;
     let mut sub = subtree;
@@ -282,14 +290,9 @@ fn rebuild(
 }
 
 // Duplicates and overlong paths are refused before an existing record is changed. After `insert_at`.
-fn insert_at(
-    t: &mut [[u64; 32]],
-    path: &mut [[u64; 2]],
-    key: TreeKey,
-    root: Link,
-    id: u64,
-) -> Rooted
-    ensures { λ r. ⌜ out r (table (now (t .exit))) ≡ index.insertAt (table (now (t .entry))) (length (now (path .entry))) key root id ⌝ }
+fn insert_at(t: &mut [Row], path: &mut [PathStep], key: TreeKey, root: Link, id: u64) -> Rooted
+    ensures { λ r. ⌜ out r (table (now (t .exit))) ≡ index.insertAt (table (now (t .entry)))
+        (length (now (path .entry))) key root id ⌝ }
 {
     let Walked::Bottom(steps) = walk(t, path, key, root) else {
         return Rooted::Damaged;
@@ -302,7 +305,7 @@ fn insert_at(
 }
 
 // A thread put into the tree under a root, by a path that is lent for the time of the call. After `Tree::insert`.
-pub fn insert(t: &mut [[u64; 32]], path: &mut [[u64; 2]; MAX_PATH], root: Link, id: u64) -> Rooted
+pub fn insert(t: &mut [Row], path: &mut Path, root: Link, id: u64) -> Rooted
     ensures { λ r. ⌜ out r (table (now (t .exit))) ≡ index.insert (table (now (t .entry))) root id ⌝ }
 {
     let KeyRead::Got(key) = key_at(t, id) else {
@@ -312,7 +315,7 @@ pub fn insert(t: &mut [[u64; 32]], path: &mut [[u64; 2]; MAX_PATH], root: Link, 
 }
 
 // Where the search for a thread goes on from a node.
-fn sought_at(t: &[[u64; 32]], key: TreeKey, id: u64, node: u64) -> Sought
+fn sought_at(t: &[Row], key: TreeKey, id: u64, node: u64) -> Sought
     ensures { λ r. ⌜ r ≡ index.soughtAt (table (now (t .entry))) key id node ⌝ }
 {
     let LinksRead::Got(links) = links_at(t, node) else {
@@ -340,7 +343,7 @@ fn sought_at(t: &[[u64; 32]], key: TreeKey, id: u64, node: u64) -> Sought
 }
 
 // The end of a search whose path is full: the thread stands here or is not found.
-fn last_sought(t: &[[u64; 32]], key: TreeKey, id: u64, at: Link, steps: usize) -> Searched
+fn last_sought(t: &[Row], key: TreeKey, id: u64, at: Link, steps: usize) -> Searched
     ensures { λ r. ⌜ r ≡ lastSought (table (now (t .entry))) key id at steps ⌝ }
 {
     let Link::Some(node) = at else {
@@ -355,8 +358,9 @@ fn last_sought(t: &[[u64; 32]], key: TreeKey, id: u64, at: Link, steps: usize) -
 }
 
 // Down from the root to a thread; each step is stored on the path. The first loop of `remove_at`.
-fn search(t: &[[u64; 32]], path: &mut [[u64; 2]], key: TreeKey, id: u64, root: Link) -> Searched
-    ensures { λ r. ⌜ searchOf r (now (path .exit)) ≡ index.search (length (now (path .entry))) (table (now (t .entry))) key id root [] ⌝ }
+fn search(t: &[Row], path: &mut [PathStep], key: TreeKey, id: u64, root: Link) -> Searched
+    ensures { λ r. ⌜ searchOf r (now (path .exit)) ≡ index.search (length (now (path .entry)))
+        (table (now (t .entry))) key id root [] ⌝ }
     ensures { λ r. ⌜ searchSteps r ≤ length (now (path .exit)) ⌝ }
 {
     let mut current = root;
@@ -387,10 +391,12 @@ fn search(t: &[[u64; 32]], path: &mut [[u64; 2]], key: TreeKey, id: u64, root: L
     last_sought(t, key, id, current, len)
 }
 
-// Down the left links to the leftmost thread; each step is stored on the path from the row `start` on. The second loop of `remove_at`.
-fn successor(t: &[[u64; 32]], path: &mut [[u64; 2]], start: usize, node: u64) -> Succeeded
+// Down the left links to the leftmost thread; each step is stored on the path from the row `start` on. The second loop
+// of `remove_at`.
+fn successor(t: &[Row], path: &mut [PathStep], start: usize, node: u64) -> Succeeded
     requires { ⌜ start ≤ length (now path) ⌝ }
-    ensures { λ r. ⌜ successorOf r (now (path .exit)) start ≡ index.successor (length (now (path .entry)) - start) (table (now (t .entry))) node [] ⌝ }
+    ensures { λ r. ⌜ successorOf r (now (path .exit)) start ≡ index.successor (length (now (path .entry)) - start)
+        (table (now (t .entry))) node [] ⌝ }
     ensures { λ r. ⌜ start + successorSteps r ≤ length (now (path .exit)) ⌝ }
     ensures { λ r. ⌜ stack (now (path .exit)) 0 start ≡ stack (now (path .entry)) 0 start ⌝ }
 {
@@ -420,7 +426,7 @@ fn successor(t: &[[u64; 32]], path: &mut [[u64; 2]], start: usize, node: u64) ->
 }
 
 // These links stored at a record, which is then balanced.
-fn store_balanced(t: &mut [[u64; 32]], i: u64, links: Links) -> Rooted
+fn store_balanced(t: &mut [Row], i: u64, links: Links) -> Rooted
     ensures { λ r. ⌜ out r (table (now (t .exit))) ≡ index.storeBalanced (table (now (t .entry))) i links ⌝ }
 {
     let Change::Made = set_links(t, i, links) else {
@@ -432,16 +438,18 @@ fn store_balanced(t: &mut [[u64; 32]], i: u64, links: Links) -> Rooted
     Rooted::Root(Link::Some(top))
 }
 
-// A removed thread with two sides is replaced by its successor, whose own path is rebuilt first; that lies above the first steps of the path.
+// A removed thread with two sides is replaced by its successor, whose own path is rebuilt first; that lies above the
+// first steps of the path.
 fn replace_by_successor(
-    t: &mut [[u64; 32]],
-    path: &mut [[u64; 2]],
+    t: &mut [Row],
+    path: &mut [PathStep],
     steps: usize,
     left: u64,
     right: u64,
 ) -> Rooted
     requires { ⌜ steps ≤ length (now path) ⌝ }
-    ensures { λ r. ⌜ out r (table (now (t .exit))) ≡ index.replaceBySuccessor (table (now (t .entry))) (length (now (path .entry)) - steps) left right ⌝ }
+    ensures { λ r. ⌜ out r (table (now (t .exit))) ≡ index.replaceBySuccessor (table (now (t .entry)))
+        (length (now (path .entry)) - steps) left right ⌝ }
     ensures { λ r. ⌜ stack (now (path .exit)) 0 steps ≡ stack (now (path .entry)) 0 steps ⌝ }
 {
     let Succeeded::Next {
@@ -467,15 +475,10 @@ fn replace_by_successor(
 }
 
 // What takes the place of a removed thread with these links.
-fn replace(
-    t: &mut [[u64; 32]],
-    path: &mut [[u64; 2]],
-    steps: usize,
-    left: Link,
-    right: Link,
-) -> Rooted
+fn replace(t: &mut [Row], path: &mut [PathStep], steps: usize, left: Link, right: Link) -> Rooted
     requires { ⌜ steps ≤ length (now path) ⌝ }
-    ensures { λ r. ⌜ out r (table (now (t .exit))) ≡ index.replace (table (now (t .entry))) (length (now (path .entry)) - steps) left right ⌝ }
+    ensures { λ r. ⌜ out r (table (now (t .exit)))
+        ≡ index.replace (table (now (t .entry))) (length (now (path .entry)) - steps) left right ⌝ }
     ensures { λ r. ⌜ stack (now (path .exit)) 0 steps ≡ stack (now (path .entry)) 0 steps ⌝ }
 {
     let Link::Some(a) = left else {
@@ -488,15 +491,10 @@ fn replace(
 }
 
 // The path to a removed thread is rebuilt over what took its place, and the thread's own links are emptied last.
-fn rebuild_removed(
-    t: &mut [[u64; 32]],
-    path: &[[u64; 2]],
-    steps: usize,
-    sub: Link,
-    id: u64,
-) -> Rooted
+fn rebuild_removed(t: &mut [Row], path: &[PathStep], steps: usize, sub: Link, id: u64) -> Rooted
     requires { ⌜ steps ≤ length (now path) ⌝ }
-    ensures { λ r. ⌜ out r (table (now (t .exit))) ≡ index.rebuildRemoved (table (now (t .entry))) (stack (now (path .entry)) 0 steps) sub id ⌝ }
+    ensures { λ r. ⌜ out r (table (now (t .exit))) ≡ index.rebuildRemoved (table (now (t .entry)))
+        (stack (now (path .entry)) 0 steps) sub id ⌝ }
 {
     let Rooted::Root(top) = rebuild(t, path, 0, steps, sub) else {
         return Rooted::Damaged;
@@ -509,15 +507,10 @@ fn rebuild_removed(
 }
 
 // The thread that so many steps lead to is replaced, and the path to it rebuilt.
-fn remove_found(
-    t: &mut [[u64; 32]],
-    path: &mut [[u64; 2]],
-    steps: usize,
-    links: Links,
-    id: u64,
-) -> Rooted
+fn remove_found(t: &mut [Row], path: &mut [PathStep], steps: usize, links: Links, id: u64) -> Rooted
     requires { ⌜ steps ≤ length (now path) ⌝ }
-    ensures { λ r. ⌜ out r (table (now (t .exit))) ≡ index.removeFound (table (now (t .entry))) (stack (now (path .entry)) 0 steps) links (length (now (path .entry)) - steps) id ⌝ }
+    ensures { λ r. ⌜ out r (table (now (t .exit))) ≡ index.removeFound (table (now (t .entry)))
+        (stack (now (path .entry)) 0 steps) links (length (now (path .entry)) - steps) id ⌝ }
 {
     let left = links.left;
     let right = links.right;
@@ -528,14 +521,9 @@ fn remove_found(
 }
 
 // After `remove_at`.
-fn remove_at(
-    t: &mut [[u64; 32]],
-    path: &mut [[u64; 2]],
-    key: TreeKey,
-    root: Link,
-    id: u64,
-) -> Rooted
-    ensures { λ r. ⌜ out r (table (now (t .exit))) ≡ index.removeAt (table (now (t .entry))) (length (now (path .entry))) key root id ⌝ }
+fn remove_at(t: &mut [Row], path: &mut [PathStep], key: TreeKey, root: Link, id: u64) -> Rooted
+    ensures { λ r. ⌜ out r (table (now (t .exit))) ≡ index.removeAt (table (now (t .entry)))
+        (length (now (path .entry))) key root id ⌝ }
 {
     let Searched::Found { steps, links } = search(t, path, key, id, root) else {
         return Rooted::Damaged;
@@ -544,7 +532,7 @@ fn remove_at(
 }
 
 // A thread taken out of the tree under a root, by a path that is lent for the time of the call. After `Tree::remove`.
-pub fn remove(t: &mut [[u64; 32]], path: &mut [[u64; 2]; MAX_PATH], root: Link, id: u64) -> Rooted
+pub fn remove(t: &mut [Row], path: &mut Path, root: Link, id: u64) -> Rooted
     ensures { λ r. ⌜ out r (table (now (t .exit))) ≡ index.remove (table (now (t .entry))) root id ⌝ }
 {
     let KeyRead::Got(key) = key_at(t, id) else {

@@ -1,4 +1,5 @@
--- What a call on lent words leaves: document 01's number, 0 where it was accepted, and what the words stand for afterwards. A refusal leaves that as it was.
+-- What a call on lent words leaves: document 01's number, 0 where it was accepted, and what the words stand for
+-- afterwards. A refusal leaves that as it was.
 use Prim.Native.Nat.{ℕ}
 use Rattle.refusal.specs.Answer.{Answer, value, refused}
 use Rattle.policy.specs.declared.ParametersOption.{ParametersOption}

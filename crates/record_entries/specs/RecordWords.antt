@@ -14,23 +14,52 @@ use Rattle.policy.specs.declared.WeightOption.the-variants as weight
 use Rattle.budget.specs.declared.BudgetRuntime.{BudgetRuntime}
 use Rattle.algorithms.specs.declared.PolicyRuntime.{PolicyRuntime}
 use Rattle.algorithms.specs.declared.RuntimeKey.{RuntimeKey}
-use Rattle.policy_words.specs.PolicyWords.{word, epochFrom, policyFrom, runtimeFrom}
+use Rattle.policy_words.specs.PolicyWords.{word, policyTag, fifoPriority, epochFrom, policyFrom, runtimeFrom}
 
 -- Budget, period and burst.
+abbrev pub budgetNs : ℕ
+budgetNs = 0
+
+abbrev pub periodNs : ℕ
+periodNs = 1
+
+abbrev pub burstNs : ℕ
+burstNs = 2
+
 unfoldable pub budgetOf : List ℕ → BudgetParameters
-budgetOf w = record { «budget_ns» = word w 0; «period_ns» = word w 1; «burst_ns» = word w 2 }
+budgetOf w = record { «budget_ns» = word w budgetNs; «period_ns» = word w periodNs; «burst_ns» = word w burstNs }
 
--- The epoch's two words, what remains, what remains of the burst.
+-- The epoch's two words, what remains, what remains of the burst; and whether there is a runtime at all.
+abbrev pub epochTag : ℕ
+epochTag = 0
+
+abbrev pub epochWord : ℕ
+epochWord = 1
+
+abbrev pub timeLeft : ℕ
+timeLeft = 2
+
+abbrev pub burstLeft : ℕ
+burstLeft = 3
+
+abbrev pub runtimeThere : ℕ
+runtimeThere = 4
+
 unfoldable pub budgetRuntimeOf : List ℕ → BudgetRuntime
-budgetRuntimeOf w = record { epoch = epochFrom (word w 0) (word w 1); «remaining_ns» = word w 2; «burst_remaining_ns» = word w 3 }
+budgetRuntimeOf w =
+    record {
+      epoch = epochFrom (word w epochTag) (word w epochWord);
+      «remaining_ns» = word w timeLeft;
+      «burst_remaining_ns» = word w burstLeft;
+    }
 
--- A budget's runtime, or none where word 4 is 0.
+-- A budget's runtime, or none.
 unfoldable pub runtimeOptionOf : List ℕ → Option BudgetRuntime
-runtimeOptionOf w = ifEqual (word w 4) 0 none (some (budgetRuntimeOf w))
+runtimeOptionOf w = ifEqual (word w runtimeThere) 0 none (some (budgetRuntimeOf w))
 
 -- A policy's tag and its priority.
 abbrev pub policyOf : List ℕ → SchedulingPolicy
-policyOf w = policyFrom (word w 0) (word w 1)
+policyOf w = policyFrom (word w policyTag) (word w fifoPriority)
 
 -- A policy's runtime by itself: the words that stand at 11 to 15 of a row.
 abbrev pub policyRuntimeOf : List ℕ → PolicyRuntime
@@ -55,6 +84,7 @@ abbrev pub weightNumber : WeightOption → ℕ
 weightNumber (weight.Some w) = w .0
 weightNumber weight.None = 0
 
--- `ThreadPriority::HIGHEST`, `NORMAL` and `LOWEST`, `ThreadWeight::DEFAULT` and `MAX`, `BudgetParameters::MAX_PERIOD_NS`.
+-- `ThreadPriority::HIGHEST`, `NORMAL` and `LOWEST`, `ThreadWeight::DEFAULT` and `MAX`,
+-- `BudgetParameters::MAX_PERIOD_NS`.
 abbrev pub constants : List ℕ
 constants = 0 ∷ 128 ∷ 255 ∷ 16 ∷ 1024 ∷ 1000000000 ∷ []

@@ -1,14 +1,18 @@
-// C calls on lent words, through which the Rust host compares policies, budgets and runtimes with the kernel's source. Each is the call of its name on what the words
-// stand for. It answers document 01's number, 0 where the call was accepted; a refusal leaves what the lent words stand for as it was.
+// C calls on lent words, through which the Rust host compares policies, budgets and runtimes with the kernel's source.
+// Each is the call of its name on what the words stand for. It answers document 01's number, 0 where the call was
+// accepted; a refusal leaves what the lent words stand for as it was.
 ghost use mathlib.Core.Path.{_≡_};
-ghost use Rattle.policy_words.specs.PolicyWords.{word, parametersOf, runtimeOf, policyFrom, roleFrom, backendFrom, deadlineOf};
+ghost use Rattle.policy_words.specs.PolicyWords.{word, parametersOf, runtimeOf, policyFrom, roleFrom, backendFrom};
+ghost use Rattle.policy_words.specs.PolicyWords.{deadlineOf};
 ghost use Rattle.policy.specs.Budget.{newBudget, budgetMade};
 ghost use Rattle.policy.specs.Parameters.{newWeight, newFair, ofBudget, ofFifo, ofIdle, classOf, priorityOf};
 ghost use Rattle.budget.specs.Answers.{budgetAnswer, deadlineAnswer, budgetDeadline, reconfiguredAnswer};
 ghost use Rattle.budget.specs.Runtime as budgets;
 ghost use Rattle.algorithms.specs.Answers.{runtimeAnswer, runtimeDeadline};
 ghost use Rattle.algorithms.specs.Runtime as runtimes;
-ghost use Rattle.record_entries.specs.RecordWords.{budgetOf, budgetRuntimeOf, runtimeOptionOf, policyOf, policyRuntimeOf, runtimeKeyOf, priorityOptionOf, classNumber, weightNumber, constants};
+ghost use Rattle.record_entries.specs.RecordWords.{budgetOf, budgetRuntimeOf, runtimeOptionOf, policyOf};
+ghost use Rattle.record_entries.specs.RecordWords.{policyRuntimeOf, runtimeKeyOf, priorityOptionOf, classNumber};
+ghost use Rattle.record_entries.specs.RecordWords.{weightNumber, constants};
 ghost use Rattle.record_entries.specs.Entries.{told, toldOf, parametersTold};
 use algorithms::FairRuntime;
 use algorithms::PolicyRuntime;
@@ -32,6 +36,11 @@ use policy::SchedulingPolicy;
 use policy::ThreadPriority;
 use policy::ThreadWeight;
 use policy::WeightOption;
+use policy_words::FIFO_PRIORITY;
+use policy_words::POLICY_TAG;
+use policy_words::ParameterWords;
+use policy_words::PolicyRuntimeWords;
+use policy_words::Row;
 use policy_words::backend_from;
 use policy_words::epoch_from;
 use policy_words::parameters_of;
@@ -49,6 +58,25 @@ use policy_words::words_of_parameters;
 use policy_words::words_of_policy;
 use policy_words::words_of_runtime;
 
+// A budget's parameters, and its runtime.
+type BudgetWords = [u64; 3];
+
+const BUDGET: usize = 0;
+
+const PERIOD: usize = 1;
+
+const BURST: usize = 2;
+
+type RuntimeWords = [u64; 4];
+
+const EPOCH_TAG: usize = 0;
+
+const EPOCH: usize = 1;
+
+const TIME_LEFT: usize = 2;
+
+const BURST_LEFT: usize = 3;
+
 // BudgetParameters::new
 #[no_mangle]
 pub extern "C" fn budget_parameters_new(
@@ -57,7 +85,8 @@ pub extern "C" fn budget_parameters_new(
     burst_ns: u64,
     answer: &mut [u64; 3],
 ) -> u64
-    ensures { λ r. ⌜ told r (budgetOf (now (answer .exit))) ≡ toldOf (budgetOf (now (answer .entry))) (newBudget «budget_ns» «period_ns» «burst_ns») ⌝ }
+    ensures { λ r. ⌜ told r (budgetOf (now (answer .exit))) ≡ toldOf (budgetOf (now (answer .entry)))
+        (newBudget «budget_ns» «period_ns» «burst_ns») ⌝ }
 {
     let made = BudgetParameters::new(budget_ns, period_ns, burst_ns);
     match made {
@@ -90,7 +119,8 @@ pub extern "C" fn thread_priority_new(value: u8) -> u8
     made.get()
 }
 
-// The constants: the highest, the normal and the lowest priority, the default and the greatest weight, the longest period.
+// The constants: the highest, the normal and the lowest priority, the default and the greatest weight, the longest
+// period.
 #[no_mangle]
 pub extern "C" fn policy_constants(answer: &mut [u64; 6])
     ensures { λ r. ⌜ now (answer .exit) ≡ constants ⌝ }
@@ -129,7 +159,8 @@ pub extern "C" fn policy_fair(answer: &mut [u64; 2])
 // SchedulingPolicy::class and SchedulingPolicy::priority, on a policy's two words. The classes are 0 to 3.
 #[no_mangle]
 pub extern "C" fn policy_class_and_priority(tag: u64, priority: u64, answer: &mut [u64; 2]) -> u64
-    ensures { λ r. ⌜ told r (priorityOptionOf (now (answer .exit))) ≡ told (classNumber (classOf (policyFrom tag priority))) (priorityOf (policyFrom tag priority)) ⌝ }
+    ensures { λ r. ⌜ told r (priorityOptionOf (now (answer .exit)))
+        ≡ told (classNumber (classOf (policyFrom tag priority))) (priorityOf (policyFrom tag priority)) ⌝ }
 {
     let policy = policy_from(tag, priority);
     *answer = words_of_priority(policy.priority());
@@ -159,14 +190,15 @@ fn number_of_class(class: SchedulingClass) -> u64
 // SchedulingParameters::fair; the weight is taken as it is. 1 where parameters were made.
 #[no_mangle]
 pub extern "C" fn parameters_fair(
-    answer: &mut [u64; 11],
+    answer: &mut ParameterWords,
     weight: u16,
     quantum_ns: u64,
     band: u8,
     role: u64,
     backend: u64,
 ) -> u64
-    ensures { λ r. ⌜ told r (parametersOf (now (answer .exit))) ≡ parametersTold (parametersOf (now (answer .entry))) (newFair (record { 0 = weight }) «quantum_ns» (record { 0 = band }) (roleFrom role) (backendFrom backend)) ⌝ }
+    ensures { λ r. ⌜ told r (parametersOf (now (answer .exit))) ≡ parametersTold (parametersOf (now (answer .entry)))
+        (newFair (record { 0 = weight }) «quantum_ns» (record { 0 = band }) (roleFrom role) (backendFrom backend)) ⌝ }
 {
     let made = SchedulingParameters::fair(
         ThreadWeight(weight),
@@ -178,8 +210,9 @@ pub extern "C" fn parameters_fair(
     store_parameters(answer, made)
 }
 
-fn store_parameters(answer: &mut [u64; 11], made: ParametersOption) -> u64
-    ensures { λ r. ⌜ told r (parametersOf (now (answer .exit))) ≡ parametersTold (parametersOf (now (answer .entry))) made ⌝ }
+fn store_parameters(answer: &mut ParameterWords, made: ParametersOption) -> u64
+    ensures { λ r. ⌜ told r (parametersOf (now (answer .exit)))
+        ≡ parametersTold (parametersOf (now (answer .entry))) made ⌝ }
 {
     match made {
         ParametersOption::Some(parameters) => {
@@ -192,8 +225,14 @@ fn store_parameters(answer: &mut [u64; 11], made: ParametersOption) -> u64
 
 // SchedulingParameters::budget; the budget is taken as it is.
 #[no_mangle]
-pub extern "C" fn parameters_budget(answer: &mut [u64; 11], budget: &[u64; 3], band: u8, role: u64)
-    ensures { λ r. ⌜ parametersOf (now (answer .exit)) ≡ ofBudget (budgetOf (now (budget .entry))) (record { 0 = band }) (roleFrom role) ⌝ }
+pub extern "C" fn parameters_budget(
+    answer: &mut ParameterWords,
+    budget: &BudgetWords,
+    band: u8,
+    role: u64,
+)
+    ensures { λ r. ⌜ parametersOf (now (answer .exit)) ≡ ofBudget (budgetOf (now (budget .entry))) (record { 0 = band })
+        (roleFrom role) ⌝ }
 {
     *answer = words_of_parameters(SchedulingParameters::budget(
         budget_of(*budget),
@@ -204,8 +243,9 @@ pub extern "C" fn parameters_budget(answer: &mut [u64; 11], budget: &[u64; 3], b
 
 // SchedulingParameters::fifo
 #[no_mangle]
-pub extern "C" fn parameters_fifo(answer: &mut [u64; 11], priority: u8, band: u8, role: u64)
-    ensures { λ r. ⌜ parametersOf (now (answer .exit)) ≡ ofFifo (record { 0 = priority }) (record { 0 = band }) (roleFrom role) ⌝ }
+pub extern "C" fn parameters_fifo(answer: &mut ParameterWords, priority: u8, band: u8, role: u64)
+    ensures { λ r. ⌜ parametersOf (now (answer .exit)) ≡ ofFifo (record { 0 = priority }) (record { 0 = band })
+        (roleFrom role) ⌝ }
 {
     *answer = words_of_parameters(SchedulingParameters::fifo(
         ThreadPriority(priority),
@@ -216,7 +256,7 @@ pub extern "C" fn parameters_fifo(answer: &mut [u64; 11], priority: u8, band: u8
 
 // SchedulingParameters::idle
 #[no_mangle]
-pub extern "C" fn parameters_idle(answer: &mut [u64; 11])
+pub extern "C" fn parameters_idle(answer: &mut ParameterWords)
     ensures { λ r. ⌜ parametersOf (now (answer .exit)) ≡ ofIdle ⌝ }
 {
     *answer = words_of_parameters(SchedulingParameters::idle());
@@ -224,14 +264,14 @@ pub extern "C" fn parameters_idle(answer: &mut [u64; 11])
 
 // The seven readers of SchedulingParameters, each part as its own reader gives it.
 #[no_mangle]
-pub extern "C" fn parameters_read(row: &[u64; 32], answer: &mut [u64; 11])
+pub extern "C" fn parameters_read(row: &Row, answer: &mut ParameterWords)
     ensures { λ r. ⌜ parametersOf (now (answer .exit)) ≡ parametersOf (now (row .entry)) ⌝ }
 {
     let parameters = parameters_of(*row);
     *answer = words_of_readers(parameters);
 }
 
-fn words_of_readers(parameters: SchedulingParameters) -> [u64; 11]
+fn words_of_readers(parameters: SchedulingParameters) -> ParameterWords
     ensures { λ w. ⌜ parametersOf w ≡ parameters ⌝ }
 {
     let policy = words_of_policy(parameters.policy());
@@ -255,28 +295,28 @@ fn words_of_readers(parameters: SchedulingParameters) -> [u64; 11]
     ]
 }
 
-fn budget_of(w: [u64; 3]) -> BudgetParameters
+fn budget_of(w: BudgetWords) -> BudgetParameters
     ensures { λ r. ⌜ r ≡ budgetOf w ⌝ }
 {
     BudgetParameters {
-        budget_ns: w[0],
-        period_ns: w[1],
-        burst_ns: w[2],
+        budget_ns: w[BUDGET],
+        period_ns: w[PERIOD],
+        burst_ns: w[BURST],
     }
 }
 
-fn budget_runtime_of(w: [u64; 4]) -> BudgetRuntime
+fn budget_runtime_of(w: RuntimeWords) -> BudgetRuntime
     ensures { λ r. ⌜ r ≡ budgetRuntimeOf w ⌝ }
 {
-    let epoch = epoch_from(w[0], w[1]);
+    let epoch = epoch_from(w[EPOCH_TAG], w[EPOCH]);
     BudgetRuntime {
         epoch,
-        remaining_ns: w[2],
-        burst_remaining_ns: w[3],
+        remaining_ns: w[TIME_LEFT],
+        burst_remaining_ns: w[BURST_LEFT],
     }
 }
 
-fn words_of_budget_runtime(runtime: BudgetRuntime) -> [u64; 4]
+fn words_of_budget_runtime(runtime: BudgetRuntime) -> RuntimeWords
     ensures { λ w. ⌜ budgetRuntimeOf w ≡ runtime ⌝ }
 {
     let its_epoch = runtime.epoch;
@@ -289,8 +329,9 @@ fn words_of_budget_runtime(runtime: BudgetRuntime) -> [u64; 4]
     ]
 }
 
-fn store_budget_runtime(runtime: &mut [u64; 4], answer: BudgetAnswer) -> u64
-    ensures { λ r. ⌜ told r (budgetRuntimeOf (now (runtime .exit))) ≡ toldOf (budgetRuntimeOf (now (runtime .entry))) (budgetAnswer answer) ⌝ }
+fn store_budget_runtime(runtime: &mut RuntimeWords, answer: BudgetAnswer) -> u64
+    ensures { λ r. ⌜ told r (budgetRuntimeOf (now (runtime .exit))) ≡ toldOf (budgetRuntimeOf (now (runtime .entry)))
+        (budgetAnswer answer) ⌝ }
 {
     match answer {
         BudgetAnswer::Runtime(after) => {
@@ -302,7 +343,8 @@ fn store_budget_runtime(runtime: &mut [u64; 4], answer: BudgetAnswer) -> u64
 }
 
 fn store_deadline(answer: &mut [u64; 2], given: DeadlineAnswer) -> u64
-    ensures { λ r. ⌜ told r (deadlineOf (now (answer .exit))) ≡ toldOf (deadlineOf (now (answer .entry))) (deadlineAnswer given) ⌝ }
+    ensures { λ r. ⌜ told r (deadlineOf (now (answer .exit))) ≡ toldOf (deadlineOf (now (answer .entry)))
+        (deadlineAnswer given) ⌝ }
 {
     match given {
         DeadlineAnswer::Deadline(deadline) => {
@@ -315,8 +357,9 @@ fn store_deadline(answer: &mut [u64; 2], given: DeadlineAnswer) -> u64
 
 // BudgetRuntime::new
 #[no_mangle]
-pub extern "C" fn budget_new(runtime: &mut [u64; 4], budget: &[u64; 3]) -> u64
-    ensures { λ r. ⌜ told r (budgetRuntimeOf (now (runtime .exit))) ≡ toldOf (budgetRuntimeOf (now (runtime .entry))) (budgets.made (budgetOf (now (budget .entry)))) ⌝ }
+pub extern "C" fn budget_new(runtime: &mut RuntimeWords, budget: &BudgetWords) -> u64
+    ensures { λ r. ⌜ told r (budgetRuntimeOf (now (runtime .exit))) ≡ toldOf (budgetRuntimeOf (now (runtime .entry)))
+        (budgets.made (budgetOf (now (budget .entry)))) ⌝ }
 {
     let given = BudgetRuntime::new(budget_of(*budget));
     store_budget_runtime(runtime, given)
@@ -324,8 +367,13 @@ pub extern "C" fn budget_new(runtime: &mut [u64; 4], budget: &[u64; 3]) -> u64
 
 // BudgetRuntime::refresh
 #[no_mangle]
-pub extern "C" fn budget_refresh(runtime: &mut [u64; 4], now_ns: u64, budget: &[u64; 3]) -> u64
-    ensures { λ r. ⌜ told r (budgetRuntimeOf (now (runtime .exit))) ≡ toldOf (budgetRuntimeOf (now (runtime .entry))) (budgets.refreshedJudged (budgetRuntimeOf (now (runtime .entry))) «now_ns» (budgetOf (now (budget .entry)))) ⌝ }
+pub extern "C" fn budget_refresh(
+    runtime: &mut RuntimeWords,
+    now_ns: u64,
+    budget: &BudgetWords,
+) -> u64
+    ensures { λ r. ⌜ told r (budgetRuntimeOf (now (runtime .exit))) ≡ toldOf (budgetRuntimeOf (now (runtime .entry)))
+        (budgets.refreshedJudged (budgetRuntimeOf (now (runtime .entry))) «now_ns» (budgetOf (now (budget .entry)))) ⌝ }
 {
     let given = budget_runtime_of(*runtime).refresh(now_ns, budget_of(*budget));
     store_budget_runtime(runtime, given)
@@ -334,12 +382,14 @@ pub extern "C" fn budget_refresh(runtime: &mut [u64; 4], now_ns: u64, budget: &[
 // BudgetRuntime::account_interval
 #[no_mangle]
 pub extern "C" fn budget_account_interval(
-    runtime: &mut [u64; 4],
+    runtime: &mut RuntimeWords,
     start: u64,
     end: u64,
-    budget: &[u64; 3],
+    budget: &BudgetWords,
 ) -> u64
-    ensures { λ r. ⌜ told r (budgetRuntimeOf (now (runtime .exit))) ≡ toldOf (budgetRuntimeOf (now (runtime .entry))) (budgets.accountedInterval (budgetRuntimeOf (now (runtime .entry))) start end (budgetOf (now (budget .entry)))) ⌝ }
+    ensures { λ r. ⌜ told r (budgetRuntimeOf (now (runtime .exit))) ≡ toldOf (budgetRuntimeOf (now (runtime .entry)))
+        (budgets.accountedInterval (budgetRuntimeOf (now (runtime .entry))) start end
+        (budgetOf (now (budget .entry)))) ⌝ }
 {
     let given = budget_runtime_of(*runtime).account_interval(start, end, budget_of(*budget));
     store_budget_runtime(runtime, given)
@@ -347,8 +397,9 @@ pub extern "C" fn budget_account_interval(
 
 // BudgetRuntime::finish_turn
 #[no_mangle]
-pub extern "C" fn budget_finish_turn(runtime: &mut [u64; 4], budget: &[u64; 3]) -> u64
-    ensures { λ r. ⌜ told r (budgetRuntimeOf (now (runtime .exit))) ≡ toldOf (budgetRuntimeOf (now (runtime .entry))) (budgets.turnFinished (budgetRuntimeOf (now (runtime .entry))) (budgetOf (now (budget .entry)))) ⌝ }
+pub extern "C" fn budget_finish_turn(runtime: &mut RuntimeWords, budget: &BudgetWords) -> u64
+    ensures { λ r. ⌜ told r (budgetRuntimeOf (now (runtime .exit))) ≡ toldOf (budgetRuntimeOf (now (runtime .entry)))
+        (budgets.turnFinished (budgetRuntimeOf (now (runtime .entry))) (budgetOf (now (budget .entry)))) ⌝ }
 {
     let given = budget_runtime_of(*runtime).finish_turn(budget_of(*budget));
     store_budget_runtime(runtime, given)
@@ -358,21 +409,23 @@ pub extern "C" fn budget_finish_turn(runtime: &mut [u64; 4], budget: &[u64; 3]) 
 #[no_mangle]
 pub extern "C" fn budget_period_deadline(
     now_ns: u64,
-    budget: &[u64; 3],
+    budget: &BudgetWords,
     answer: &mut [u64; 2],
 ) -> u64
-    ensures { λ r. ⌜ told r (deadlineOf (now (answer .exit))) ≡ toldOf (deadlineOf (now (answer .entry))) (budgets.periodDeadline «now_ns» (budgetOf (now (budget .entry)))) ⌝ }
+    ensures { λ r. ⌜ told r (deadlineOf (now (answer .exit))) ≡ toldOf (deadlineOf (now (answer .entry)))
+        (budgets.periodDeadline «now_ns» (budgetOf (now (budget .entry)))) ⌝ }
 {
     let given = BudgetRuntime::period_deadline(now_ns, budget_of(*budget));
     store_deadline(answer, given)
 }
 
 fn store_budget_deadline(
-    runtime: &mut [u64; 4],
+    runtime: &mut RuntimeWords,
     answer: &mut [u64; 2],
     given: BudgetDeadline,
 ) -> u64
-    ensures { λ r. ⌜ told r (budgetRuntimeOf (now (runtime .exit)), deadlineOf (now (answer .exit))) ≡ toldOf (budgetRuntimeOf (now (runtime .entry)), deadlineOf (now (answer .entry))) (budgetDeadline given) ⌝ }
+    ensures { λ r. ⌜ told r (budgetRuntimeOf (now (runtime .exit)), deadlineOf (now (answer .exit)))
+        ≡ toldOf (budgetRuntimeOf (now (runtime .entry)), deadlineOf (now (answer .entry))) (budgetDeadline given) ⌝ }
 {
     match given {
         BudgetDeadline::Deadline(after, deadline) => {
@@ -387,13 +440,16 @@ fn store_budget_deadline(
 // BudgetRuntime::deadline
 #[no_mangle]
 pub extern "C" fn budget_deadline(
-    runtime: &mut [u64; 4],
+    runtime: &mut RuntimeWords,
     now_ns: u64,
-    budget: &[u64; 3],
+    budget: &BudgetWords,
     borrow: bool,
     answer: &mut [u64; 2],
 ) -> u64
-    ensures { λ r. ⌜ told r (budgetRuntimeOf (now (runtime .exit)), deadlineOf (now (answer .exit))) ≡ toldOf (budgetRuntimeOf (now (runtime .entry)), deadlineOf (now (answer .entry))) (budgets.deadlineJudged (budgetRuntimeOf (now (runtime .entry))) «now_ns» (budgetOf (now (budget .entry))) borrow) ⌝ }
+    ensures { λ r. ⌜ told r (budgetRuntimeOf (now (runtime .exit)), deadlineOf (now (answer .exit)))
+        ≡ toldOf (budgetRuntimeOf (now (runtime .entry)), deadlineOf (now (answer .entry)))
+        (budgets.deadlineJudged (budgetRuntimeOf (now (runtime .entry))) «now_ns»
+        (budgetOf (now (budget .entry))) borrow) ⌝ }
 {
     let given = budget_runtime_of(*runtime).deadline(now_ns, budget_of(*budget), borrow);
     store_budget_deadline(runtime, answer, given)
@@ -402,24 +458,27 @@ pub extern "C" fn budget_deadline(
 // BudgetRuntime::reconfigure; the answer's last word is 0 where the periods differ.
 #[no_mangle]
 pub extern "C" fn budget_reconfigure(
-    runtime: &[u64; 4],
-    old: &[u64; 3],
-    new: &[u64; 3],
-    answer: &mut [u64; 5],
+    runtime: &RuntimeWords,
+    old: &BudgetWords,
+    new: &BudgetWords,
+    answer: &mut PolicyRuntimeWords,
 ) -> u64
-    ensures { λ r. ⌜ told r (runtimeOptionOf (now (answer .exit))) ≡ toldOf (runtimeOptionOf (now (answer .entry))) (budgets.reconfiguredJudged (budgetRuntimeOf (now (runtime .entry))) (budgetOf (now (old .entry))) (budgetOf (now (new .entry)))) ⌝ }
+    ensures { λ r. ⌜ told r (runtimeOptionOf (now (answer .exit))) ≡ toldOf (runtimeOptionOf (now (answer .entry)))
+        (budgets.reconfiguredJudged (budgetRuntimeOf (now (runtime .entry))) (budgetOf (now (old .entry)))
+        (budgetOf (now (new .entry)))) ⌝ }
 {
     let given = budget_runtime_of(*runtime).reconfigure(budget_of(*old), budget_of(*new));
     store_reconfigured(answer, given)
 }
 
-fn store_reconfigured(answer: &mut [u64; 5], given: Reconfigured) -> u64
-    ensures { λ r. ⌜ told r (runtimeOptionOf (now (answer .exit))) ≡ toldOf (runtimeOptionOf (now (answer .entry))) (reconfiguredAnswer given) ⌝ }
+fn store_reconfigured(answer: &mut PolicyRuntimeWords, given: Reconfigured) -> u64
+    ensures { λ r. ⌜ told r (runtimeOptionOf (now (answer .exit))) ≡ toldOf (runtimeOptionOf (now (answer .entry)))
+        (reconfiguredAnswer given) ⌝ }
 {
     match given {
         Reconfigured::Changed(runtime) => {
             let w = words_of_budget_runtime(runtime);
-            *answer = [w[0], w[1], w[2], w[3], 1];
+            *answer = [w[EPOCH_TAG], w[EPOCH], w[TIME_LEFT], w[BURST_LEFT], 1];
             0
         }
         Reconfigured::OtherPeriod => {
@@ -430,8 +489,9 @@ fn store_reconfigured(answer: &mut [u64; 5], given: Reconfigured) -> u64
     }
 }
 
-fn store_runtime(answer: &mut [u64; 5], given: RuntimeAnswer) -> u64
-    ensures { λ r. ⌜ told r (policyRuntimeOf (now (answer .exit))) ≡ toldOf (policyRuntimeOf (now (answer .entry))) (runtimeAnswer given) ⌝ }
+fn store_runtime(answer: &mut PolicyRuntimeWords, given: RuntimeAnswer) -> u64
+    ensures { λ r. ⌜ told r (policyRuntimeOf (now (answer .exit))) ≡ toldOf (policyRuntimeOf (now (answer .entry)))
+        (runtimeAnswer given) ⌝ }
 {
     match given {
         RuntimeAnswer::Runtime(runtime) => {
@@ -445,13 +505,15 @@ fn store_runtime(answer: &mut [u64; 5], given: RuntimeAnswer) -> u64
 // PolicyRuntime::new, with what a fair thread starts with.
 #[no_mangle]
 pub extern "C" fn runtime_new(
-    row: &[u64; 32],
+    row: &Row,
     pass_high: u64,
     pass_low: u64,
     remaining_ns: u64,
-    answer: &mut [u64; 5],
+    answer: &mut PolicyRuntimeWords,
 ) -> u64
-    ensures { λ r. ⌜ told r (policyRuntimeOf (now (answer .exit))) ≡ toldOf (policyRuntimeOf (now (answer .entry))) (runtimes.made (parametersOf (now (row .entry))) (record { pass = record { high = «pass_high»; low = «pass_low» }; «remaining_ns» = «remaining_ns» })) ⌝ }
+    ensures { λ r. ⌜ told r (policyRuntimeOf (now (answer .exit))) ≡ toldOf (policyRuntimeOf (now (answer .entry)))
+        (runtimes.made (parametersOf (now (row .entry)))
+        (record { pass = record { high = «pass_high»; low = «pass_low» }; «remaining_ns» = «remaining_ns» })) ⌝ }
 {
     let fair = FairRuntime {
         pass: Wide {
@@ -467,12 +529,13 @@ pub extern "C" fn runtime_new(
 // PolicyRuntime::account
 #[no_mangle]
 pub extern "C" fn runtime_account(
-    row: &[u64; 32],
+    row: &Row,
     start: u64,
     end: u64,
-    answer: &mut [u64; 5],
+    answer: &mut PolicyRuntimeWords,
 ) -> u64
-    ensures { λ r. ⌜ told r (policyRuntimeOf (now (answer .exit))) ≡ toldOf (policyRuntimeOf (now (answer .entry))) (runtimes.accounted (runtimeOf (now (row .entry))) (parametersOf (now (row .entry))) start end) ⌝ }
+    ensures { λ r. ⌜ told r (policyRuntimeOf (now (answer .exit))) ≡ toldOf (policyRuntimeOf (now (answer .entry)))
+        (runtimes.accounted (runtimeOf (now (row .entry))) (parametersOf (now (row .entry))) start end) ⌝ }
 {
     let given = runtime_of(*row).account(parameters_of(*row), start, end);
     store_runtime(answer, given)
@@ -480,8 +543,13 @@ pub extern "C" fn runtime_account(
 
 // PolicyRuntime::epoch_refresh
 #[no_mangle]
-pub extern "C" fn runtime_epoch_refresh(row: &[u64; 32], now_ns: u64, answer: &mut [u64; 5]) -> u64
-    ensures { λ r. ⌜ told r (policyRuntimeOf (now (answer .exit))) ≡ toldOf (policyRuntimeOf (now (answer .entry))) (runtimes.epochRefreshed (runtimeOf (now (row .entry))) «now_ns» (parametersOf (now (row .entry)))) ⌝ }
+pub extern "C" fn runtime_epoch_refresh(
+    row: &Row,
+    now_ns: u64,
+    answer: &mut PolicyRuntimeWords,
+) -> u64
+    ensures { λ r. ⌜ told r (policyRuntimeOf (now (answer .exit))) ≡ toldOf (policyRuntimeOf (now (answer .entry)))
+        (runtimes.epochRefreshed (runtimeOf (now (row .entry))) «now_ns» (parametersOf (now (row .entry)))) ⌝ }
 {
     let given = runtime_of(*row).epoch_refresh(now_ns, parameters_of(*row));
     store_runtime(answer, given)
@@ -489,8 +557,9 @@ pub extern "C" fn runtime_epoch_refresh(row: &[u64; 32], now_ns: u64, answer: &m
 
 // PolicyRuntime::finish_turn
 #[no_mangle]
-pub extern "C" fn runtime_finish_turn(row: &[u64; 32], answer: &mut [u64; 5]) -> u64
-    ensures { λ r. ⌜ told r (policyRuntimeOf (now (answer .exit))) ≡ toldOf (policyRuntimeOf (now (answer .entry))) (runtimes.turnFinished (runtimeOf (now (row .entry))) (parametersOf (now (row .entry)))) ⌝ }
+pub extern "C" fn runtime_finish_turn(row: &Row, answer: &mut PolicyRuntimeWords) -> u64
+    ensures { λ r. ⌜ told r (policyRuntimeOf (now (answer .exit))) ≡ toldOf (policyRuntimeOf (now (answer .entry)))
+        (runtimes.turnFinished (runtimeOf (now (row .entry))) (parametersOf (now (row .entry)))) ⌝ }
 {
     let given = runtime_of(*row).finish_turn(parameters_of(*row));
     store_runtime(answer, given)
@@ -505,28 +574,33 @@ fn words_of_runtime_key(key: RuntimeKey) -> [u64; 3]
 
 // PolicyRuntime::candidate_key
 #[no_mangle]
-pub extern "C" fn runtime_candidate_key(row: &[u64; 32], turn: u64, answer: &mut [u64; 3])
-    ensures { λ r. ⌜ runtimeKeyOf (now (answer .exit)) ≡ runtimes.candidateKey (runtimeOf (now (row .entry))) (parametersOf (now (row .entry))) turn ⌝ }
+pub extern "C" fn runtime_candidate_key(row: &Row, turn: u64, answer: &mut [u64; 3])
+    ensures { λ r. ⌜ runtimeKeyOf (now (answer .exit)) ≡ runtimes.candidateKey (runtimeOf (now (row .entry)))
+        (parametersOf (now (row .entry))) turn ⌝ }
 {
     *answer = words_of_runtime_key(runtime_of(*row).candidate_key(parameters_of(*row), turn));
 }
 
 // Whether the row's runtime is of its policy's kind.
 #[no_mangle]
-pub extern "C" fn runtime_same_kind(row: &[u64; 32]) -> bool
+pub extern "C" fn runtime_same_kind(row: &Row) -> bool
     ensures { λ r. ⌜ r ≡ runtimes.sameKind (runtimeOf (now (row .entry))) (policyOf (now (row .entry))) ⌝ }
 {
     let words = *row;
     let runtime = runtime_of(words);
-    same_kind(runtime, policy_from(words[0], words[1]))
+    same_kind(
+        runtime,
+        policy_from(words[POLICY_TAG], words[FIFO_PRIORITY]),
+    )
 }
 
 fn store_runtime_deadline(
-    after: &mut [u64; 5],
+    after: &mut PolicyRuntimeWords,
     answer: &mut [u64; 2],
     given: RuntimeDeadline,
 ) -> u64
-    ensures { λ r. ⌜ told r (policyRuntimeOf (now (after .exit)), deadlineOf (now (answer .exit))) ≡ toldOf (policyRuntimeOf (now (after .entry)), deadlineOf (now (answer .entry))) (runtimeDeadline given) ⌝ }
+    ensures { λ r. ⌜ told r (policyRuntimeOf (now (after .exit)), deadlineOf (now (answer .exit)))
+        ≡ toldOf (policyRuntimeOf (now (after .entry)), deadlineOf (now (answer .entry))) (runtimeDeadline given) ⌝ }
 {
     match given {
         RuntimeDeadline::Deadline(runtime, deadline) => {
@@ -541,14 +615,17 @@ fn store_runtime_deadline(
 // PolicyRuntime::next_deadline
 #[no_mangle]
 pub extern "C" fn runtime_next_deadline(
-    row: &[u64; 32],
+    row: &Row,
     now_ns: u64,
     competition: bool,
     borrow: bool,
-    after: &mut [u64; 5],
+    after: &mut PolicyRuntimeWords,
     answer: &mut [u64; 2],
 ) -> u64
-    ensures { λ r. ⌜ told r (policyRuntimeOf (now (after .exit)), deadlineOf (now (answer .exit))) ≡ toldOf (policyRuntimeOf (now (after .entry)), deadlineOf (now (answer .entry))) (runtimes.nextDeadline (runtimeOf (now (row .entry))) «now_ns» (parametersOf (now (row .entry))) competition borrow) ⌝ }
+    ensures { λ r. ⌜ told r (policyRuntimeOf (now (after .exit)), deadlineOf (now (answer .exit)))
+        ≡ toldOf (policyRuntimeOf (now (after .entry)), deadlineOf (now (answer .entry)))
+        (runtimes.nextDeadline (runtimeOf (now (row .entry))) «now_ns»
+        (parametersOf (now (row .entry))) competition borrow) ⌝ }
 {
     let given = runtime_of(*row).next_deadline(now_ns, parameters_of(*row), competition, borrow);
     store_runtime_deadline(after, answer, given)

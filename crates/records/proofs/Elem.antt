@@ -1,4 +1,5 @@
--- What a derivation says of the element type of the slices, the struct `ThreadRecord`: the type, its two MIR types, the row of a local that holds one, its kinds as a parameter and as a result, and the laws that the rules ask.
+-- What a derivation says of the element type of the slices, the struct `ThreadRecord`: the type, its two MIR types, the
+-- row of a local that holds one, its kinds as a parameter and as a result, and the laws that the rules ask.
 use Prim.Native.Nat.{ℕ, zero}
 use mathlib.Core.Path.{refl}
 use mathlib.Core.List.{[]}
@@ -90,7 +91,9 @@ module _ {M : Type 1} (𝓤 : URA M) (H : Heap 𝓤) (A : Atoms 𝓤) (W : Given
   room = room-whole 𝓤 H A W T mir refl
 
   abbrev pub yields : Yields 𝓤 H A (λ (ρ : Rho). Unit {0}) (tyV Y) row row T (λ x. x) (λ x. x)
-  yields = yields-copy 𝓤 H A W (λ ρ. Unit) T refl (cp .copy 𝓤 H A W) row (λ x. x) (λ x. x) (λ ρ told. mem-in ρ) (λ ρ told. mem-of ρ)
+  yields =
+      yields-copy 𝓤 H A W (λ ρ. Unit) T refl (cp .copy 𝓤 H A W) row (λ x. x) (λ x. x) (λ ρ told. mem-in ρ)
+      (λ ρ told. mem-of ρ)
 
   abbrev pub lawful : Lawful 𝓤 H A T
   lawful = LL.lawful S.the-type L.the-laws 𝓤 H A W

@@ -1,4 +1,5 @@
--- What lending rows adds to a call on records: it is refused where there are fewer rows than records, and which rows it works on.
+-- What lending rows adds to a call on records: it is refused where there are fewer rows than records, and which rows it
+-- works on.
 use Prim.Native.Nat.{ℕ}
 use mathlib.Core.List.{List}
 use lib.ListN.{length}

@@ -1,10 +1,11 @@
-// The calls over a lent slice of thread records: a thin layer that copies the records to rows, which the caller lends too, makes the core's call on the rows and
-// copies the records back. The contracts have the core's definitions, over the caller's own records. Fewer rows than records is BadTable with nothing changed; more
-// than 4,096 records are copied, and the core's call is BadTable.
+// The calls over a lent slice of thread records: a thin layer that copies the records to rows, which the caller lends
+// too, makes the core's call on the rows and copies the records back. The contracts have the core's definitions, over
+// the caller's own records. Fewer rows than records is BadTable with nothing changed; more than 4,096 records are
+// copied, and the core's call is BadTable.
 ghost use mathlib.Core.Bool.{true, false};
 ghost use mathlib.Core.Path.{_≡_};
 ghost use lib.ListN.{length, take, drop};
-ghost use Rattle.refusal.specs.Answer.{refused};
+ghost use Rattle.refusal.specs.Answer.{refused, badTable};
 ghost use Rattle.arbitration.specs.Answers.{verdictOf, windowStep};
 ghost use Rattle.arbitration.specs.Calls.{with};
 ghost use Rattle.rows.specs.Table.{table, out};
@@ -20,14 +21,17 @@ ghost use Rattle.records.specs.Lent.{within, used};
 use arbitration::CpuWindow;
 use arbitration::DispatchMode;
 use arbitration::WindowStep;
+use codec::Row;
 use codec::decode;
 use codec::encode;
 use decisions::Turns;
 use demands::CandidateOption;
+use lent_queue::QueueRows;
 use lent_queue::enqueue_lent;
 use lent_queue::remove_lent;
 use lent_selection::peek_lent;
 use queue::Verdict;
+use ready_index::Path;
 use refusal::Refusal;
 use runtime::Prepared;
 use selection::PeekAnswer;
@@ -36,7 +40,7 @@ use thread::CpuIndex;
 use thread::ThreadId;
 use thread::ThreadRecord;
 
-fn to_rows(t: &[ThreadRecord], rows: &mut [[u64; 32]])
+fn to_rows(t: &[ThreadRecord], rows: &mut [Row])
     requires { ⌜ length (now rows) ≡ length (now t) ⌝ }
     ensures { λ r. ⌜ table (now (rows .exit)) ≡ now (t .entry) ⌝ }
 {
@@ -48,7 +52,7 @@ fn to_rows(t: &[ThreadRecord], rows: &mut [[u64; 32]])
     }
 }
 
-fn from_rows(t: &mut [ThreadRecord], rows: &[[u64; 32]])
+fn from_rows(t: &mut [ThreadRecord], rows: &[Row])
     requires { ⌜ length (now rows) ≡ length (now t) ⌝ }
     ensures { λ r. ⌜ now (t .exit) ≡ table (now (rows .entry)) ⌝ }
 {
@@ -62,17 +66,21 @@ fn from_rows(t: &mut [ThreadRecord], rows: &[[u64; 32]])
 
 // At the front or at the back.
 fn insert(
-    q: &mut [[u64; 5]; 270],
+    q: &mut QueueRows,
     t: &mut [ThreadRecord],
-    rows: &mut [[u64; 32]],
-    path: &mut [[u64; 2]; 40],
+    rows: &mut [Row],
+    path: &mut Path,
     id: ThreadId,
     cpu: CpuIndex,
     front: bool,
 ) -> Verdict
-    ensures { λ r. ⌜ out (step (verdictAnswer r) (queueOf (now (q .exit)))) (now (t .exit)) ≡ within (now (rows .entry)) (now (t .entry)) (step (refused 10) (queueOf (now (q .entry)))) (enqueueCall front (now (t .entry)) (queueOf (now (q .entry))) (id .0) cpu) ⌝ }
-    ensures { λ r. ⌜ drop (used (now (rows .entry)) (now (t .entry))) (now (rows .exit)) ≡ drop (used (now (rows .entry)) (now (t .entry))) (now (rows .entry)) ⌝ }
-    ensures { λ r. ⌜ table (take (used (now (rows .entry)) (now (t .entry))) (now (rows .exit))) ≡ take (used (now (rows .entry)) (now (t .entry))) (now (t .exit)) ⌝ }
+    ensures { λ r. ⌜ out (step (verdictAnswer r) (queueOf (now (q .exit)))) (now (t .exit))
+        ≡ within (now (rows .entry)) (now (t .entry)) (step (refused badTable) (queueOf (now (q .entry))))
+        (enqueueCall front (now (t .entry)) (queueOf (now (q .entry))) (id .0) cpu) ⌝ }
+    ensures { λ r. ⌜ drop (used (now (rows .entry)) (now (t .entry))) (now (rows .exit))
+        ≡ drop (used (now (rows .entry)) (now (t .entry))) (now (rows .entry)) ⌝ }
+    ensures { λ r. ⌜ table (take (used (now (rows .entry)) (now (t .entry))) (now (rows .exit)))
+        ≡ take (used (now (rows .entry)) (now (t .entry))) (now (t .exit)) ⌝ }
 {
     let n = t.len();
     if rows.len() < n {
@@ -86,46 +94,58 @@ fn insert(
 }
 
 pub fn enqueue(
-    q: &mut [[u64; 5]; 270],
+    q: &mut QueueRows,
     t: &mut [ThreadRecord],
-    rows: &mut [[u64; 32]],
-    path: &mut [[u64; 2]; 40],
+    rows: &mut [Row],
+    path: &mut Path,
     id: ThreadId,
     cpu: CpuIndex,
 ) -> Verdict
-    ensures { λ r. ⌜ out (step (verdictAnswer r) (queueOf (now (q .exit)))) (now (t .exit)) ≡ within (now (rows .entry)) (now (t .entry)) (step (refused 10) (queueOf (now (q .entry)))) (enqueueCall false (now (t .entry)) (queueOf (now (q .entry))) (id .0) cpu) ⌝ }
-    ensures { λ r. ⌜ drop (used (now (rows .entry)) (now (t .entry))) (now (rows .exit)) ≡ drop (used (now (rows .entry)) (now (t .entry))) (now (rows .entry)) ⌝ }
-    ensures { λ r. ⌜ table (take (used (now (rows .entry)) (now (t .entry))) (now (rows .exit))) ≡ take (used (now (rows .entry)) (now (t .entry))) (now (t .exit)) ⌝ }
+    ensures { λ r. ⌜ out (step (verdictAnswer r) (queueOf (now (q .exit)))) (now (t .exit))
+        ≡ within (now (rows .entry)) (now (t .entry)) (step (refused badTable) (queueOf (now (q .entry))))
+        (enqueueCall false (now (t .entry)) (queueOf (now (q .entry))) (id .0) cpu) ⌝ }
+    ensures { λ r. ⌜ drop (used (now (rows .entry)) (now (t .entry))) (now (rows .exit))
+        ≡ drop (used (now (rows .entry)) (now (t .entry))) (now (rows .entry)) ⌝ }
+    ensures { λ r. ⌜ table (take (used (now (rows .entry)) (now (t .entry))) (now (rows .exit)))
+        ≡ take (used (now (rows .entry)) (now (t .entry))) (now (t .exit)) ⌝ }
 {
     insert(q, t, rows, path, id, cpu, false)
 }
 
 pub fn enqueue_front(
-    q: &mut [[u64; 5]; 270],
+    q: &mut QueueRows,
     t: &mut [ThreadRecord],
-    rows: &mut [[u64; 32]],
-    path: &mut [[u64; 2]; 40],
+    rows: &mut [Row],
+    path: &mut Path,
     id: ThreadId,
     cpu: CpuIndex,
 ) -> Verdict
-    ensures { λ r. ⌜ out (step (verdictAnswer r) (queueOf (now (q .exit)))) (now (t .exit)) ≡ within (now (rows .entry)) (now (t .entry)) (step (refused 10) (queueOf (now (q .entry)))) (enqueueCall true (now (t .entry)) (queueOf (now (q .entry))) (id .0) cpu) ⌝ }
-    ensures { λ r. ⌜ drop (used (now (rows .entry)) (now (t .entry))) (now (rows .exit)) ≡ drop (used (now (rows .entry)) (now (t .entry))) (now (rows .entry)) ⌝ }
-    ensures { λ r. ⌜ table (take (used (now (rows .entry)) (now (t .entry))) (now (rows .exit))) ≡ take (used (now (rows .entry)) (now (t .entry))) (now (t .exit)) ⌝ }
+    ensures { λ r. ⌜ out (step (verdictAnswer r) (queueOf (now (q .exit)))) (now (t .exit))
+        ≡ within (now (rows .entry)) (now (t .entry)) (step (refused badTable) (queueOf (now (q .entry))))
+        (enqueueCall true (now (t .entry)) (queueOf (now (q .entry))) (id .0) cpu) ⌝ }
+    ensures { λ r. ⌜ drop (used (now (rows .entry)) (now (t .entry))) (now (rows .exit))
+        ≡ drop (used (now (rows .entry)) (now (t .entry))) (now (rows .entry)) ⌝ }
+    ensures { λ r. ⌜ table (take (used (now (rows .entry)) (now (t .entry))) (now (rows .exit)))
+        ≡ take (used (now (rows .entry)) (now (t .entry))) (now (t .exit)) ⌝ }
 {
     insert(q, t, rows, path, id, cpu, true)
 }
 
 pub fn remove(
-    q: &mut [[u64; 5]; 270],
+    q: &mut QueueRows,
     t: &mut [ThreadRecord],
-    rows: &mut [[u64; 32]],
-    path: &mut [[u64; 2]; 40],
+    rows: &mut [Row],
+    path: &mut Path,
     id: ThreadId,
     cpu: CpuIndex,
 ) -> Verdict
-    ensures { λ r. ⌜ out (step (verdictAnswer r) (queueOf (now (q .exit)))) (now (t .exit)) ≡ within (now (rows .entry)) (now (t .entry)) (step (refused 10) (queueOf (now (q .entry)))) (removeCall (now (t .entry)) (queueOf (now (q .entry))) (id .0) cpu) ⌝ }
-    ensures { λ r. ⌜ drop (used (now (rows .entry)) (now (t .entry))) (now (rows .exit)) ≡ drop (used (now (rows .entry)) (now (t .entry))) (now (rows .entry)) ⌝ }
-    ensures { λ r. ⌜ table (take (used (now (rows .entry)) (now (t .entry))) (now (rows .exit))) ≡ take (used (now (rows .entry)) (now (t .entry))) (now (t .exit)) ⌝ }
+    ensures { λ r. ⌜ out (step (verdictAnswer r) (queueOf (now (q .exit)))) (now (t .exit))
+        ≡ within (now (rows .entry)) (now (t .entry)) (step (refused badTable) (queueOf (now (q .entry))))
+        (removeCall (now (t .entry)) (queueOf (now (q .entry))) (id .0) cpu) ⌝ }
+    ensures { λ r. ⌜ drop (used (now (rows .entry)) (now (t .entry))) (now (rows .exit))
+        ≡ drop (used (now (rows .entry)) (now (t .entry))) (now (rows .entry)) ⌝ }
+    ensures { λ r. ⌜ table (take (used (now (rows .entry)) (now (t .entry))) (now (rows .exit)))
+        ≡ take (used (now (rows .entry)) (now (t .entry))) (now (t .exit)) ⌝ }
 {
     let n = t.len();
     if rows.len() < n {
@@ -140,18 +160,22 @@ pub fn remove(
 
 // Selection.
 pub fn peek_next(
-    q: &mut [[u64; 5]; 270],
+    q: &mut QueueRows,
     t: &mut [ThreadRecord],
-    rows: &mut [[u64; 32]],
-    path: &mut [[u64; 2]; 40],
+    rows: &mut [Row],
+    path: &mut Path,
     cpu: CpuIndex,
     reading: u64,
     window: CpuWindow,
     current: CandidateOption,
 ) -> WindowPeek
-    ensures { λ r. ⌜ out (peeked (peekAnswer (r .answer)) (r .window) (queueOf (now (q .exit)))) (now (t .exit)) ≡ within (now (rows .entry)) (now (t .entry)) (peeked (refused 10) window (queueOf (now (q .entry)))) (peekNext (now (t .entry)) (queueOf (now (q .entry))) cpu reading window current) ⌝ }
-    ensures { λ r. ⌜ drop (used (now (rows .entry)) (now (t .entry))) (now (rows .exit)) ≡ drop (used (now (rows .entry)) (now (t .entry))) (now (rows .entry)) ⌝ }
-    ensures { λ r. ⌜ table (take (used (now (rows .entry)) (now (t .entry))) (now (rows .exit))) ≡ take (used (now (rows .entry)) (now (t .entry))) (now (t .exit)) ⌝ }
+    ensures { λ r. ⌜ out (peeked (peekAnswer (r .answer)) (r .window) (queueOf (now (q .exit)))) (now (t .exit))
+        ≡ within (now (rows .entry)) (now (t .entry)) (peeked (refused badTable) window (queueOf (now (q .entry))))
+        (peekNext (now (t .entry)) (queueOf (now (q .entry))) cpu reading window current) ⌝ }
+    ensures { λ r. ⌜ drop (used (now (rows .entry)) (now (t .entry))) (now (rows .exit))
+        ≡ drop (used (now (rows .entry)) (now (t .entry))) (now (rows .entry)) ⌝ }
+    ensures { λ r. ⌜ table (take (used (now (rows .entry)) (now (t .entry))) (now (rows .exit)))
+        ≡ take (used (now (rows .entry)) (now (t .entry))) (now (t .exit)) ⌝ }
 {
     let n = t.len();
     if rows.len() < n {
@@ -169,15 +193,18 @@ pub fn peek_next(
 
 pub fn prepare_enqueue(
     t: &mut [ThreadRecord],
-    rows: &mut [[u64; 32]],
+    rows: &mut [Row],
     id: ThreadId,
     front: bool,
     reading: u64,
     turns: Turns,
 ) -> Prepared
-    ensures { λ r. ⌜ out (preparedAnswer r) (now (t .exit)) ≡ within (now (rows .entry)) (now (t .entry)) (counted (refused 10) turns) (prepareEnqueue (now (t .entry)) (id .0) front reading turns) ⌝ }
-    ensures { λ r. ⌜ drop (used (now (rows .entry)) (now (t .entry))) (now (rows .exit)) ≡ drop (used (now (rows .entry)) (now (t .entry))) (now (rows .entry)) ⌝ }
-    ensures { λ r. ⌜ table (take (used (now (rows .entry)) (now (t .entry))) (now (rows .exit))) ≡ take (used (now (rows .entry)) (now (t .entry))) (now (t .exit)) ⌝ }
+    ensures { λ r. ⌜ out (preparedAnswer r) (now (t .exit)) ≡ within (now (rows .entry)) (now (t .entry))
+        (counted (refused badTable) turns) (prepareEnqueue (now (t .entry)) (id .0) front reading turns) ⌝ }
+    ensures { λ r. ⌜ drop (used (now (rows .entry)) (now (t .entry))) (now (rows .exit))
+        ≡ drop (used (now (rows .entry)) (now (t .entry))) (now (rows .entry)) ⌝ }
+    ensures { λ r. ⌜ table (take (used (now (rows .entry)) (now (t .entry))) (now (rows .exit)))
+        ≡ take (used (now (rows .entry)) (now (t .entry))) (now (t .exit)) ⌝ }
 {
     let n = t.len();
     if rows.len() < n {
@@ -195,16 +222,19 @@ pub fn prepare_enqueue(
 
 pub fn account_current(
     t: &mut [ThreadRecord],
-    rows: &mut [[u64; 32]],
+    rows: &mut [Row],
     id: ThreadId,
     window: CpuWindow,
     mode: DispatchMode,
     start: u64,
     end: u64,
 ) -> WindowStep
-    ensures { λ r. ⌜ out (windowStep r) (now (t .exit)) ≡ within (now (rows .entry)) (now (t .entry)) (with (refused 10) window) (accountCurrent (now (t .entry)) (id .0) window mode start end) ⌝ }
-    ensures { λ r. ⌜ drop (used (now (rows .entry)) (now (t .entry))) (now (rows .exit)) ≡ drop (used (now (rows .entry)) (now (t .entry))) (now (rows .entry)) ⌝ }
-    ensures { λ r. ⌜ table (take (used (now (rows .entry)) (now (t .entry))) (now (rows .exit))) ≡ take (used (now (rows .entry)) (now (t .entry))) (now (t .exit)) ⌝ }
+    ensures { λ r. ⌜ out (windowStep r) (now (t .exit)) ≡ within (now (rows .entry)) (now (t .entry))
+        (with (refused badTable) window) (accountCurrent (now (t .entry)) (id .0) window mode start end) ⌝ }
+    ensures { λ r. ⌜ drop (used (now (rows .entry)) (now (t .entry))) (now (rows .exit))
+        ≡ drop (used (now (rows .entry)) (now (t .entry))) (now (rows .entry)) ⌝ }
+    ensures { λ r. ⌜ table (take (used (now (rows .entry)) (now (t .entry))) (now (rows .exit)))
+        ≡ take (used (now (rows .entry)) (now (t .entry))) (now (t .exit)) ⌝ }
 {
     let n = t.len();
     if rows.len() < n {
@@ -220,14 +250,13 @@ pub fn account_current(
     answer
 }
 
-pub fn finish_turn(
-    t: &mut [ThreadRecord],
-    rows: &mut [[u64; 32]],
-    id: ThreadId,
-) -> arbitration::Verdict
-    ensures { λ r. ⌜ out (verdictOf r) (now (t .exit)) ≡ within (now (rows .entry)) (now (t .entry)) (refused 10) (finishTurn (now (t .entry)) (id .0)) ⌝ }
-    ensures { λ r. ⌜ drop (used (now (rows .entry)) (now (t .entry))) (now (rows .exit)) ≡ drop (used (now (rows .entry)) (now (t .entry))) (now (rows .entry)) ⌝ }
-    ensures { λ r. ⌜ table (take (used (now (rows .entry)) (now (t .entry))) (now (rows .exit))) ≡ take (used (now (rows .entry)) (now (t .entry))) (now (t .exit)) ⌝ }
+pub fn finish_turn(t: &mut [ThreadRecord], rows: &mut [Row], id: ThreadId) -> arbitration::Verdict
+    ensures { λ r. ⌜ out (verdictOf r) (now (t .exit)) ≡ within (now (rows .entry)) (now (t .entry)) (refused badTable)
+        (finishTurn (now (t .entry)) (id .0)) ⌝ }
+    ensures { λ r. ⌜ drop (used (now (rows .entry)) (now (t .entry))) (now (rows .exit))
+        ≡ drop (used (now (rows .entry)) (now (t .entry))) (now (rows .entry)) ⌝ }
+    ensures { λ r. ⌜ table (take (used (now (rows .entry)) (now (t .entry))) (now (rows .exit)))
+        ≡ take (used (now (rows .entry)) (now (t .entry))) (now (t .exit)) ⌝ }
 {
     let n = t.len();
     if rows.len() < n {

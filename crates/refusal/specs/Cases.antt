@@ -1,4 +1,5 @@
--- Choosing by a test on numbers or by an answer's case. The functions stay shut in proofs, which go by the laws below each.
+-- Choosing by a test on numbers or by an answer's case. The functions stay shut in proofs, which go by the laws below
+-- each.
 use mathlib.Core.Path.{_≡_, refl, sym, _∙_}
 use mathlib.Core.Bool.{Bool, true, false, not}
 use Prim.Native.Nat.{ℕ, _<_, _≤_}
@@ -77,4 +78,5 @@ module _ {A B : Type 0} {y : Answer B} (f : A → Answer B) where
   unfolding andThen
   was-refused e h = rw (sym e) h
 
-pub ruleset cases = (holds, fails, holds-by-not, fails-by-not, less, not-less, equal, not-equal, is, went-on, was-refused)
+pub ruleset cases =
+    (holds, fails, holds-by-not, fails-by-not, less, not-less, equal, not-equal, is, went-on, was-refused)

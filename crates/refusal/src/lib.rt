@@ -16,6 +16,9 @@ pub enum Refusal {
     BadRecord,
 }
 
+// The number of the refusal that leaves a mark.
+pub const HALTED: u64 = 9;
+
 impl Refusal {
     // The refusal's number in document 01.
     pub fn number(self) -> u64
@@ -31,7 +34,7 @@ impl Refusal {
             Refusal::BadBudget => 6,
             Refusal::BackInTime => 7,
             Refusal::TurnsSpent => 8,
-            Refusal::Halted => 9,
+            Refusal::Halted => HALTED,
             Refusal::BadTable => 10,
             Refusal::BadRecord => 11,
         }

@@ -1,10 +1,7 @@
 -- What each answer of the crate stands for: document 01's number, or its values.
 use Prim.Native.Nat.{ℕ}
-use mathlib.Core.List.{List}
-use Rattle.refusal.specs.Answer.{Answer, value, refused, numberOf}
+use Rattle.refusal.specs.Answer.{Answer, value, refused, numberOf, damaged}
 use Rattle.thread.specs.declared.Link.{Link}
-use Rattle.queue.specs.declared.Root.{Root}
-use Rattle.queue.specs.Answers.{verdictAnswer}
 use Rattle.renewal.specs.declared.BudgetTrees.{BudgetTrees}
 use Rattle.renewal.specs.declared.HeadRead.{HeadRead}
 use Rattle.renewal.specs.declared.HeadRead.the-variants as head
@@ -12,9 +9,6 @@ use Rattle.renewal.specs.declared.Moved.{Moved}
 use Rattle.renewal.specs.declared.Moved.the-variants as move
 use Rattle.renewal.specs.declared.NextMove.{NextMove}
 use Rattle.renewal.specs.declared.NextMove.the-variants as next
-use Rattle.renewal.specs.declared.RolesStep.{RolesStep}
-use Rattle.renewal.specs.declared.PartsStep.{PartsStep}
-use Rattle.renewal.specs.declared.SelectionParts.{SelectionParts}
 use Rattle.renewal.specs.declared.RoleStep.{RoleStep}
 use Rattle.renewal.specs.declared.RoleStep.the-variants as role
 use Rattle.renewal.specs.Leaves.{Leaves, leaves}
@@ -22,7 +16,7 @@ use Rattle.renewal.specs.Steps.{Next, emptied, moved, stopped}
 
 abbrev pub headAnswer : HeadRead → Answer Link
 headAnswer (head.Head l) = value l
-headAnswer head.Damaged = refused 1
+headAnswer head.Damaged = refused damaged
 
 abbrev pub moveAnswer : Moved → Leaves (Unit {0}) BudgetTrees
 moveAnswer (move.Done trees) = leaves (value tt) trees
@@ -32,12 +26,6 @@ abbrev pub nextAnswer : NextMove → Next
 nextAnswer next.Emptied = emptied
 nextAnswer (next.Moved trees) = moved trees
 nextAnswer (next.Refused n trees) = stopped (numberOf n) trees
-
-abbrev pub rolesAnswer : RolesStep → Leaves (Unit {0}) (List Root)
-rolesAnswer s = leaves (verdictAnswer (s .answer)) (s .indices)
-
-abbrev pub partsAnswer : PartsStep → Leaves (Unit {0}) SelectionParts
-partsAnswer s = leaves (verdictAnswer (s .answer)) (s .parts)
 
 -- How many moves a role left.
 abbrev pub roleAnswer : RoleStep → Answer ℕ

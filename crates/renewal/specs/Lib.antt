@@ -1,8 +1,10 @@
+-- What selection touches of a queue.
+pub mod Parts
 -- What a step of selection leaves, and going by it.
 pub mod Leaves
 -- The change of period.
 pub mod Renewal
--- Twelve roots as rows of words.
+-- Roots as rows of words.
 pub mod RootRows
 -- Parts of it that have a function of their own.
 pub mod Steps

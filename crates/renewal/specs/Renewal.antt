@@ -1,10 +1,11 @@
--- The change of period: every thread of the exhausted trees is refreshed and filed as ready. After the first loop of `CpuRunQueue::peek_next`.
+-- The change of period: every thread of the exhausted trees is refreshed and filed as ready. After the first loop of
+-- `CpuRunQueue::peek_next`.
 use Prim.Native.Nat.{ℕ, zero, suc, _+_, _-_}
 use mathlib.Core.Bool.{Bool, true, false}
 use mathlib.Core.List.{List}
 use lib.Dec.{eqb}
 use lib.ListN.{length, getD, set}
-use Rattle.refusal.specs.Answer.{Answer, value, refused}
+use Rattle.refusal.specs.Answer.{Answer, value, refused, damaged, queueHalted, badRecord}
 use Rattle.refusal.specs.Cases.{choose, given}
 use Rattle.time.specs.declared.Epoch.{Epoch}
 use Rattle.time.specs.declared.Epoch.the-variants as epoch
@@ -26,43 +27,45 @@ use Rattle.ready_index.specs.Index as index
 use Rattle.queue.specs.declared.Root.{Root}
 use Rattle.queue.specs.Queue.{emptyRoot}
 use Rattle.renewal.specs.declared.BudgetTrees.{BudgetTrees}
-use Rattle.renewal.specs.declared.SelectionParts.{SelectionParts}
+use Rattle.renewal.specs.Parts.{SelectionParts}
 use Rattle.renewal.specs.Leaves.{Leaves, leaves, onLeaves}
 
 unfoldable pub leastLink : Least → Answer Link
 leastLink least.None = value link.None
 leastLink (least.Some i) = value (link.Some i)
-leastLink least.Damaged = refused 1
+leastLink least.Damaged = refused damaged
 
 -- The head of a tree, or none of an empty tree; an error on the way to it is Damaged.
 unfoldable pub headOf : List ThreadRecord → Link → Answer Link
 headOf t root = leastLink (index.first t root)
 
--- A record that was read: judged, then refreshed to now, and stored where it has a budget (`refresh_runtime`). The answer is the record as it then stands.
+-- A record that was read: judged, then refreshed to now, and stored where it has a budget (`refresh_runtime`). The
+-- answer is the record as it then stands.
 unfoldable pub refreshRecord : List ThreadRecord → ℕ → ThreadRecord → ℕ → Out (Answer ThreadRecord)
 refreshRecord t id r now =
-    choose (isBadRecord r) (out (refused 11) t)
+    choose (isBadRecord r) (out (refused badRecord) t)
     (onBudget (r .parameters .budget) (out (value r) t)
     (λ b. onAnswer (epochRefreshed (r .runtime) now (r .parameters))
-    (λ n. out (refused 11) t)
+    (λ n. out (refused badRecord) t)
     (λ x. out (value (withRuntime x r)) (after (setRuntime t id x)))))
 
 unfoldable pub refreshRuntime : List ThreadRecord → ℕ → ℕ → Out (Answer ThreadRecord)
-refreshRuntime t id now = onRecord (recordAt t id) (out (refused 1) t) (λ r. refreshRecord t id r now)
+refreshRuntime t id now = onRecord (recordAt t id) (out (refused damaged) t) (λ r. refreshRecord t id r now)
 
 abbrev pub budgetTrees : Link → Link → ℕ → BudgetTrees
 budgetTrees exhausted ready moves = record { exhausted = exhausted; ready = ready; moves = moves }
 
--- One thread out of the exhausted tree, refreshed, and into the ready one. Any error in a tree's removal or insertion is Halted.
+-- One thread out of the exhausted tree, refreshed, and into the ready one. Any error in a tree's removal or insertion
+-- is Halted.
 unfoldable pub moveOne : List ThreadRecord → BudgetTrees → ℕ → ℕ → Out (Leaves (Unit {0}) BudgetTrees)
 moveOne t trees id now =
     onRooted (index.remove t (trees .exhausted) id)
-    (λ t₁. out (leaves (refused 9) trees) t₁)
+    (λ t₁. out (leaves (refused queueHalted) trees) t₁)
     (λ rest t₁. onOut (refreshRuntime t₁ id now)
     (λ a t₂. onAnswer a
     (λ n. out (leaves (refused n) (budgetTrees rest (trees .ready) (trees .moves))) t₂)
     (λ r. onRooted (index.insert t₂ (trees .ready) id)
-    (λ t₃. out (leaves (refused 9) (budgetTrees rest (trees .ready) (trees .moves))) t₃)
+    (λ t₃. out (leaves (refused queueHalted) (budgetTrees rest (trees .ready) (trees .moves))) t₃)
     (λ top t₃. out (leaves (value tt) (budgetTrees rest top (trees .moves))) t₃))))
 
 -- Until the exhausted tree is empty, in so many moves at most: the move beyond is Damaged before its first store.
@@ -72,7 +75,7 @@ moveAll zero t exhausted ready now =
     (λ n. out (leaves (refused n) (budgetTrees exhausted ready 0)) t)
     (λ head. onLink head
     (out (leaves (value tt) (budgetTrees exhausted ready 0)) t)
-    (λ id. out (leaves (refused 1) (budgetTrees exhausted ready 0)) t))
+    (λ id. out (leaves (refused damaged) (budgetTrees exhausted ready 0)) t))
 moveAll (suc moves) t exhausted ready now =
     onAnswer (headOf t exhausted)
     (λ n. out (leaves (refused n) (budgetTrees exhausted ready (suc moves))) t)
@@ -88,7 +91,8 @@ rootAt roots k = getD roots k emptyRoot .root
 
 -- The roots of a role's budget trees stored back.
 unfoldable pub withTrees : List Root → ℕ → BudgetTrees → List Root
-withTrees roots role trees = set (set roots (9 + role) (record { root = trees .exhausted })) (6 + role) (record { root = trees .ready })
+withTrees roots role trees =
+    set (set roots (9 + role) (record { root = trees .exhausted })) (6 + role) (record { root = trees .ready })
 
 -- The last so many roles in turn, with so many moves left for all of them together.
 unfoldable pub renewRoles : ℕ → ℕ → List ThreadRecord → List Root → ℕ → Out (Leaves (Unit {0}) (List Root))
@@ -109,12 +113,14 @@ isEpoch (epoch.Some last) e = eqb last e
 unfoldable pub isHalt : ℕ → Bool
 isHalt n = eqb n 9
 
--- At any change of epoch, also backward or from none, all three roles in as many moves as there are records; then the epoch is stored. A refusal leaves the roots as
--- they were stored up to there, and the epoch as it was.
+-- At any change of epoch, also backward or from none, all three roles in as many moves as there are records; then the
+-- epoch is stored. A refusal leaves the roots as they were stored up to there, and the epoch as it was.
 unfoldable pub renew : List ThreadRecord → SelectionParts → ℕ → ℕ → Out (Leaves (Unit {0}) SelectionParts)
 renew t p now e =
     choose (isEpoch (p .«budget_epoch») e) (out (leaves (value tt) p) t)
     (onOut (renewRoles 3 (length t) t (p .indices) now)
     (λ s t₁. onLeaves s
-    (λ n roots. out (leaves (refused n) (record { indices = roots; «budget_epoch» = p .«budget_epoch»; halted = choose (isHalt n) true (p .halted) })) t₁)
-    (λ u roots. out (leaves (value tt) (record { indices = roots; «budget_epoch» = epoch.Some e; halted = p .halted })) t₁)))
+    (λ n roots. out (leaves (refused n)
+    (record { indices = roots; «budget_epoch» = p .«budget_epoch»; halted = choose (isHalt n) true (p .halted) })) t₁)
+    (λ u roots. out (leaves (value tt)
+    (record { indices = roots; «budget_epoch» = epoch.Some e; halted = p .halted })) t₁)))

@@ -1,4 +1,5 @@
--- Laws by which the functions of the change of period meet the definitions: r is what the call gave, x what its contract says of it.
+-- Laws by which the functions of the change of period meet the definitions: r is what the call gave, x what its
+-- contract says of it.
 use Prim.Native.Nat.{ℕ, zero, suc, _+_, _-_, _<_, _≤_}
 use native.Mathlib.Omega.{arith}
 use native.Mathlib.Numerals.{unary-clauses}
@@ -8,7 +9,7 @@ use mathlib.Core.List.{List, [], _∷_}
 use lib.Dec.{eqb}
 use lib.ListN.{length, length-map, getD, set}
 use borrow.Author.Tests.{eq-eqb, ne-eqb, eqb-true}
-use Rattle.refusal.specs.Answer.{Answer, value, refused, numberOf}
+use Rattle.refusal.specs.Answer.{Answer, value, refused, numberOf, damaged, queueHalted, badRecord}
 use Rattle.refusal.specs.declared.Refusal.{Refusal}
 use Rattle.refusal.specs.Cases.{never, choose, given, ifEqual}
 use Rattle.time.specs.declared.Epoch.{Epoch}
@@ -54,18 +55,21 @@ use Rattle.renewal.specs.declared.Moved.{Moved}
 use Rattle.renewal.specs.declared.Moved.the-variants as move
 use Rattle.renewal.specs.declared.NextMove.{NextMove}
 use Rattle.renewal.specs.declared.NextMove.the-variants as next
-use Rattle.renewal.specs.declared.SelectionParts.{SelectionParts}
 use Rattle.renewal.specs.Leaves.{Leaves, leaves, onLeaves}
 use Rattle.queue.specs.declared.Root.{Root}
 use Rattle.queue.specs.declared.Verdict.{Verdict}
 use Rattle.queue.specs.declared.Verdict.the-variants as verdict
 use Rattle.queue.specs.Answers.{verdictAnswer}
 use Rattle.queue.specs.Queue.{emptyRoot}
-use Rattle.queue.specs.RowJudgement.{kindFrom, badRow, budgetParameters, judged-by-tags, kind-of-two, budget-runs, without-budget, with-budget}
+use Rattle.queue.specs.RowJudgement.{kindFrom, badRow, budgetParameters, judged-by-tags, kind-of-two, budget-runs}
+use Rattle.queue.specs.RowJudgement.{without-budget, with-budget}
 use Rattle.renewal.specs.RootRows.{rootsOf}
-use Rattle.renewal.specs.Renewal.{leastLink, headOf, refreshRecord, refreshRuntime, budgetTrees, moveOne, moveAll, rootAt, withTrees, renewRoles, isEpoch, isHalt}
-use Rattle.renewal.specs.Steps.{refreshedStored, budgetRefreshed, rowRefreshed, runtimeRefreshed, refiled, Next, emptied, moved, stopped, onNext, nextMove, lastMove, roleRenewed}
+use Rattle.renewal.specs.Renewal.{leastLink, headOf, refreshRecord, refreshRuntime, budgetTrees, moveOne}
+use Rattle.renewal.specs.Renewal.{moveAll, rootAt, withTrees, renewRoles, isEpoch}
+use Rattle.renewal.specs.Steps.{refreshedStored, budgetRefreshed, rowRefreshed, runtimeRefreshed, refiled, Next}
+use Rattle.renewal.specs.Steps.{emptied, moved, stopped, onNext, nextMove, lastMove, roleRenewed}
 use Rattle.renewal.specs.Answers.{headAnswer, moveAnswer, nextAnswer, roleAnswer}
+use Rattle.policy_words.specs.PolicyWords.{policyTag, budgetTag, runtimeTag}
 
 -- By the least thread of a tree.
 module _ {y : Answer Link} {r x : Least} where
@@ -77,7 +81,7 @@ module _ {y : Answer Link} {r x : Least} where
   unfolding leastLink
   least-some e m h = rw (sym e ∙ m) h
 
-  pub least-damaged : r ≡ x → r ≡ least.Damaged → y ≡ refused 1 → y ≡ leastLink x
+  pub least-damaged : r ≡ x → r ≡ least.Damaged → y ≡ refused damaged → y ≡ leastLink x
   unfolding leastLink
   least-damaged e m h = rw (sym e ∙ m) h
 
@@ -112,20 +116,24 @@ module _ {B : Type 0} {y : B} {r : Verdict} (g : ℕ → B) (f : Unit {0} → B)
   was-turned-down m h = rw m h
 
 -- An answer and the table after a store.
-pub stored-after : {A B : Type 0} {a : A} {c : B} {t : List ThreadRecord} {x : Out B} → out c t ≡ x → out a t ≡ out a (after x)
+pub stored-after : {A B : Type 0} {a : A} {c : B} {t : List ThreadRecord} {x : Out B} → out c t ≡ x
+    → out a t ≡ out a (after x)
 stored-after s = rw (ap after s)
 
 -- By the budget that a row's words say.
 module _ {A : Type 0} {y : A} (w : List ℕ) (a : A) (f : BudgetParameters → A) where
-  pub row-has-none : word w 7 ≡ 0 → y ≡ a → y ≡ onBudget (decoded w .parameters .budget) a f
+  pub row-has-none : word w budgetTag ≡ 0 → y ≡ a → y ≡ onBudget (decoded w .parameters .budget) a f
   row-has-none m h = no-budget a f (without-budget w m) h
 
-  pub row-has-one : (word w 7 ≡ 0 → ⊥) → y ≡ f (budgetParameters w) → y ≡ onBudget (decoded w .parameters .budget) a f
+  pub row-has-one : (word w budgetTag ≡ 0 → ⊥) → y ≡ f (budgetParameters w)
+      → y ≡ onBudget (decoded w .parameters .budget) a f
   row-has-one m h = some-budget a f (with-budget w m) h
 
 -- The refresh of a row's runtime.
-pub row-fresh : {A : Type 0} {y : A} {p : SchedulingParameters} {r : PolicyRuntime} {a : Answer PolicyRuntime} (w : List ℕ) (now : ℕ) (f : Answer PolicyRuntime → A)
-    → p ≡ parametersOf w → r ≡ runtimeOf w → a ≡ epochRefreshed r now p → y ≡ f a → y ≡ given (epochRefreshed (decoded w .runtime) now (decoded w .parameters)) f
+pub row-fresh : {A : Type 0} {y : A} {p : SchedulingParameters} {r : PolicyRuntime} {a : Answer PolicyRuntime}
+    (w : List ℕ) (now : ℕ) (f : Answer PolicyRuntime → A)
+    → p ≡ parametersOf w → r ≡ runtimeOf w → a ≡ epochRefreshed r now p → y ≡ f a
+    → y ≡ given (epochRefreshed (decoded w .runtime) now (decoded w .parameters)) f
 unfolding decoded given
 row-fresh w now f e₁ e₂ e₃ h = rw (sym e₁, sym e₂, sym e₃) h
 
@@ -135,81 +143,126 @@ module _ {B : Type 0} {y : B} {r : Moved} (g : ℕ → BudgetTrees → B) (f : U
   unfolding onLeaves
   move-done m h = rw m h
 
-  pub move-refused : {n : Refusal} {trees : BudgetTrees} → r ≡ move.Refused n trees → y ≡ g (numberOf n) trees → y ≡ onLeaves (moveAnswer r) g f
+  pub move-refused : {n : Refusal} {trees : BudgetTrees} → r ≡ move.Refused n trees → y ≡ g (numberOf n) trees
+      → y ≡ onLeaves (moveAnswer r) g f
   unfolding onLeaves
   move-refused m h = rw m h
 
-pub ruleset renewing = (least-none, least-some, least-damaged, head-found, head-damaged, runtime-fresh, runtime-refused, was-accepted, was-turned-down, stored-after, row-has-none, row-has-one, row-fresh, move-done, move-refused)
+pub ruleset renewing = (
+  least-none,
+  least-some,
+  least-damaged,
+  head-found,
+  head-damaged,
+  runtime-fresh,
+  runtime-refused,
+  was-accepted,
+  was-turned-down,
+  stored-after,
+  row-has-none,
+  row-has-one,
+  row-fresh,
+  move-done,
+  move-refused,
+)
 
 -- A row whose policy and runtime have the same tag has one kind.
 module _ (w : List ℕ) where
-  plain-row : word w 11 ≡ word w 0 → (word w 11 ≡ 2 → ⊥) → isBadRecord (decoded w) ≡ ifEqual (word w 7) 0 false true
+  plain-row : word w runtimeTag ≡ word w policyTag → (word w runtimeTag ≡ 2 → ⊥)
+      → isBadRecord (decoded w) ≡ ifEqual (word w budgetTag) 0 false true
   unfolding badRow given ifEqual choose
   plain-row e n =
       sym (judged-by-tags w refl)
-      ∙ rw (sym e, eq-eqb (kindFrom (word w 11)) (kindFrom (word w 11)) refl, ne-eqb (kindFrom (word w 11)) 2 (λ q. n (kind-of-two (word w 11) q)))
+      ∙ rw (
+        sym e,
+        eq-eqb (kindFrom (word w runtimeTag)) (kindFrom (word w runtimeTag)) refl,
+        ne-eqb (kindFrom (word w runtimeTag)) 2 (λ q. n (kind-of-two (word w runtimeTag) q)),
+      )
 
-  budget-row : word w 11 ≡ word w 0 → word w 11 ≡ 2 → isBadRecord (decoded w) ≡ ifEqual (word w 7) 0 true (choose (soundBudget (budgetParameters w)) false true)
+  budget-row : word w runtimeTag ≡ word w policyTag → word w runtimeTag ≡ 2
+      → isBadRecord (decoded w) ≡ ifEqual (word w budgetTag) 0 true
+      (choose (soundBudget (budgetParameters w)) false true)
   unfolding badRow kindFrom given ifEqual choose
   budget-row e m = sym (judged-by-tags w refl) ∙ rw (sym e, m)
 
   -- Two different tags of one kind are not a budget's.
-  other-tags : (word w 11 ≡ word w 0 → ⊥) → isBadRecord (decoded w) ≡ false → word w 7 ≡ 0
+  other-tags : (word w runtimeTag ≡ word w policyTag → ⊥) → isBadRecord (decoded w) ≡ false → word w budgetTag ≡ 0
   unfolding badRow given ifEqual choose
-  other-tags d good = go (eqb (kindFrom (word w 11)) (kindFrom (word w 0))) (eqb (kindFrom (word w 0)) 2) (eqb (word w 7) 0) (soundBudget (budgetParameters w)) refl refl refl (judged-by-tags w refl ∙ good)
+  other-tags d good = go (eqb (kindFrom (word w runtimeTag)) (kindFrom (word w policyTag)))
+      (eqb (kindFrom (word w policyTag)) 2) (eqb (word w budgetTag) 0) (soundBudget (budgetParameters w)) refl refl refl
+      (judged-by-tags w refl ∙ good)
     where
-      go : (same two none sound : Bool) → eqb (kindFrom (word w 11)) (kindFrom (word w 0)) ≡ same → eqb (kindFrom (word w 0)) 2 ≡ two → eqb (word w 7) 0 ≡ none
-          → choose same (choose two (choose none true (choose sound false true)) (choose none false true)) true ≡ false → word w 7 ≡ 0
+      go : (same two none sound : Bool) → eqb (kindFrom (word w runtimeTag)) (kindFrom (word w policyTag)) ≡ same
+          → eqb (kindFrom (word w policyTag)) 2 ≡ two → eqb (word w budgetTag) 0 ≡ none
+          → choose same (choose two (choose none true (choose sound false true)) (choose none false true)) true ≡ false
+          → word w budgetTag ≡ 0
       go true true none sound e₁ e₂ e₃ h =
-          absurd (d (kind-of-two (word w 11) (eqb-true (kindFrom (word w 11)) (kindFrom (word w 0)) e₁ ∙ eqb-true (kindFrom (word w 0)) 2 e₂) ∙ sym (kind-of-two (word w 0) (eqb-true (kindFrom (word w 0)) 2 e₂))))
-      go true false true sound e₁ e₂ e₃ h = eqb-true (word w 7) 0 e₃
+          absurd (d (kind-of-two (word w runtimeTag)
+          (eqb-true (kindFrom (word w runtimeTag)) (kindFrom (word w policyTag)) e₁
+          ∙ eqb-true (kindFrom (word w policyTag)) 2 e₂)
+          ∙ sym (kind-of-two (word w policyTag) (eqb-true (kindFrom (word w policyTag)) 2 e₂))))
+      go true false true sound e₁ e₂ e₃ h = eqb-true (word w budgetTag) 0 e₃
       go true false false sound e₁ e₂ e₃ h = never cc
       go false two none sound e₁ e₂ e₃ h = never cc
 
   -- A budget that is not sound is refused by its refresh.
-  unsound : (t : List ThreadRecord) (id now : ℕ) → recordAt t id ≡ read.Got (decoded w) → (word w 7 ≡ 0 → ⊥) → word w 11 ≡ 2 → soundBudget (budgetParameters w) ≡ false → budgetRefreshed t id now ≡ out (refused 11) t
-  unfolding budgetRefreshed refreshedStored given onRecord epochRefreshed onRuntime onBudget refreshedJudged judged ofBudget choose onAnswer
+  unsound : (t : List ThreadRecord) (id now : ℕ) → recordAt t id ≡ read.Got (decoded w) → (word w budgetTag ≡ 0 → ⊥)
+      → word w runtimeTag ≡ 2 → soundBudget (budgetParameters w) ≡ false
+      → budgetRefreshed t id now ≡ out (refused badRecord) t
+  unfolding budgetRefreshed refreshedStored given onRecord epochRefreshed onRuntime onBudget refreshedJudged judged
+      ofBudget choose onAnswer
   unsound t id now got n m s = rw (got, budget-runs w m, with-budget w n, s)
 
 -- A row's record judged and refreshed, by the tags.
 module _ {y : Out (Answer (Unit {0}))} (t : List ThreadRecord) (id : ℕ) (w : List ℕ) (now : ℕ) where
-  pub row-without-budget : word w 11 ≡ word w 0 → word w 7 ≡ 0 → word w 11 ≡ 2 → y ≡ out (refused 11) t → y ≡ rowRefreshed t id (decoded w) now
+  pub row-without-budget : word w runtimeTag ≡ word w policyTag → word w budgetTag ≡ 0 → word w runtimeTag ≡ 2
+      → y ≡ out (refused badRecord) t → y ≡ rowRefreshed t id (decoded w) now
   unfolding rowRefreshed ifEqual choose
-  row-without-budget e n m h = rw (budget-row w e m, eq-eqb (word w 7) 0 n) h
+  row-without-budget e n m h = rw (budget-row w e m, eq-eqb (word w budgetTag) 0 n) h
 
-  pub row-plain : word w 11 ≡ word w 0 → word w 7 ≡ 0 → (word w 11 ≡ 2 → ⊥) → y ≡ out (value tt) t → y ≡ rowRefreshed t id (decoded w) now
+  pub row-plain : word w runtimeTag ≡ word w policyTag → word w budgetTag ≡ 0 → (word w runtimeTag ≡ 2 → ⊥)
+      → y ≡ out (value tt) t → y ≡ rowRefreshed t id (decoded w) now
   unfolding rowRefreshed ifEqual choose onBudget
-  row-plain e n m h = rw (plain-row w e m, eq-eqb (word w 7) 0 n, without-budget w n) h
+  row-plain e n m h = rw (plain-row w e m, eq-eqb (word w budgetTag) 0 n, without-budget w n) h
 
-  row-budget : recordAt t id ≡ read.Got (decoded w) → word w 11 ≡ word w 0 → (word w 7 ≡ 0 → ⊥) → word w 11 ≡ 2 → y ≡ budgetRefreshed t id now → y ≡ rowRefreshed t id (decoded w) now
+  row-budget : recordAt t id ≡ read.Got (decoded w) → word w runtimeTag ≡ word w policyTag → (word w budgetTag ≡ 0 → ⊥)
+      → word w runtimeTag ≡ 2 → y ≡ budgetRefreshed t id now → y ≡ rowRefreshed t id (decoded w) now
   unfolding rowRefreshed ifEqual choose onBudget
   row-budget got e n m h =
       h ∙ go (soundBudget (budgetParameters w)) refl
       ∙ sym
-      (ap (λ q. choose (isBadRecord (decoded w)) (out (refused 11) t) (onBudget q (out (value tt) t) (λ b. budgetRefreshed t id now))) (with-budget w n)
-      ∙ ap (λ bad. choose bad (out (refused 11) t) (budgetRefreshed t id now)) judged-bad)
+      (ap (λ q. choose (isBadRecord (decoded w)) (out (refused badRecord) t)
+      (onBudget q (out (value tt) t) (λ b. budgetRefreshed t id now))) (with-budget w n)
+      ∙ ap (λ bad. choose bad (out (refused badRecord) t) (budgetRefreshed t id now)) judged-bad)
     where
       judged-bad : isBadRecord (decoded w) ≡ choose (soundBudget (budgetParameters w)) false true
-      judged-bad = budget-row w e m ∙ rw (ne-eqb (word w 7) 0 n)
+      judged-bad = budget-row w e m ∙ rw (ne-eqb (word w budgetTag) 0 n)
 
-      go : (s : Bool) → soundBudget (budgetParameters w) ≡ s → budgetRefreshed t id now ≡ choose (choose s false true) (out (refused 11) t) (budgetRefreshed t id now)
+      go : (s : Bool) → soundBudget (budgetParameters w) ≡ s
+          → budgetRefreshed t id now ≡ choose (choose s false true) (out (refused badRecord) t)
+          (budgetRefreshed t id now)
       go true k = refl
       go false k = unsound w t id now got n m k
 
-  pub row-strange : word w 11 ≡ word w 0 → (word w 7 ≡ 0 → ⊥) → (word w 11 ≡ 2 → ⊥) → y ≡ out (refused 11) t → y ≡ rowRefreshed t id (decoded w) now
+  pub row-strange : word w runtimeTag ≡ word w policyTag → (word w budgetTag ≡ 0 → ⊥) → (word w runtimeTag ≡ 2 → ⊥)
+      → y ≡ out (refused badRecord) t → y ≡ rowRefreshed t id (decoded w) now
   unfolding rowRefreshed ifEqual choose
-  row-strange e n m h = rw (plain-row w e m, ne-eqb (word w 7) 0 n) h
+  row-strange e n m h = rw (plain-row w e m, ne-eqb (word w budgetTag) 0 n) h
 
-  pub row-bad : {b : Bool} → b ≡ isBadRecord (decoded w) → b ≡ true → y ≡ out (refused 11) t → y ≡ rowRefreshed t id (decoded w) now
+  pub row-bad : {b : Bool} → b ≡ isBadRecord (decoded w) → b ≡ true → y ≡ out (refused badRecord) t
+      → y ≡ rowRefreshed t id (decoded w) now
   unfolding rowRefreshed choose
   row-bad e m h = rw (sym e ∙ m) h
 
-  pub row-idle : {b : Bool} → (word w 11 ≡ word w 0 → ⊥) → b ≡ isBadRecord (decoded w) → b ≡ false → y ≡ out (value tt) t → y ≡ rowRefreshed t id (decoded w) now
+  pub row-idle : {b : Bool} → (word w runtimeTag ≡ word w policyTag → ⊥) → b ≡ isBadRecord (decoded w) → b ≡ false
+      → y ≡ out (value tt) t → y ≡ rowRefreshed t id (decoded w) now
   unfolding rowRefreshed choose onBudget
   row-idle d e m h = rw (sym e ∙ m, without-budget w (other-tags w d (sym e ∙ m))) h
 
-pub row-budget-inside : {y : Out (Answer (Unit {0}))} (rows : List (List ℕ)) (id now : ℕ) → id < length rows → word (getD rows id []) 11 ≡ word (getD rows id []) 0
-    → (word (getD rows id []) 7 ≡ 0 → ⊥) → word (getD rows id []) 11 ≡ 2 → y ≡ budgetRefreshed (table rows) id now → y ≡ rowRefreshed (table rows) id (decoded (getD rows id [])) now
+pub row-budget-inside : {y : Out (Answer (Unit {0}))} (rows : List (List ℕ)) (id now : ℕ) → id < length rows
+    → word (getD rows id []) runtimeTag ≡ word (getD rows id []) policyTag
+    → (word (getD rows id []) budgetTag ≡ 0 → ⊥) → word (getD rows id []) runtimeTag ≡ 2
+    → y ≡ budgetRefreshed (table rows) id now → y ≡ rowRefreshed (table rows) id (decoded (getD rows id [])) now
 row-budget-inside rows id now l = row-budget (table rows) id (getD rows id []) now (sym (record-inside rows id l refl))
 
 pub ruleset by-tags = (row-without-budget, row-plain, row-budget-inside, row-strange, row-bad, row-idle)
@@ -221,20 +274,26 @@ module _ (t : List ThreadRecord) (id now : ℕ) {r : ThreadRecord} (got : record
   the-record = ap (λ x. onRecord x r (λ s. s)) (sym (record-within t id (record-got-within t id got)) ∙ got)
 
   stands : (x : PolicyRuntime) → recordAt (after (setRuntime t id x)) id ≡ read.Got (withRuntime x r)
-  stands x = record-set-runtime-same t id x (record-got-within t id got) ∙ ap (λ s. read.Got (withRuntime x s)) the-record
+  stands x =
+      record-set-runtime-same t id x (record-got-within t id got) ∙ ap (λ s. read.Got (withRuntime x s)) the-record
 
-  pub refreshed-then : {B : Type 0} (g : ℕ → List ThreadRecord → B) (d : List ThreadRecord → B) (f : ThreadRecord → List ThreadRecord → B)
+  pub refreshed-then : {B : Type 0} (g : ℕ → List ThreadRecord → B) (d : List ThreadRecord → B)
+      (f : ThreadRecord → List ThreadRecord → B)
       → onOut (refreshRecord t id r now) (λ a t₁. onAnswer a (λ n. g n t₁) (λ s. f s t₁))
-      ≡ onOut (rowRefreshed t id r now) (λ a t₁. onAnswer a (λ n. g n t₁) (λ u. onRecord (recordAt t₁ id) (d t₁) (λ s. f s t₁)))
+      ≡ onOut (rowRefreshed t id r now)
+      (λ a t₁. onAnswer a (λ n. g n t₁) (λ u. onRecord (recordAt t₁ id) (d t₁) (λ s. f s t₁)))
   unfolding refreshRecord rowRefreshed budgetRefreshed refreshedStored given onRecord choose onBudget onAnswer onOut
-  refreshed-then {B} g d f = rw got (go (isBadRecord r) (r .parameters .budget) (epochRefreshed (r .runtime) now (r .parameters)))
+  refreshed-then {B} g d f =
+      rw got (go (isBadRecord r) (r .parameters .budget) (epochRefreshed (r .runtime) now (r .parameters)))
     where
       go : (bad : Bool) (b : BudgetOption) (a : Answer PolicyRuntime)
-          → onOut (choose bad (out (refused 11) t)
-          (onBudget b (out (value r) t) (λ q. onAnswer a (λ n. out (refused 11) t) (λ x. out (value (withRuntime x r)) (after (setRuntime t id x))))))
+          → onOut (choose bad (out (refused badRecord) t)
+          (onBudget b (out (value r) t) (λ q. onAnswer a (λ n. out (refused badRecord) t)
+          (λ x. out (value (withRuntime x r)) (after (setRuntime t id x))))))
           (λ a t₁. onAnswer a (λ n. g n t₁) (λ s. f s t₁))
-          ≡ onOut {A = Answer (Unit {0})} {B = B} (choose bad (out (refused 11) t)
-          (onBudget b (out (value (tt {0})) t) (λ q. onAnswer a (λ n. out (refused 11) t) (λ x. out (value (tt {0})) (after (setRuntime t id x))))))
+          ≡ onOut {A = Answer (Unit {0})} {B = B} (choose bad (out (refused badRecord) t)
+          (onBudget b (out (value (tt {0})) t)
+          (λ q. onAnswer a (λ n. out (refused badRecord) t) (λ x. out (value (tt {0})) (after (setRuntime t id x))))))
           (λ a t₁. onAnswer a (λ n. g n t₁) (λ u. onRecord (recordAt t₁ id) (d t₁) (λ s. f s t₁)))
       go true b a = refl
       go false budget.None a = rw got refl
@@ -242,13 +301,14 @@ module _ (t : List ThreadRecord) (id now : ℕ) {r : ThreadRecord} (got : record
       go false (budget.Some q) (value x) = rw (stands x) refl
 
 -- The second half of a move, as `moveOne` has it.
-pub refiled-so : {y : Out (Leaves (Unit {0}) BudgetTrees)} (t : List ThreadRecord) (trees : BudgetTrees) (id now : ℕ) → y ≡ refiled t trees id now
+pub refiled-so : {y : Out (Leaves (Unit {0}) BudgetTrees)} (t : List ThreadRecord) (trees : BudgetTrees) (id now : ℕ)
+    → y ≡ refiled t trees id now
     → y
     ≡ onOut (refreshRuntime t id now)
     (λ a t₂. onAnswer a
     (λ n. out (leaves (refused n) trees) t₂)
     (λ r. onRooted (index.insert t₂ (trees .ready) id)
-    (λ t₃. out (leaves (refused 9) trees) t₃)
+    (λ t₃. out (leaves (refused queueHalted) trees) t₃)
     (λ top t₃. out (leaves (value tt) (budgetTrees (trees .exhausted) top (trees .moves))) t₃)))
 unfolding refreshRuntime runtimeRefreshed onRecord onOut onAnswer
 refiled-so t trees id now h = h ∙ sym (go (recordAt t id) refl)
@@ -256,23 +316,29 @@ refiled-so t trees id now h = h ∙ sym (go (recordAt t id) refl)
     insertion : List ThreadRecord → Out (Leaves (Unit {0}) BudgetTrees)
     insertion t₂ =
         onRooted (index.insert t₂ (trees .ready) id)
-        (λ t₃. out (leaves (refused 9) trees) t₃)
+        (λ t₃. out (leaves (refused queueHalted) trees) t₃)
         (λ top t₃. out (leaves (value tt) (budgetTrees (trees .exhausted) top (trees .moves))) t₃)
 
-    either-way : (x : RecordRead) (t₁ : List ThreadRecord) → onRecord x (insertion t₁) (λ s. insertion t₁) ≡ insertion t₁
+    either-way : (x : RecordRead) (t₁ : List ThreadRecord)
+        → onRecord x (insertion t₁) (λ s. insertion t₁) ≡ insertion t₁
     either-way (read.Got s) t₁ = refl
     either-way read.Damaged t₁ = refl
 
     all-ways : (x : Out (Answer (Unit {0})))
-        → onOut x (λ a t₁. onAnswer a (λ n. out (leaves (refused n) trees) t₁) (λ u. onRecord (recordAt t₁ id) (insertion t₁) (λ s. insertion t₁)))
+        → onOut x (λ a t₁. onAnswer a (λ n. out (leaves (refused n) trees) t₁)
+        (λ u. onRecord (recordAt t₁ id) (insertion t₁) (λ s. insertion t₁)))
         ≡ onOut x (λ a t₁. onAnswer a (λ n. out (leaves (refused n) trees) t₁) (λ u. insertion t₁))
     all-ways (out (value u) t₁) = either-way (recordAt t₁ id) t₁
     all-ways (out (refused n) t₁) = refl
 
     go : (x : RecordRead) → recordAt t id ≡ x
-        → onOut (onRecord x (out (refused 1) t) (λ r. refreshRecord t id r now)) (λ a t₂. onAnswer a (λ n. out (leaves (refused n) trees) t₂) (λ r. insertion t₂))
-        ≡ onOut (onRecord x (out (refused 1) t) (λ r. rowRefreshed t id r now)) (λ a t₂. onAnswer a (λ n. out (leaves (refused n) trees) t₂) (λ u. insertion t₂))
-    go (read.Got r) e = refreshed-then t id now e (λ n t₁. out (leaves (refused n) trees) t₁) insertion (λ s t₁. insertion t₁) ∙ all-ways (rowRefreshed t id r now)
+        → onOut (onRecord x (out (refused damaged) t) (λ r. refreshRecord t id r now))
+        (λ a t₂. onAnswer a (λ n. out (leaves (refused n) trees) t₂) (λ r. insertion t₂))
+        ≡ onOut (onRecord x (out (refused damaged) t) (λ r. rowRefreshed t id r now))
+        (λ a t₂. onAnswer a (λ n. out (leaves (refused n) trees) t₂) (λ u. insertion t₂))
+    go (read.Got r) e =
+        refreshed-then t id now e (λ n t₁. out (leaves (refused n) trees) t₁) insertion (λ s t₁. insertion t₁)
+        ∙ all-ways (rowRefreshed t id r now)
     go read.Damaged e = refl
 
 -- The moves that are left go by the next move.
@@ -290,8 +356,10 @@ module _ (t : List ThreadRecord) (exhausted ready : Link) (now : ℕ) where
   move-step (suc n) h = simp unary-clauses (go (headOf t exhausted))
     where
       worked : (x : Out (Leaves (Unit {0}) BudgetTrees))
-          → onOut x (λ s t₁. onLeaves s (λ k trees. out (leaves (refused k) trees) t₁) (λ u trees. moveAll n t₁ (trees .exhausted) (trees .ready) now))
-          ≡ onNext (onOut x (λ s t₁. onLeaves s (λ k trees. out (stopped k trees) t₁) (λ u trees. out (moved trees) t₁)))
+          → onOut x (λ s t₁. onLeaves s (λ k trees. out (leaves (refused k) trees) t₁)
+          (λ u trees. moveAll n t₁ (trees .exhausted) (trees .ready) now))
+          ≡ onNext (onOut x (λ s t₁. onLeaves s (λ k trees. out (stopped k trees) t₁)
+          (λ u trees. out (moved trees) t₁)))
           (λ t₁. out (leaves (value tt) (budgetTrees exhausted ready (suc n))) t₁)
           (λ trees t₁. moveAll n t₁ (trees .exhausted) (trees .ready) now)
           (λ k trees t₁. out (leaves (refused k) trees) t₁)
@@ -328,17 +396,20 @@ module _ (t : List ThreadRecord) (exhausted ready : Link) (now : ℕ) where
     unfolding onNext
     moves-emptied p e m h = rw (move-step n p, sym e, m) h
 
-    pub moves-moved : {trees : BudgetTrees} → 0 < n → out (nextAnswer r) t₁ ≡ nextMove n t exhausted ready now → r ≡ next.Moved trees
+    pub moves-moved : {trees : BudgetTrees} → 0 < n → out (nextAnswer r) t₁ ≡ nextMove n t exhausted ready now
+        → r ≡ next.Moved trees
         → y ≡ moveAll (n - 1) t₁ (trees .exhausted) (trees .ready) now → y ≡ moveAll n t exhausted ready now
     unfolding onNext
     moves-moved p e m h = rw (move-step n p, sym e, m) h
 
-    pub moves-stopped : {k : Refusal} {trees : BudgetTrees} → 0 < n → out (nextAnswer r) t₁ ≡ nextMove n t exhausted ready now → r ≡ next.Refused k trees
+    pub moves-stopped : {k : Refusal} {trees : BudgetTrees} → 0 < n
+        → out (nextAnswer r) t₁ ≡ nextMove n t exhausted ready now → r ≡ next.Refused k trees
         → y ≡ out (leaves (refused (numberOf k)) trees) t₁ → y ≡ moveAll n t exhausted ready now
     unfolding onNext
     moves-stopped p e m h = rw (move-step n p, sym e, m) h
 
-  pub moves-spent : {y : Out (Leaves (Unit {0}) BudgetTrees)} (n : ℕ) → n ≤ 0 → y ≡ lastMove t exhausted ready → y ≡ moveAll n t exhausted ready now
+  pub moves-spent : {y : Out (Leaves (Unit {0}) BudgetTrees)} (n : ℕ) → n ≤ 0 → y ≡ lastMove t exhausted ready
+      → y ≡ moveAll n t exhausted ready now
   unfolding moveAll lastMove
   moves-spent zero p h = h
   moves-spent (suc n) p h = absurd (omega arith)
@@ -351,7 +422,8 @@ set-same [] k d = refl
 set-same (x ∷ l) zero d = refl
 set-same {A} (x ∷ l) (suc k) d = ap {B = List A} (λ r. x ∷ r) (set-same l k d)
 
-no-exhausted : (moves : ℕ) (t : List ThreadRecord) (ready : Link) (now : ℕ) → moveAll moves t link.None ready now ≡ out (leaves (value tt) (budgetTrees link.None ready moves)) t
+no-exhausted : (moves : ℕ) (t : List ThreadRecord) (ready : Link) (now : ℕ)
+    → moveAll moves t link.None ready now ≡ out (leaves (value tt) (budgetTrees link.None ready moves)) t
 unfolding moveAll headOf index.first leastLink onAnswer onLink
 no-exhausted zero t ready now = refl
 no-exhausted (suc moves) t ready now = refl
@@ -360,36 +432,46 @@ module _ (rows : List (List ℕ)) (role moves : ℕ) (t : List ThreadRecord) (no
   abbrev theRoots : List Root
   theRoots = rootsOf rows
 
-  same-trees : (spent : Link) → spent ≡ rootAt theRoots (9 + role) → withTrees theRoots role (budgetTrees spent (rootAt theRoots (6 + role)) moves) ≡ theRoots
+  same-trees : (spent : Link) → spent ≡ rootAt theRoots (9 + role)
+      → withTrees theRoots role (budgetTrees spent (rootAt theRoots (6 + role)) moves) ≡ theRoots
   unfolding withTrees
   same-trees spent e =
-      ap (λ (x : Link). set (set theRoots (9 + role) (record { root = x })) (6 + role) (record { root = rootAt theRoots (6 + role) })) e
-      ∙ ap (λ (l : List Root). set l (6 + role) (record { root = rootAt theRoots (6 + role) })) (set-same theRoots (9 + role) emptyRoot)
+      ap (λ (x : Link). set (set theRoots (9 + role) (record { root = x })) (6 + role)
+      (record { root = rootAt theRoots (6 + role) })) e
+      ∙ ap (λ (l : List Root). set l (6 + role) (record { root = rootAt theRoots (6 + role) }))
+      (set-same theRoots (9 + role) emptyRoot)
       ∙ set-same theRoots (6 + role) emptyRoot
 
   -- An empty exhausted tree is passed over.
-  pub role-empty : {exhausted : Link} {r : Bool} → exhausted ≡ rootAt (rootsOf rows) (9 + role) → r ≡ isNone exhausted → r ≡ true
+  pub role-empty : {exhausted : Link} {r : Bool} → exhausted ≡ rootAt (rootsOf rows) (9 + role) → r ≡ isNone exhausted
+      → r ≡ true
       → out (leaves (value moves) (rootsOf rows)) t ≡ roleRenewed role moves t (rootsOf rows) now
   unfolding roleRenewed onOut onLeaves
   role-empty {exhausted} e test h =
       let none : link.None ≡ rootAt theRoots (9 + role) = sym (is-none-true exhausted (sym test ∙ h)) ∙ e in
-      rw (sym none, no-exhausted moves t (rootAt theRoots (6 + role)) now) (ap (λ l. out (leaves (value moves) l) t) (sym (same-trees link.None none)))
+      rw (sym none, no-exhausted moves t (rootAt theRoots (6 + role)) now)
+      (ap (λ l. out (leaves (value moves) l) t) (sym (same-trees link.None none)))
 
-  module _ {s : Moved} {exhausted ready : Link} {t₁ : List ThreadRecord} {trees : BudgetTrees} {roots₁ : List Root} where
+  module _ {s : Moved} {exhausted ready : Link} {t₁ : List ThreadRecord} {trees : BudgetTrees}
+      {roots₁ : List Root} where
     pub role-moved : exhausted ≡ rootAt (rootsOf rows) (9 + role) → ready ≡ rootAt (rootsOf rows) (6 + role)
-        → out (moveAnswer s) t₁ ≡ moveAll moves t exhausted ready now → s ≡ move.Done trees → roots₁ ≡ withTrees (rootsOf rows) role trees
+        → out (moveAnswer s) t₁ ≡ moveAll moves t exhausted ready now → s ≡ move.Done trees
+        → roots₁ ≡ withTrees (rootsOf rows) role trees
         → out (leaves (value (trees .moves)) roots₁) t₁ ≡ roleRenewed role moves t (rootsOf rows) now
     unfolding roleRenewed onOut onLeaves
     role-moved a b e m w = rw (sym a, sym b, sym e, m, w)
 
-    pub role-stopped : {k : Refusal} → exhausted ≡ rootAt (rootsOf rows) (9 + role) → ready ≡ rootAt (rootsOf rows) (6 + role)
-        → out (moveAnswer s) t₁ ≡ moveAll moves t exhausted ready now → s ≡ move.Refused k trees → roots₁ ≡ withTrees (rootsOf rows) role trees
+    pub role-stopped : {k : Refusal} → exhausted ≡ rootAt (rootsOf rows) (9 + role)
+        → ready ≡ rootAt (rootsOf rows) (6 + role)
+        → out (moveAnswer s) t₁ ≡ moveAll moves t exhausted ready now → s ≡ move.Refused k trees
+        → roots₁ ≡ withTrees (rootsOf rows) role trees
         → out (leaves (refused (numberOf k)) roots₁) t₁ ≡ roleRenewed role moves t (rootsOf rows) now
     unfolding roleRenewed onOut onLeaves
     role-stopped a b e m w = rw (sym a, sym b, sym e, m, w)
 
 -- Two roots stored one after the other.
-pub trees-stored : {l₁ l₂ : List Root} (l : List Root) (role : ℕ) (trees : BudgetTrees) → l₁ ≡ set l (9 + role) (record { root = trees .exhausted })
+pub trees-stored : {l₁ l₂ : List Root} (l : List Root) (role : ℕ) (trees : BudgetTrees)
+    → l₁ ≡ set l (9 + role) (record { root = trees .exhausted })
     → l₂ ≡ set l₁ (6 + role) (record { root = trees .ready }) → l₂ ≡ withTrees l role trees
 unfolding withTrees
 trees-stored l role trees e₁ e₂ = rw (e₂, e₁)
@@ -400,7 +482,8 @@ pub ruleset one-role = (role-empty, role-moved, role-stopped, trees-stored)
 module _ (t : List ThreadRecord) (moves : ℕ) (roots : List Root) (now : ℕ) where
   roles-next : (n : ℕ)
       → renewRoles (suc n) moves t roots now
-      ≡ onOut (roleRenewed (2 - n) moves t roots now) (λ s t₁. onLeaves s (λ k l. out (leaves (refused k) l) t₁) (λ m l. renewRoles n m t₁ l now))
+      ≡ onOut (roleRenewed (2 - n) moves t roots now)
+      (λ s t₁. onLeaves s (λ k l. out (leaves (refused k) l) t₁) (λ m l. renewRoles n m t₁ l now))
   unfolding renewRoles roleRenewed given onOut onLeaves
   roles-next n = go (moveAll moves t (rootAt roots (9 + (2 - n))) (rootAt roots (6 + (2 - n))) now)
     where
@@ -419,39 +502,41 @@ module _ (t : List ThreadRecord) (moves : ℕ) (roots : List Root) (now : ℕ) w
 
   roles-step : (n : ℕ) → 0 < n
       → renewRoles n moves t roots now
-      ≡ onOut (roleRenewed (3 - n) moves t roots now) (λ s t₁. onLeaves s (λ k l. out (leaves (refused k) l) t₁) (λ m l. renewRoles (n - 1) m t₁ l now))
+      ≡ onOut (roleRenewed (3 - n) moves t roots now)
+      (λ s t₁. onLeaves s (λ k l. out (leaves (refused k) l) t₁) (λ m l. renewRoles (n - 1) m t₁ l now))
   roles-step zero h = absurd (omega arith)
   roles-step (suc n) h =
       let role : 3 - suc n ≡ 2 - n = omega arith in
       let one : suc n - 1 ≡ n = omega arith in
       rw (role, one) (roles-next n)
 
-  module _ {y : Out (Leaves (Unit {0}) (List Root))} {s : RoleStep} {t₁ : List ThreadRecord} {roots₁ : List Root} (n : ℕ) where
-    pub role-done : {m : ℕ} → 0 < n → out (leaves (roleAnswer s) roots₁) t₁ ≡ roleRenewed (3 - n) moves t roots now → s ≡ role.Done m
+  module _ {y : Out (Leaves (Unit {0}) (List Root))} {s : RoleStep} {t₁ : List ThreadRecord} {roots₁ : List Root}
+      (n : ℕ) where
+    pub role-done : {m : ℕ} → 0 < n → out (leaves (roleAnswer s) roots₁) t₁ ≡ roleRenewed (3 - n) moves t roots now
+        → s ≡ role.Done m
         → y ≡ renewRoles (n - 1) m t₁ roots₁ now → y ≡ renewRoles n moves t roots now
     unfolding onOut onLeaves
     role-done p e m h = rw (roles-step n p, sym e, m) h
 
-    pub role-refused : {k : Refusal} → 0 < n → out (leaves (roleAnswer s) roots₁) t₁ ≡ roleRenewed (3 - n) moves t roots now → s ≡ role.Refused k
+    pub role-refused : {k : Refusal} → 0 < n
+        → out (leaves (roleAnswer s) roots₁) t₁ ≡ roleRenewed (3 - n) moves t roots now → s ≡ role.Refused k
         → y ≡ out (leaves (refused (numberOf k)) roots₁) t₁ → y ≡ renewRoles n moves t roots now
     unfolding onOut onLeaves
     role-refused p e m h = rw (roles-step n p, sym e, m) h
 
-  pub roles-over : {y : Out (Leaves (Unit {0}) (List Root))} (n : ℕ) → n ≤ 0 → y ≡ out (leaves (value tt) roots) t → y ≡ renewRoles n moves t roots now
+  pub roles-over : {y : Out (Leaves (Unit {0}) (List Root))} (n : ℕ) → n ≤ 0 → y ≡ out (leaves (value tt) roots) t
+      → y ≡ renewRoles n moves t roots now
   unfolding renewRoles
   roles-over zero p h = h
   roles-over (suc n) p h = absurd (omega arith)
 
--- On rows that roots by value were stored to, and read from.
-pub roles-by-rows : {a : Answer (Unit {0})} {l l₁ roots roots₁ : List Root} {t₁ : List ThreadRecord} (n moves : ℕ) (t : List ThreadRecord) (now : ℕ)
-    → l ≡ roots → out (leaves a l₁) t₁ ≡ renewRoles n moves t l now → roots₁ ≡ l₁ → out (leaves a roots₁) t₁ ≡ renewRoles n moves t roots now
-roles-by-rows n moves t now e s f = rw (f, sym e) s
-
 -- There are as many moves as rows.
 pub roles-set-out : (rows : List (List ℕ)) (roots : List Root) (now : ℕ)
-    → renewRoles 3 (length rows) (table rows) roots now ≡ whole (renewRoles 3 (length (table rows)) (table rows) roots now)
+    → renewRoles 3 (length rows) (table rows) roots now
+    ≡ whole (renewRoles 3 (length (table rows)) (table rows) roots now)
 unfolding table
-roles-set-out rows roots now = rw (length-map rows decoded) (setting-out (renewRoles 3 (length rows) (table rows) roots now))
+roles-set-out rows roots now =
+    rw (length-map rows decoded) (setting-out (renewRoles 3 (length rows) (table rows) roots now))
 
 pub ruleset roles = (onward, role-done, role-refused, roles-over)
 
@@ -465,31 +550,15 @@ module _ {y : Bool} {x : Epoch} (e : ℕ) where
   unfolding isEpoch
   some-epoch m h = rw m h
 
--- By whether a refusal is Halted.
-module _ {A : Type 0} {y : A} {r n : ℕ} (a b : A) where
-  pub is-halt : r ≡ n → r ≡ 9 → y ≡ a → y ≡ choose (isHalt n) a b
-  unfolding isHalt choose
-  is-halt e m h = rw (sym e, eq-eqb r 9 m) h
-
-  pub no-halt : r ≡ n → (r ≡ 9 → ⊥) → y ≡ b → y ≡ choose (isHalt n) a b
-  unfolding isHalt choose
-  no-halt e m h = rw (sym e, ne-eqb r 9 m) h
-
 -- By a verdict that stands beside what a step left.
 module _ {A B : Type 0} {y : A} {r : Verdict} {b : B} (g : ℕ → B → A) (f : Unit {0} → B → A) where
   pub step-accepted : r ≡ verdict.Accepted → y ≡ f tt b → y ≡ onLeaves (leaves (verdictAnswer r) b) g f
   unfolding onLeaves
   step-accepted m h = rw m h
 
-  pub step-refused : {n : Refusal} → r ≡ verdict.Refused n → y ≡ g (numberOf n) b → y ≡ onLeaves (leaves (verdictAnswer r) b) g f
+  pub step-refused : {n : Refusal} → r ≡ verdict.Refused n → y ≡ g (numberOf n) b
+      → y ≡ onLeaves (leaves (verdictAnswer r) b) g f
   unfolding onLeaves
   step-refused m h = rw m h
 
--- The parts of a refusal with the mark that it leaves.
-pub with-mark : {h x : Bool} (n : ℕ) (roots : List Root) (e : Epoch) (t : List ThreadRecord) → h ≡ x
-    → _≡_ {A = Out (Leaves (Unit {0}) SelectionParts)}
-    (out (leaves (refused n) (record { indices = roots; «budget_epoch» = e; halted = h })) t)
-    (out (leaves (refused n) (record { indices = roots; «budget_epoch» = e; halted = x })) t)
-with-mark n roots e t m = rw m
-
-pub ruleset steps = (no-epoch, some-epoch, is-halt, no-halt, step-accepted, step-refused, with-mark)
+pub ruleset steps = (no-epoch, some-epoch, step-accepted, step-refused)

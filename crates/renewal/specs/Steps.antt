@@ -1,7 +1,8 @@
--- Parts of the change of period that have a function of their own; each is a part of a definition's text, or the definition goes by it (RenewalLaws).
+-- Parts of the change of period that have a function of their own; each is a part of a definition's text, or the
+-- definition goes by it (RenewalLaws).
 use Prim.Native.Nat.{ℕ, _+_, _-_}
 use mathlib.Core.List.{List}
-use Rattle.refusal.specs.Answer.{Answer, value, refused}
+use Rattle.refusal.specs.Answer.{Answer, value, refused, damaged, queueHalted, badRecord}
 use Rattle.refusal.specs.Cases.{choose, given}
 use Rattle.policy.specs.PolicyCases.{onBudget}
 use Rattle.algorithms.specs.declared.PolicyRuntime.{PolicyRuntime}
@@ -22,20 +23,22 @@ use Rattle.renewal.specs.Renewal.{headOf, budgetTrees, moveOne, moveAll,
 
 -- The runtime of a budget that was refreshed, stored.
 unfoldable pub refreshedStored : List ThreadRecord → ℕ → Answer PolicyRuntime → Out (Answer (Unit {0}))
-refreshedStored t id a = onAnswer a (λ n. out (refused 11) t) (λ x. out (value tt) (after (setRuntime t id x)))
+refreshedStored t id a = onAnswer a (λ n. out (refused badRecord) t) (λ x. out (value tt) (after (setRuntime t id x)))
 
 -- The budget of a record refreshed to now.
 unfoldable pub budgetRefreshed : List ThreadRecord → ℕ → ℕ → Out (Answer (Unit {0}))
 budgetRefreshed t id now =
-    onRecord (recordAt t id) (out (refused 1) t)
+    onRecord (recordAt t id) (out (refused damaged) t)
     (λ r. given (epochRefreshed (r .runtime) now (r .parameters)) (λ a. refreshedStored t id a))
 
 -- A record that was read: judged, then refreshed where it has a budget. What it then is stands in the table.
 unfoldable pub rowRefreshed : List ThreadRecord → ℕ → ThreadRecord → ℕ → Out (Answer (Unit {0}))
-rowRefreshed t id r now = choose (isBadRecord r) (out (refused 11) t) (onBudget (r .parameters .budget) (out (value tt) t) (λ b. budgetRefreshed t id now))
+rowRefreshed t id r now =
+    choose (isBadRecord r) (out (refused badRecord) t)
+    (onBudget (r .parameters .budget) (out (value tt) t) (λ b. budgetRefreshed t id now))
 
 unfoldable pub runtimeRefreshed : List ThreadRecord → ℕ → ℕ → Out (Answer (Unit {0}))
-runtimeRefreshed t id now = onRecord (recordAt t id) (out (refused 1) t) (λ r. rowRefreshed t id r now)
+runtimeRefreshed t id now = onRecord (recordAt t id) (out (refused damaged) t) (λ r. rowRefreshed t id r now)
 
 -- The second half of a move.
 abbrev pub refiled : List ThreadRecord → BudgetTrees → ℕ → ℕ → Out (Leaves (Unit {0}) BudgetTrees)
@@ -44,7 +47,7 @@ refiled t trees id now =
     (λ a t₂. onAnswer a
     (λ n. out (leaves (refused n) trees) t₂)
     (λ u. onRooted (index.insert t₂ (trees .ready) id)
-    (λ t₃. out (leaves (refused 9) trees) t₃)
+    (λ t₃. out (leaves (refused queueHalted) trees) t₃)
     (λ top t₃. out (leaves (value tt) (budgetTrees (trees .exhausted) top (trees .moves))) t₃)))
 
 -- What the next move found: an empty tree, a thread that it moved, or a refusal.
@@ -53,7 +56,8 @@ pub data Next : Type 0 where
   moved : BudgetTrees → Next
   stopped : ℕ → BudgetTrees → Next
 
-unfoldable pub onNext : {A : Type 0} → Out Next → (List ThreadRecord → A) → (BudgetTrees → List ThreadRecord → A) → (ℕ → BudgetTrees → List ThreadRecord → A) → A
+unfoldable pub onNext : {A : Type 0} → Out Next → (List ThreadRecord → A) → (BudgetTrees → List ThreadRecord → A)
+    → (ℕ → BudgetTrees → List ThreadRecord → A) → A
 onNext (out emptied t) a f g = a t
 onNext (out (moved trees) t) a f g = f trees t
 onNext (out (stopped n trees) t) a f g = g n trees t
@@ -77,7 +81,7 @@ lastMove t exhausted ready =
     (λ n. out (leaves (refused n) (budgetTrees exhausted ready 0)) t)
     (λ head. onLink head
     (out (leaves (value tt) (budgetTrees exhausted ready 0)) t)
-    (λ id. out (leaves (refused 1) (budgetTrees exhausted ready 0)) t))
+    (λ id. out (leaves (refused damaged) (budgetTrees exhausted ready 0)) t))
 
 -- The moves of one role: how many it leaves, and the roots.
 unfoldable pub roleRenewed : ℕ → ℕ → List ThreadRecord → List Root → ℕ → Out (Leaves ℕ (List Root))

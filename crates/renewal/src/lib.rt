@@ -1,16 +1,13 @@
-// The change of period: every thread of the exhausted trees is refreshed and filed as ready. After the first loop of `CpuRunQueue::peek_next`.
+// The change of period: every thread of the exhausted trees is refreshed and filed as ready. After the first loop of
+// `CpuRunQueue::peek_next`.
 mod roots;
 
 pub use roots::root_at;
 pub use roots::set_root;
-pub use roots::store_roots;
 ghost use Prim.Native.Nat.{_<_};
-ghost use mathlib.Core.Bool.{true, false};
 ghost use mathlib.Core.Path.{_≡_};
-ghost use mathlib.Core.List.{[]};
 ghost use lib.ListN.{length, getD};
-ghost use Rattle.refusal.specs.Answer.{numberOf};
-ghost use Rattle.refusal.specs.Cases.{choose};
+ghost use mathlib.Core.List.{[]};
 ghost use Rattle.algorithms.specs.Answers.{runtimeAnswer};
 ghost use Rattle.codec.specs.Codec.{decoded};
 ghost use Rattle.rows.specs.Table.{table, out};
@@ -19,28 +16,26 @@ ghost use Rattle.renewal.specs.Renewal as renewal;
 ghost use Rattle.renewal.specs.Steps as steps;
 ghost use Rattle.renewal.specs.Leaves.{leaves};
 ghost use Rattle.renewal.specs.RootRows.{rootsOf};
-ghost use Rattle.renewal.specs.Answers.{headAnswer, moveAnswer, nextAnswer, roleAnswer, rolesAnswer, partsAnswer};
+ghost use Rattle.renewal.specs.Answers.{headAnswer, moveAnswer, nextAnswer, roleAnswer};
 use algorithms::RuntimeAnswer;
+use codec::BUDGET_TAG;
+use codec::POLICY_TAG;
+use codec::RUNTIME_TAG;
+use codec::Row;
 use codec::parameters_of;
 use codec::runtime_of;
+use lent_queue::QueueRow;
 use queue::Root;
 use queue::Verdict;
 use queue::is_bad_row;
 use ready_index::Least;
+use ready_index::Path;
 use ready_index::Rooted;
 use ready_index::first;
 use refusal::Refusal;
-use roots::roots_of;
 use rows::set_runtime;
 use thread::Link;
 use time::Epoch;
-
-// What selection touches of a queue: the twelve roots, the epoch of the last selection and the mark of a queue that halted.
-pub struct SelectionParts {
-    pub indices: [Root; 12],
-    pub budget_epoch: Epoch,
-    pub halted: bool,
-}
 
 // The two budget trees of a role, and how many moves a change of period has left.
 pub struct BudgetTrees {
@@ -74,20 +69,8 @@ enum RoleStep {
     Refused(Refusal),
 }
 
-// The roots as the roles of a change of period leave them.
-pub struct RolesStep {
-    pub answer: Verdict,
-    pub indices: [Root; 12],
-}
-
-// The parts as a change of period leaves them.
-pub struct PartsStep {
-    pub answer: Verdict,
-    pub parts: SelectionParts,
-}
-
 // The head of a tree, or none of an empty tree.
-pub fn head_of(t: &[[u64; 32]], root: Link) -> HeadRead
+pub fn head_of(t: &[Row], root: Link) -> HeadRead
     ensures { λ r. ⌜ headAnswer r ≡ renewal.headOf (table (now (t .entry))) root ⌝ }
 {
     match first(t, root) {
@@ -97,8 +80,9 @@ pub fn head_of(t: &[[u64; 32]], root: Link) -> HeadRead
     }
 }
 
-fn store_refreshed(t: &mut [[u64; 32]], id: u64, refreshed: RuntimeAnswer) -> Verdict
-    ensures { λ r. ⌜ out (verdictAnswer r) (table (now (t .exit))) ≡ steps.refreshedStored (table (now (t .entry))) id (runtimeAnswer refreshed) ⌝ }
+fn store_refreshed(t: &mut [Row], id: u64, refreshed: RuntimeAnswer) -> Verdict
+    ensures { λ r. ⌜ out (verdictAnswer r) (table (now (t .exit))) ≡ steps.refreshedStored (table (now (t .entry))) id
+        (runtimeAnswer refreshed) ⌝ }
 {
     match refreshed {
         RuntimeAnswer::Refused(_) => Verdict::Refused(Refusal::BadRecord),
@@ -110,8 +94,9 @@ fn store_refreshed(t: &mut [[u64; 32]], id: u64, refreshed: RuntimeAnswer) -> Ve
 }
 
 // A record's budget refreshed to the reading and stored: only the words of its runtime are read again.
-fn refresh_budget(t: &mut [[u64; 32]], id: u64, reading: u64) -> Verdict
-    ensures { λ r. ⌜ out (verdictAnswer r) (table (now (t .exit))) ≡ steps.budgetRefreshed (table (now (t .entry))) id reading ⌝ }
+fn refresh_budget(t: &mut [Row], id: u64, reading: u64) -> Verdict
+    ensures { λ r. ⌜ out (verdictAnswer r) (table (now (t .exit)))
+        ≡ steps.budgetRefreshed (table (now (t .entry))) id reading ⌝ }
 {
     let k = id as usize;
     if k < t.len() {
@@ -125,27 +110,30 @@ fn refresh_budget(t: &mut [[u64; 32]], id: u64, reading: u64) -> Verdict
 }
 
 // A record of this row: judged, then refreshed to the reading where it has a budget. After `refresh_runtime`.
-pub fn refresh_row(t: &mut [[u64; 32]], id: u64, row: [u64; 32], reading: u64) -> Verdict
-    ensures { λ r. ⌜ out (verdictAnswer r) (table (now (t .exit))) ≡ steps.rowRefreshed (table (now (t .entry))) id (decoded row) reading ⌝ }
+pub fn refresh_row(t: &mut [Row], id: u64, row: Row, reading: u64) -> Verdict
+    ensures { λ r. ⌜ out (verdictAnswer r) (table (now (t .exit))) ≡ steps.rowRefreshed (table (now (t .entry))) id
+        (decoded row) reading ⌝ }
 {
     if is_bad_row(row) {
         return Verdict::Refused(Refusal::BadRecord);
     }
-    if row[7] == 0 {
+    if row[BUDGET_TAG] == 0 {
         return Verdict::Accepted;
     }
     refresh_budget(t, id, reading)
 }
 
-// The same where the record is a budget's, as in a move: where policy and runtime have the same tag, three words decide, and a budget is judged by its refresh.
-fn refresh_at(t: &mut [[u64; 32]], id: u64, reading: u64) -> Verdict
+// The same where the record is a budget's, as in a move: where policy and runtime have the same tag, three words
+// decide, and a budget is judged by its refresh.
+fn refresh_at(t: &mut [Row], id: u64, reading: u64) -> Verdict
     requires { ⌜ id < length (now t) ⌝ }
-    ensures { λ r. ⌜ out (verdictAnswer r) (table (now (t .exit))) ≡ steps.rowRefreshed (table (now (t .entry))) id (decoded (getD (now (t .entry)) id [])) reading ⌝ }
+    ensures { λ r. ⌜ out (verdictAnswer r) (table (now (t .exit))) ≡ steps.rowRefreshed (table (now (t .entry))) id
+        (decoded (getD (now (t .entry)) id [])) reading ⌝ }
 {
     let k = id as usize;
-    let tag = t[k][11];
-    if tag == t[k][0] {
-        if t[k][7] == 0 {
+    let tag = t[k][RUNTIME_TAG];
+    if tag == t[k][POLICY_TAG] {
+        if t[k][BUDGET_TAG] == 0 {
             if tag == 2 {
                 return Verdict::Refused(Refusal::BadRecord);
             }
@@ -163,8 +151,9 @@ fn refresh_at(t: &mut [[u64; 32]], id: u64, reading: u64) -> Verdict
     Verdict::Accepted
 }
 
-fn refresh_runtime(t: &mut [[u64; 32]], id: u64, reading: u64) -> Verdict
-    ensures { λ r. ⌜ out (verdictAnswer r) (table (now (t .exit))) ≡ steps.runtimeRefreshed (table (now (t .entry))) id reading ⌝ }
+fn refresh_runtime(t: &mut [Row], id: u64, reading: u64) -> Verdict
+    ensures { λ r. ⌜ out (verdictAnswer r) (table (now (t .exit)))
+        ≡ steps.runtimeRefreshed (table (now (t .entry))) id reading ⌝ }
 {
     let k = id as usize;
     if k < t.len() {
@@ -174,14 +163,9 @@ fn refresh_runtime(t: &mut [[u64; 32]], id: u64, reading: u64) -> Verdict
 }
 
 // A thread that is out of the exhausted tree is refreshed, and goes into the ready one.
-fn refile(
-    t: &mut [[u64; 32]],
-    path: &mut [[u64; 2]; 40],
-    trees: BudgetTrees,
-    id: u64,
-    reading: u64,
-) -> Moved
-    ensures { λ r. ⌜ out (moveAnswer r) (table (now (t .exit))) ≡ steps.refiled (table (now (t .entry))) trees id reading ⌝ }
+fn refile(t: &mut [Row], path: &mut Path, trees: BudgetTrees, id: u64, reading: u64) -> Moved
+    ensures { λ r. ⌜ out (moveAnswer r) (table (now (t .exit)))
+        ≡ steps.refiled (table (now (t .entry))) trees id reading ⌝ }
 {
     let exhausted = trees.exhausted;
     let old = trees.ready;
@@ -202,14 +186,9 @@ fn refile(
 }
 
 // One thread out of the exhausted tree, refreshed, and into the ready one.
-fn move_one(
-    t: &mut [[u64; 32]],
-    path: &mut [[u64; 2]; 40],
-    trees: BudgetTrees,
-    id: u64,
-    reading: u64,
-) -> Moved
-    ensures { λ r. ⌜ out (moveAnswer r) (table (now (t .exit))) ≡ renewal.moveOne (table (now (t .entry))) trees id reading ⌝ }
+fn move_one(t: &mut [Row], path: &mut Path, trees: BudgetTrees, id: u64, reading: u64) -> Moved
+    ensures { λ r. ⌜ out (moveAnswer r) (table (now (t .exit)))
+        ≡ renewal.moveOne (table (now (t .entry))) trees id reading ⌝ }
 {
     let old = trees.exhausted;
     let ready = trees.ready;
@@ -231,15 +210,16 @@ fn move_one(
 
 // The head of the exhausted tree moved, with so many moves left, of which there is one.
 fn next_move(
-    t: &mut [[u64; 32]],
-    path: &mut [[u64; 2]; 40],
+    t: &mut [Row],
+    path: &mut Path,
     exhausted: Link,
     ready: Link,
     moves: u64,
     reading: u64,
 ) -> NextMove
     requires { ⌜ 0 < moves ⌝ }
-    ensures { λ r. ⌜ out (nextAnswer r) (table (now (t .exit))) ≡ steps.nextMove moves (table (now (t .entry))) exhausted ready reading ⌝ }
+    ensures { λ r. ⌜ out (nextAnswer r) (table (now (t .exit)))
+        ≡ steps.nextMove moves (table (now (t .entry))) exhausted ready reading ⌝ }
 {
     let HeadRead::Head(head) = head_of(t, exhausted) else {
         return NextMove::Refused(
@@ -267,8 +247,9 @@ fn next_move(
 }
 
 // With no move left, the exhausted tree must be empty.
-fn last_move(t: &[[u64; 32]], exhausted: Link, ready: Link) -> Moved
-    ensures { λ r. ⌜ out (moveAnswer r) (table (now (t .entry))) ≡ steps.lastMove (table (now (t .entry))) exhausted ready ⌝ }
+fn last_move(t: &[Row], exhausted: Link, ready: Link) -> Moved
+    ensures { λ r. ⌜ out (moveAnswer r) (table (now (t .entry)))
+        ≡ steps.lastMove (table (now (t .entry))) exhausted ready ⌝ }
 {
     let trees = BudgetTrees {
         exhausted,
@@ -286,14 +267,15 @@ fn last_move(t: &[[u64; 32]], exhausted: Link, ready: Link) -> Moved
 
 // Until the exhausted tree is empty, in so many moves at most.
 fn move_all(
-    t: &mut [[u64; 32]],
-    path: &mut [[u64; 2]; 40],
+    t: &mut [Row],
+    path: &mut Path,
     old_exhausted: Link,
     old_ready: Link,
     moves: u64,
     reading: u64,
 ) -> Moved
-    ensures { λ r. ⌜ out (moveAnswer r) (table (now (t .exit))) ≡ renewal.moveAll moves (table (now (t .entry))) «old_exhausted» «old_ready» reading ⌝ }
+    ensures { λ r. ⌜ out (moveAnswer r) (table (now (t .exit)))
+        ≡ renewal.moveAll moves (table (now (t .entry))) «old_exhausted» «old_ready» reading ⌝ }
 {
     let mut exhausted = old_exhausted;
     let mut ready = old_ready;
@@ -321,7 +303,7 @@ fn move_all(
 }
 
 // The roots of a role's budget trees stored back.
-fn store_trees(roots: &mut [[u64; 5]], role: usize, trees: BudgetTrees)
+fn store_trees(roots: &mut [QueueRow], role: usize, trees: BudgetTrees)
     requires { ⌜ role < 3 ⌝ }
     ensures { λ r. ⌜ rootsOf (now (roots .exit)) ≡ renewal.withTrees (rootsOf (now (roots .entry))) role trees ⌝ }
 {
@@ -333,15 +315,16 @@ fn store_trees(roots: &mut [[u64; 5]], role: usize, trees: BudgetTrees)
 
 // The trees of one role, in so many moves at most. An empty exhausted tree is passed over.
 fn renew_role(
-    t: &mut [[u64; 32]],
-    path: &mut [[u64; 2]; 40],
-    roots: &mut [[u64; 5]],
+    t: &mut [Row],
+    path: &mut Path,
+    roots: &mut [QueueRow],
     role: usize,
     moves: u64,
     reading: u64,
 ) -> RoleStep
     requires { ⌜ role < 3 ⌝ }
-    ensures { λ r. ⌜ out (leaves (roleAnswer r) (rootsOf (now (roots .exit)))) (table (now (t .exit))) ≡ steps.roleRenewed role moves (table (now (t .entry))) (rootsOf (now (roots .entry))) reading ⌝ }
+    ensures { λ r. ⌜ out (leaves (roleAnswer r) (rootsOf (now (roots .exit)))) (table (now (t .exit)))
+        ≡ steps.roleRenewed role moves (table (now (t .entry))) (rootsOf (now (roots .entry))) reading ⌝ }
 {
     let exhausted = root_at(roots, 9 + role);
     if exhausted.is_none() {
@@ -361,13 +344,10 @@ fn renew_role(
 }
 
 // The three roles in turn, in as many moves as there are records for all of them together.
-pub fn renew_roles(
-    t: &mut [[u64; 32]],
-    path: &mut [[u64; 2]; 40],
-    roots: &mut [[u64; 5]],
-    reading: u64,
-) -> Verdict
-    ensures { λ r. ⌜ out (leaves (verdictAnswer r) (rootsOf (now (roots .exit)))) (table (now (t .exit))) ≡ renewal.renewRoles 3 (length (table (now (t .entry)))) (table (now (t .entry))) (rootsOf (now (roots .entry))) reading ⌝ }
+pub fn renew_roles(t: &mut [Row], path: &mut Path, roots: &mut [QueueRow], reading: u64) -> Verdict
+    ensures { λ r. ⌜ out (leaves (verdictAnswer r) (rootsOf (now (roots .exit)))) (table (now (t .exit)))
+        ≡ renewal.renewRoles 3 (length (table (now (t .entry)))) (table (now (t .entry)))
+        (rootsOf (now (roots .entry))) reading ⌝ }
 {
     let mut moves = t.len() as u64;
     let mut left: usize = 3;
@@ -386,22 +366,6 @@ pub fn renew_roles(
     Verdict::Accepted
 }
 
-// The same on roots by value.
-fn renew_indices(
-    t: &mut [[u64; 32]],
-    path: &mut [[u64; 2]; 40],
-    roots: [Root; 12],
-    reading: u64,
-) -> RolesStep
-    ensures { λ r. ⌜ out (rolesAnswer r) (table (now (t .exit))) ≡ renewal.renewRoles 3 (length (table (now (t .entry)))) (table (now (t .entry))) roots reading ⌝ }
-{
-    let mut rows: [[u64; 5]; 12] = [[0; 5]; 12];
-    store_roots(&mut rows, roots);
-    let answer = renew_roles(t, path, &mut rows, reading);
-    let indices = roots_of(&rows);
-    RolesStep { answer, indices }
-}
-
 // Whether the queue's epoch is this one.
 pub fn is_epoch(last: Epoch, epoch: u64) -> bool
     ensures { λ r. ⌜ r ≡ renewal.isEpoch last epoch ⌝ }
@@ -409,56 +373,5 @@ pub fn is_epoch(last: Epoch, epoch: u64) -> bool
     match last {
         Epoch::None => false,
         Epoch::Some(number) => number == epoch,
-    }
-}
-
-// The mark after a refusal: Halted leaves it.
-pub fn mark_after(refusal: Refusal, halted: bool) -> bool
-    ensures { λ r. ⌜ r ≡ choose (renewal.isHalt (numberOf refusal)) true halted ⌝ }
-{
-    if refusal.number() == 9 {
-        return true;
-    }
-    halted
-}
-
-// At any change of epoch, also backward or from none, the roles' moves; then the epoch is stored.
-pub fn renew(
-    t: &mut [[u64; 32]],
-    path: &mut [[u64; 2]; 40],
-    parts: SelectionParts,
-    reading: u64,
-    epoch: u64,
-) -> PartsStep
-    ensures { λ r. ⌜ out (partsAnswer r) (table (now (t .exit))) ≡ renewal.renew (table (now (t .entry))) parts reading epoch ⌝ }
-{
-    let budget_epoch = parts.budget_epoch;
-    if is_epoch(budget_epoch, epoch) {
-        return PartsStep {
-            answer: Verdict::Accepted,
-            parts,
-        };
-    }
-    let roots = parts.indices;
-    let step = renew_indices(t, path, roots, reading);
-    let indices = step.indices;
-    let answer = step.answer;
-    match answer {
-        Verdict::Accepted => PartsStep {
-            answer: Verdict::Accepted,
-            parts: SelectionParts {
-                indices,
-                budget_epoch: Epoch::Some(epoch),
-                halted: parts.halted,
-            },
-        },
-        Verdict::Refused(refusal) => PartsStep {
-            answer: Verdict::Refused(refusal),
-            parts: SelectionParts {
-                indices,
-                budget_epoch,
-                halted: mark_after(refusal, parts.halted),
-            },
-        },
     }
 }

@@ -1,4 +1,5 @@
-// Runs the recorded calls that its standard input has, says how many of them answered each number, and ends with how many answers differ from the recorded ones. The text comes in blocks of
+// Runs the recorded calls that its standard input has, says how many of them answered each number, and ends with how
+// many answers differ from the recorded ones. The text comes in blocks of
 // 65,536 bytes, each of whole cases.
 const STDIN: i32 = 0;
 

@@ -1,4 +1,5 @@
--- Heights, rotations and the balancing of one node, over the table. Reads and stores stand in the source's order, since the links of a damaged table may lead from two nodes to one.
+-- Heights, rotations and the balancing of one node, over the table. Reads and stores stand in the source's order, since
+-- the links of a damaged table may lead from two nodes to one.
 use mathlib.Core.List.{List}
 use Prim.Native.Nat.{ℕ, _+_}
 use Rattle.refusal.specs.Cases.{ifLess, given}
@@ -26,7 +27,8 @@ height t l = onLink l (read.Got 0) (λ i. onLinks (linksAt t i) read.Damaged (λ
 unfoldable pub larger : ℕ → ℕ → ℕ
 larger a b = ifLess a b b a
 
--- These links with the height that their two sides give, stored at a record; a height above 255 does not fit (`update`).
+-- These links with the height that their two sides give, stored at a record; a height above 255 does not fit
+-- (`update`).
 unfoldable pub update : List ThreadRecord → ℕ → Links → Out Change
 update t i l =
     onHeight (height t (l .left)) (out change.Damaged t)
@@ -43,7 +45,8 @@ rotateLeft t i =
     (λ l. onLink (l .right) (out turned.Damaged t)
     (λ right. onLinks (linksAt t right) (out turned.Damaged t)
     (λ m. onMade (update t i (record { left = l .left; right = m .left; height = l .height })) (out turned.Damaged)
-    (λ t₁. onMade (update t₁ right (record { left = link.Some i; right = m .right; height = m .height })) (out turned.Damaged)
+    (λ t₁. onMade (update t₁ right (record { left = link.Some i; right = m .right; height = m .height }))
+    (out turned.Damaged)
     (λ t₂. out (turned.Root right) t₂)))))
 
 -- The left child takes the node's place (`rotate_right`).
@@ -53,20 +56,24 @@ rotateRight t i =
     (λ l. onLink (l .left) (out turned.Damaged t)
     (λ left. onLinks (linksAt t left) (out turned.Damaged t)
     (λ m. onMade (update t i (record { left = m .right; right = l .right; height = l .height })) (out turned.Damaged)
-    (λ t₁. onMade (update t₁ left (record { left = m .left; right = link.Some i; height = m .height })) (out turned.Damaged)
+    (λ t₁. onMade (update t₁ left (record { left = m .left; right = link.Some i; height = m .height }))
+    (out turned.Damaged)
     (λ t₂. out (turned.Root left) t₂)))))
 
--- The double rotation of `balance`: the left child is rotated outward, the old copy of the links is written back with it, and the node is rotated.
+-- The double rotation of `balance`: the left child is rotated outward, the old copy of the links is written back with
+-- it, and the node is rotated.
 abbrev pub doubleRight : List ThreadRecord → ℕ → Links → ℕ → Out Turned
 doubleRight t i l left =
     onTurned (rotateLeft t left) (out turned.Damaged)
-    (λ top t₁. onMade (setLinks t₁ i (record { left = link.Some top; right = l .right; height = l .height })) (out turned.Damaged)
+    (λ top t₁. onMade (setLinks t₁ i (record { left = link.Some top; right = l .right; height = l .height }))
+    (out turned.Damaged)
     (λ t₂. rotateRight t₂ i))
 
 abbrev pub doubleLeft : List ThreadRecord → ℕ → Links → ℕ → Out Turned
 doubleLeft t i l right =
     onTurned (rotateRight t right) (out turned.Damaged)
-    (λ top t₁. onMade (setLinks t₁ i (record { left = l .left; right = link.Some top; height = l .height })) (out turned.Damaged)
+    (λ top t₁. onMade (setLinks t₁ i (record { left = l .left; right = link.Some top; height = l .height }))
+    (out turned.Damaged)
     (λ t₂. rotateLeft t₂ i))
 
 -- `balance` where the left side is too high: its inner side is brought outward first where that is the higher.

@@ -24,11 +24,13 @@ module _ {A : Type 0} {y : A} (a : A) where
   height-damaged f e m h = rw (sym e ∙ m) h
 
 module _ {A : Type 0} {y : A} {t : List ThreadRecord} (a : List ThreadRecord → A) where
-  pub turned-root : {r : Turned} {x : Out Turned} {i : ℕ} (f : ℕ → List ThreadRecord → A) → out r t ≡ x → r ≡ turned.Root i → y ≡ f i t → y ≡ onTurned x a f
+  pub turned-root : {r : Turned} {x : Out Turned} {i : ℕ} (f : ℕ → List ThreadRecord → A) → out r t ≡ x
+      → r ≡ turned.Root i → y ≡ f i t → y ≡ onTurned x a f
   unfolding onTurned
   turned-root f e m h = rw (sym e) (rw m h)
 
-  pub turned-damaged : {r : Turned} {x : Out Turned} (f : ℕ → List ThreadRecord → A) → out r t ≡ x → r ≡ turned.Damaged → y ≡ a t → y ≡ onTurned x a f
+  pub turned-damaged : {r : Turned} {x : Out Turned} (f : ℕ → List ThreadRecord → A) → out r t ≡ x → r ≡ turned.Damaged
+      → y ≡ a t → y ≡ onTurned x a f
   unfolding onTurned
   turned-damaged f e m h = rw (sym e) (rw m h)
 

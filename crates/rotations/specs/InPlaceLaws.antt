@@ -1,4 +1,5 @@
--- What the way up does in place is what the definitions say: a link stored alone is a store of the links read with it, and a node whose sides are even keeps its links.
+-- What the way up does in place is what the definitions say: a link stored alone is a store of the links read with it,
+-- and a node whose sides are even keeps its links.
 use mathlib.Core.Path.{_≡_, refl, sym}
 use mathlib.Core.List.{List}
 use mathlib.Core.Bool.{Bool, true, false}
@@ -33,7 +34,9 @@ even-lean a b h = go (leanOf a b) refl (leans a b)
   where
     go : (x : Lean) → leanOf a b ≡ x → Leans x a b → leanOf a b ≡ Even
     go Left e k = let f : ltb (b + 1) a ≡ true = lt-ltb (b + 1) a k in never cc
-    go Right e k = let g : ltb (b + 1) a ≡ false = le-ltb (b + 1) a (omega arith) in let f : ltb (a + 1) b ≡ true = lt-ltb (a + 1) b k in never cc
+    go Right e k =
+        let g : ltb (b + 1) a ≡ false = le-ltb (b + 1) a (omega arith) in
+        let f : ltb (a + 1) b ≡ true = lt-ltb (a + 1) b k in never cc
     go Even e k = e
 
 module _ (t : List ThreadRecord) (i : ℕ) {l : Links} (e : linksAt t i ≡ links.Got l) where
@@ -43,8 +46,10 @@ module _ (t : List ThreadRecord) (i : ℕ) {l : Links} (e : linksAt t i ≡ link
   update-even a b f g = rw (f, g) (go (ltb (larger a b) 255))
     where
       go : (x : Bool)
-          → onMade (choose x (setLinks t i (record { left = l .left; right = l .right; height = larger a b + 1 })) (out change.Damaged t)) (out turned.Damaged) (λ t₁. out (turned.Root i) t₁)
-          ≡ choose x (onMade (setHeight t i (larger a b + 1)) (out turned.Damaged) (λ t₁. out (turned.Root i) t₁)) (out turned.Damaged t)
+          → onMade (choose x (setLinks t i (record { left = l .left; right = l .right; height = larger a b + 1 }))
+          (out change.Damaged t)) (out turned.Damaged) (λ t₁. out (turned.Root i) t₁)
+          ≡ choose x (onMade (setHeight t i (larger a b + 1)) (out turned.Damaged) (λ t₁. out (turned.Root i) t₁))
+          (out turned.Damaged t)
       go true = rw (set-height-links t i e (larger a b + 1))
       go false = refl
 
@@ -52,11 +57,13 @@ module _ (t : List ThreadRecord) (i : ℕ) {l : Links} (e : linksAt t i ≡ link
   unfolding balance onLinks onHeight
   no-left f = rw (e, f)
 
-  no-right : {a : ℕ} → height t (l .left) ≡ read.Got a → height t (l .right) ≡ read.Damaged → out turned.Damaged t ≡ balance t i
+  no-right : {a : ℕ} → height t (l .left) ≡ read.Got a → height t (l .right) ≡ read.Damaged
+      → out turned.Damaged t ≡ balance t i
   unfolding balance onLinks onHeight
   no-right f g = rw (e, f, g)
 
-  stayed : {a b : ℕ} → height t (l .left) ≡ read.Got a → height t (l .right) ≡ read.Got b → isEven a b ≡ true → heightStored t i a b ≡ balance t i
+  stayed : {a b : ℕ} → height t (l .left) ≡ read.Got a → height t (l .right) ≡ read.Got b → isEven a b ≡ true
+      → heightStored t i a b ≡ balance t i
   unfolding balance onLinks onHeight onLean
   stayed {a} {b} f g k = rw (e, f, g, even-lean a b k) (sym (update-even a b f g))
 
@@ -65,18 +72,22 @@ module _ (t : List ThreadRecord) (i : ℕ) {l : Links} (e : linksAt t i ≡ link
   unfolding balanceBy onHeight choose
   by-its-links = go (height t (l .left)) refl (height t (l .right)) refl
     where
-      even : (a b : ℕ) → height t (l .left) ≡ read.Got a → height t (l .right) ≡ read.Got b → (x : Bool) → isEven a b ≡ x → choose x (heightStored t i a b) (balance t i) ≡ balance t i
+      even : (a b : ℕ) → height t (l .left) ≡ read.Got a → height t (l .right) ≡ read.Got b → (x : Bool)
+          → isEven a b ≡ x → choose x (heightStored t i a b) (balance t i) ≡ balance t i
       even a b f g true k = stayed f g k
       even a b f g false k = refl
 
       go : (x : HeightRead) → height t (l .left) ≡ x → (y : HeightRead) → height t (l .right) ≡ y
-          → onHeight x (out turned.Damaged t) (λ a. onHeight y (out turned.Damaged t) (λ b. choose (isEven a b) (heightStored t i a b) (balance t i))) ≡ balance t i
+          → onHeight x (out turned.Damaged t)
+          (λ a. onHeight y (out turned.Damaged t) (λ b. choose (isEven a b) (heightStored t i a b) (balance t i)))
+          ≡ balance t i
       go read.Damaged f y g = no-left f
       go (read.Got a) f read.Damaged g = no-right f g
       go (read.Got a) f (read.Got b) g = even a b f g (isEven a b) refl
 
 -- An answer handed on.
-pub handed-on : {r x : Turned} {s : List ThreadRecord} (t : List ThreadRecord) (i : ℕ) → out r s ≡ balance t i → r ≡ x → out x s ≡ balance t i
+pub handed-on : {r x : Turned} {s : List ThreadRecord} (t : List ThreadRecord) (i : ℕ) → out r s ≡ balance t i → r ≡ x
+    → out x s ≡ balance t i
 handed-on t i e m = rw (sym m) e
 
 -- Going by two heights and by whether they are even: few laws, so that a search for what is not so comes to its end.

@@ -7,6 +7,7 @@ ghost use Rattle.rotations.specs.Balance as spec;
 ghost use Rattle.rotations.specs.InPlace.{isEven, heightStored, balanceBy};
 use avl::Lean;
 use avl::lean_of;
+use codec::Row;
 use rows::Change;
 use rows::LinksRead;
 use rows::links_at;
@@ -27,7 +28,7 @@ pub enum Turned {
     Damaged,
 }
 
-fn height(t: &[[u64; 32]], l: Link) -> HeightRead
+fn height(t: &[Row], l: Link) -> HeightRead
     ensures { λ r. ⌜ r ≡ spec.height (table (now (t .entry))) l ⌝ }
 {
     match l {
@@ -47,7 +48,7 @@ fn larger(a: u8, b: u8) -> u8
     if a < b { b } else { a }
 }
 
-fn update(t: &mut [[u64; 32]], i: u64, links: Links) -> Change
+fn update(t: &mut [Row], i: u64, links: Links) -> Change
     ensures { λ r. ⌜ out r (table (now (t .exit))) ≡ spec.update (table (now (t .entry))) i links ⌝ }
 {
     let left = links.left;
@@ -73,7 +74,7 @@ fn update(t: &mut [[u64; 32]], i: u64, links: Links) -> Change
     Change::Damaged
 }
 
-fn rotate_left(t: &mut [[u64; 32]], i: u64) -> Turned
+fn rotate_left(t: &mut [Row], i: u64) -> Turned
     ensures { λ r. ⌜ out r (table (now (t .exit))) ≡ spec.rotateLeft (table (now (t .entry))) i ⌝ }
 {
     let LinksRead::Got(links) = links_at(t, i) else {
@@ -114,7 +115,7 @@ fn rotate_left(t: &mut [[u64; 32]], i: u64) -> Turned
     Turned::Root(right)
 }
 
-fn rotate_right(t: &mut [[u64; 32]], i: u64) -> Turned
+fn rotate_right(t: &mut [Row], i: u64) -> Turned
     ensures { λ r. ⌜ out r (table (now (t .exit))) ≡ spec.rotateRight (table (now (t .entry))) i ⌝ }
 {
     let LinksRead::Got(links) = links_at(t, i) else {
@@ -156,7 +157,7 @@ fn rotate_right(t: &mut [[u64; 32]], i: u64) -> Turned
 }
 
 // The right child is rotated outward, and then the old copy of the links is written back with it.
-fn double_left(t: &mut [[u64; 32]], i: u64, links: Links, right: u64) -> Turned
+fn double_left(t: &mut [Row], i: u64, links: Links, right: u64) -> Turned
     ensures { λ r. ⌜ out r (table (now (t .exit))) ≡ spec.doubleLeft (table (now (t .entry))) i links right ⌝ }
 {
     let kept = links.left;
@@ -178,7 +179,7 @@ fn double_left(t: &mut [[u64; 32]], i: u64, links: Links, right: u64) -> Turned
 }
 
 // The left child is rotated outward, and then the old copy of the links is written back with it.
-fn double_right(t: &mut [[u64; 32]], i: u64, links: Links, left: u64) -> Turned
+fn double_right(t: &mut [Row], i: u64, links: Links, left: u64) -> Turned
     ensures { λ r. ⌜ out r (table (now (t .exit))) ≡ spec.doubleRight (table (now (t .entry))) i links left ⌝ }
 {
     let kept = links.right;
@@ -200,7 +201,7 @@ fn double_right(t: &mut [[u64; 32]], i: u64, links: Links, left: u64) -> Turned
 }
 
 // The left side is too high: its inner side is brought outward first where that is the higher.
-fn balance_left(t: &mut [[u64; 32]], i: u64, links: Links) -> Turned
+fn balance_left(t: &mut [Row], i: u64, links: Links) -> Turned
     ensures { λ r. ⌜ out r (table (now (t .exit))) ≡ spec.balanceLeft (table (now (t .entry))) i links ⌝ }
 {
     let left_link = links.left;
@@ -225,7 +226,7 @@ fn balance_left(t: &mut [[u64; 32]], i: u64, links: Links) -> Turned
 }
 
 // The right side is too high.
-fn balance_right(t: &mut [[u64; 32]], i: u64, links: Links) -> Turned
+fn balance_right(t: &mut [Row], i: u64, links: Links) -> Turned
     ensures { λ r. ⌜ out r (table (now (t .exit))) ≡ spec.balanceRight (table (now (t .entry))) i links ⌝ }
 {
     let right_link = links.right;
@@ -256,7 +257,7 @@ fn lean(left: u8, right: u8) -> Lean
     lean_of(left as u64, right as u64)
 }
 
-pub fn balance(t: &mut [[u64; 32]], i: u64) -> Turned
+pub fn balance(t: &mut [Row], i: u64) -> Turned
     ensures { λ r. ⌜ out r (table (now (t .exit))) ≡ spec.balance (table (now (t .entry))) i ⌝ }
 {
     let LinksRead::Got(links) = links_at(t, i) else {
@@ -298,7 +299,7 @@ fn is_even(left: u8, right: u8) -> bool
 }
 
 // The height above sides of these heights, stored at a node that stays where it is.
-fn store_height(t: &mut [[u64; 32]], i: u64, left: u8, right: u8) -> Turned
+fn store_height(t: &mut [Row], i: u64, left: u8, right: u8) -> Turned
     ensures { λ r. ⌜ out r (table (now (t .exit))) ≡ heightStored (table (now (t .entry))) i left right ⌝ }
 {
     let m = larger(left, right);
@@ -311,8 +312,9 @@ fn store_height(t: &mut [[u64; 32]], i: u64, left: u8, right: u8) -> Turned
     Turned::Damaged
 }
 
-// `balance` for the way up, where the node's links are known and nearly every node stays in its place: then nothing is read again, the height alone is stored, and no call is made.
-pub fn rebalance(t: &mut [[u64; 32]], i: u64, left: Link, right: Link) -> Turned
+// `balance` for the way up, where the node's links are known and nearly every node stays in its place: then nothing is
+// read again, the height alone is stored, and no call is made.
+pub fn rebalance(t: &mut [Row], i: u64, left: Link, right: Link) -> Turned
     ensures { λ r. ⌜ out r (table (now (t .exit))) ≡ balanceBy (table (now (t .entry))) i left right ⌝ }
 {
     let HeightRead::Got(a) = height(t, left) else {

@@ -1,4 +1,5 @@
--- What the numbers of an entry stand for, and the numbers of its answer: document 01's number first, 0 where the call was accepted; a refusal's values are 0.
+-- What the numbers of an entry stand for, and the numbers of its answer: document 01's number first, 0 where the call
+-- was accepted; a refusal's values are 0.
 use Prim.Native.Nat.{ℕ}
 use Rattle.refusal.specs.Answer.{Answer, value, refused}
 use Rattle.thread.specs.declared.Link.{Link}
@@ -19,7 +20,8 @@ use Rattle.row_entries.specs.declared.ListAnswer.{ListAnswer}
 
 -- A list by its head's two numbers, its tail's two and its length.
 unfoldable pub listFrom : ℕ → ℕ → ℕ → ℕ → ℕ → ThreadQueue
-listFrom headSome head tailSome tail len = record { head = linkFrom headSome head; tail = linkFrom tailSome tail; len = len }
+listFrom headSome head tailSome tail len =
+    record { head = linkFrom headSome head; tail = linkFrom tailSome tail; len = len }
 
 abbrev pub nothing : LinkWords
 nothing = record { some = 0; number = 0 }

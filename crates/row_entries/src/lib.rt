@@ -1,11 +1,14 @@
-// C calls on rows of numbers, through which the Rust host compares lists and trees with the kernel's source. Each is the call of its name on what the numbers stand for.
+// C calls on rows of numbers, through which the Rust host compares lists and trees with the kernel's source. Each is
+// the call of its name on what the numbers stand for.
 ghost use mathlib.Core.Path.{_≡_};
 ghost use Rattle.codec.specs.Codec.{linkFrom, membershipFrom};
 ghost use Rattle.rows.specs.Table.{table, out};
 ghost use Rattle.lists.specs.Answers.{listed};
 ghost use Rattle.lists.specs.Lists as lists;
 ghost use Rattle.ready_index.specs.Index as index;
-ghost use Rattle.row_entries.specs.Words.{listFrom, linkWords, listWords, leastWords, containedWords, rootWords, inWords};
+ghost use Rattle.row_entries.specs.Words.{listFrom, linkWords, listWords, leastWords, containedWords, rootWords};
+ghost use Rattle.row_entries.specs.Words.{inWords};
+use codec::Row;
 use codec::link_from;
 use codec::membership_from;
 use lists::Listed;
@@ -13,6 +16,7 @@ use lists::push;
 use lists::push_front;
 use ready_index::Contained;
 use ready_index::Least;
+use ready_index::Path;
 use ready_index::Rooted;
 use ready_index::contains;
 use ready_index::first;
@@ -99,7 +103,7 @@ fn list_words(answer: Listed) -> ListAnswer
 // lists::push
 #[no_mangle]
 pub extern "C" fn rows_list_push(
-    t: &mut [[u64; 32]],
+    t: &mut [Row],
     head_some: u64,
     head: u64,
     tail_some: u64,
@@ -110,7 +114,9 @@ pub extern "C" fn rows_list_push(
     first: u64,
     second: u64,
 ) -> ListAnswer
-    ensures { λ r. ⌜ out r (table (now (t .exit))) ≡ inWords listWords (lists.push (table (now (t .entry))) (listFrom «head_some» head «tail_some» tail len) id (membershipFrom tag first second)) ⌝ }
+    ensures { λ r. ⌜ out r (table (now (t .exit)))
+        ≡ inWords listWords (lists.push (table (now (t .entry))) (listFrom «head_some» head «tail_some» tail len) id
+        (membershipFrom tag first second)) ⌝ }
 {
     let list = list_of(head_some, head, tail_some, tail, len);
     let membership = membership_from(tag, first, second);
@@ -120,7 +126,7 @@ pub extern "C" fn rows_list_push(
 // lists::push_front
 #[no_mangle]
 pub extern "C" fn rows_list_push_front(
-    t: &mut [[u64; 32]],
+    t: &mut [Row],
     head_some: u64,
     head: u64,
     tail_some: u64,
@@ -131,7 +137,9 @@ pub extern "C" fn rows_list_push_front(
     first: u64,
     second: u64,
 ) -> ListAnswer
-    ensures { λ r. ⌜ out r (table (now (t .exit))) ≡ inWords listWords (lists.pushFront (table (now (t .entry))) (listFrom «head_some» head «tail_some» tail len) id (membershipFrom tag first second)) ⌝ }
+    ensures { λ r. ⌜ out r (table (now (t .exit)))
+        ≡ inWords listWords (lists.pushFront (table (now (t .entry)))
+        (listFrom «head_some» head «tail_some» tail len) id (membershipFrom tag first second)) ⌝ }
 {
     let list = list_of(head_some, head, tail_some, tail, len);
     let membership = membership_from(tag, first, second);
@@ -141,7 +149,7 @@ pub extern "C" fn rows_list_push_front(
 // lists::remove
 #[no_mangle]
 pub extern "C" fn rows_list_remove(
-    t: &mut [[u64; 32]],
+    t: &mut [Row],
     head_some: u64,
     head: u64,
     tail_some: u64,
@@ -152,7 +160,9 @@ pub extern "C" fn rows_list_remove(
     first: u64,
     second: u64,
 ) -> ListAnswer
-    ensures { λ r. ⌜ out r (table (now (t .exit))) ≡ inWords listWords (lists.remove (table (now (t .entry))) (listFrom «head_some» head «tail_some» tail len) id (membershipFrom tag first second)) ⌝ }
+    ensures { λ r. ⌜ out r (table (now (t .exit)))
+        ≡ inWords listWords (lists.remove (table (now (t .entry))) (listFrom «head_some» head «tail_some» tail len) id
+        (membershipFrom tag first second)) ⌝ }
 {
     let list = list_of(head_some, head, tail_some, tail, len);
     let membership = membership_from(tag, first, second);
@@ -214,7 +224,7 @@ fn root_words(answer: Rooted) -> IndexAnswer
 
 // ready_index::first
 #[no_mangle]
-pub extern "C" fn rows_index_first(t: &[[u64; 32]], some: u64, number: u64) -> IndexAnswer
+pub extern "C" fn rows_index_first(t: &[Row], some: u64, number: u64) -> IndexAnswer
     ensures { λ r. ⌜ r ≡ leastWords (index.first (table (now (t .entry))) (linkFrom some number)) ⌝ }
 {
     let root = link_from(some, number);
@@ -223,12 +233,7 @@ pub extern "C" fn rows_index_first(t: &[[u64; 32]], some: u64, number: u64) -> I
 
 // ready_index::contains
 #[no_mangle]
-pub extern "C" fn rows_index_contains(
-    t: &[[u64; 32]],
-    some: u64,
-    number: u64,
-    id: u64,
-) -> ContainsAnswer
+pub extern "C" fn rows_index_contains(t: &[Row], some: u64, number: u64, id: u64) -> ContainsAnswer
     ensures { λ r. ⌜ r ≡ containedWords (index.contains (table (now (t .entry))) (linkFrom some number) id) ⌝ }
 {
     let root = link_from(some, number);
@@ -238,13 +243,14 @@ pub extern "C" fn rows_index_contains(
 // ready_index::insert, with a path that the caller lends.
 #[no_mangle]
 pub extern "C" fn rows_index_insert(
-    t: &mut [[u64; 32]],
-    path: &mut [[u64; 2]; 40],
+    t: &mut [Row],
+    path: &mut Path,
     some: u64,
     number: u64,
     id: u64,
 ) -> IndexAnswer
-    ensures { λ r. ⌜ out r (table (now (t .exit))) ≡ inWords rootWords (index.insert (table (now (t .entry))) (linkFrom some number) id) ⌝ }
+    ensures { λ r. ⌜ out r (table (now (t .exit)))
+        ≡ inWords rootWords (index.insert (table (now (t .entry))) (linkFrom some number) id) ⌝ }
 {
     let root = link_from(some, number);
     root_words(insert(t, path, root, id))
@@ -253,13 +259,14 @@ pub extern "C" fn rows_index_insert(
 // ready_index::remove, with a path that the caller lends.
 #[no_mangle]
 pub extern "C" fn rows_index_remove(
-    t: &mut [[u64; 32]],
-    path: &mut [[u64; 2]; 40],
+    t: &mut [Row],
+    path: &mut Path,
     some: u64,
     number: u64,
     id: u64,
 ) -> IndexAnswer
-    ensures { λ r. ⌜ out r (table (now (t .exit))) ≡ inWords rootWords (index.remove (table (now (t .entry))) (linkFrom some number) id) ⌝ }
+    ensures { λ r. ⌜ out r (table (now (t .exit)))
+        ≡ inWords rootWords (index.remove (table (now (t .entry))) (linkFrom some number) id) ⌝ }
 {
     let root = link_from(some, number);
     root_words(ready_index::remove(t, path, root, id))

@@ -1,4 +1,5 @@
--- Laws by which a load or a store on rows meets the table's definition: one for a number inside the table and one for a number outside.
+-- Laws by which a load or a store on rows meets the table's definition: one for a number inside the table and one for a
+-- number outside.
 use Prim.Native.Nat.{ℕ, zero, suc, _<_, _≤_}
 use mathlib.Core.Path.{_≡_, refl, sym, ap, _∙_}
 use mathlib.Core.List.{List, [], _∷_, map}
@@ -19,9 +20,12 @@ use Rattle.rows.specs.declared.KeyRead.the-variants as key
 use Rattle.rows.specs.declared.QueueLinksRead.the-variants as queueLinks
 use Rattle.rows.specs.declared.RecordRead.the-variants as read
 use Rattle.rows.specs.declared.Change.the-variants as change
-use Rattle.rows.specs.Table.{out, table, recordOf, changed, reading, storing, linksAt, keyAt, queueLinksAt, recordAt, setLinks, setLeft, setRight, setHeight, setQueueLinks, setRuntime, setTurn}
+use Rattle.rows.specs.Table.{out, table, recordOf, changed, reading, storing, linksAt, keyAt, queueLinksAt}
+use Rattle.rows.specs.Table.{recordAt, setLinks, setLeft, setRight, setHeight, setQueueLinks, setRuntime}
+use Rattle.rows.specs.Table.{setTurn}
 
-map-set : (rows : List (List ℕ)) (i : ℕ) (w : List ℕ) → map decoded (set rows i w) ≡ set (map decoded rows) i (decoded w)
+map-set : (rows : List (List ℕ)) (i : ℕ) (w : List ℕ)
+    → map decoded (set rows i w) ≡ set (map decoded rows) i (decoded w)
 map-set [] i w = refl
 map-set (x ∷ rows) zero w = refl
 map-set (x ∷ rows) (suc i) w = ap (λ (t : List ThreadRecord). decoded x ∷ t) (map-set rows i w)
@@ -40,11 +44,13 @@ module _ (rows : List (List ℕ)) (i : ℕ) where
   unfolding table
   table-set w = map-set rows i w
 
-  table-changed : (f : ThreadRecord → ThreadRecord) (w : List ℕ) → decoded w ≡ f (decoded (getD rows i [])) → table (set rows i w) ≡ changed (table rows) i f
+  table-changed : (f : ThreadRecord → ThreadRecord) (w : List ℕ) → decoded w ≡ f (decoded (getD rows i []))
+      → table (set rows i w) ≡ changed (table rows) i f
   unfolding changed
   table-changed f w e = table-set w ∙ ap (set (table rows) i) (e ∙ ap f (sym table-record))
 
-  reading-row : {A : Type 0} (f : ThreadRecord → A) (d : A) → i < length rows → f (decoded (getD rows i [])) ≡ reading (table rows) i f d
+  reading-row : {A : Type 0} (f : ThreadRecord → A) (d : A) → i < length rows
+      → f (decoded (getD rows i [])) ≡ reading (table rows) i f d
   unfolding reading ifLess choose
   reading-row f d h = rw (table-length rows, lt-ltb i (length rows) h, table-record)
 
@@ -52,12 +58,14 @@ module _ (rows : List (List ℕ)) (i : ℕ) where
   unfolding reading ifLess choose
   reading-none f d h = rw (table-length rows, le-ltb i (length rows) h)
 
-  storing-row : (f : ThreadRecord → ThreadRecord) (w : List ℕ) → i < length rows → decoded w ≡ f (decoded (getD rows i []))
+  storing-row : (f : ThreadRecord → ThreadRecord) (w : List ℕ) → i < length rows
+      → decoded w ≡ f (decoded (getD rows i []))
       → out change.Made (table (set rows i w)) ≡ storing (table rows) i f
   unfolding storing ifLess choose
   storing-row f w h e = rw (table-length rows, lt-ltb i (length rows) h, table-changed f w e)
 
-  storing-none : (f : ThreadRecord → ThreadRecord) → length rows ≤ i → out change.Damaged (table rows) ≡ storing (table rows) i f
+  storing-none : (f : ThreadRecord → ThreadRecord) → length rows ≤ i
+      → out change.Damaged (table rows) ≡ storing (table rows) i f
   unfolding storing ifLess choose
   storing-none f h = rw (table-length rows, le-ltb i (length rows) h)
 
@@ -69,7 +77,8 @@ module _ (rows : List (List ℕ)) (i : ℕ) where
   unfolding linksAt
   links-outside h = reading-none (λ (r : ThreadRecord). links.Got (r .«ready_tree»)) links.Damaged h
 
-  pub key-inside : {k : TreeKey} → i < length rows → k ≡ readyIndexKey (decoded (getD rows i [])) i → key.Got k ≡ keyAt (table rows) i
+  pub key-inside : {k : TreeKey} → i < length rows → k ≡ readyIndexKey (decoded (getD rows i [])) i
+      → key.Got k ≡ keyAt (table rows) i
   unfolding keyAt
   key-inside h e = rw e (reading-row (λ (r : ThreadRecord). key.Got (readyIndexKey r i)) key.Damaged h)
 
@@ -77,15 +86,18 @@ module _ (rows : List (List ℕ)) (i : ℕ) where
   unfolding keyAt
   key-outside h = reading-none (λ (r : ThreadRecord). key.Got (readyIndexKey r i)) key.Damaged h
 
-  pub queue-links-inside : {l : QueueLinks} → i < length rows → l ≡ queueLinksOf (getD rows i []) → queueLinks.Got l ≡ queueLinksAt (table rows) i
+  pub queue-links-inside : {l : QueueLinks} → i < length rows → l ≡ queueLinksOf (getD rows i [])
+      → queueLinks.Got l ≡ queueLinksAt (table rows) i
   unfolding queueLinksAt decoded
-  queue-links-inside h e = rw e (reading-row (λ (r : ThreadRecord). queueLinks.Got (r .«queue_links»)) queueLinks.Damaged h)
+  queue-links-inside h e =
+      rw e (reading-row (λ (r : ThreadRecord). queueLinks.Got (r .«queue_links»)) queueLinks.Damaged h)
 
   pub queue-links-outside : length rows ≤ i → queueLinks.Damaged ≡ queueLinksAt (table rows) i
   unfolding queueLinksAt
   queue-links-outside h = reading-none (λ (r : ThreadRecord). queueLinks.Got (r .«queue_links»)) queueLinks.Damaged h
 
-  pub record-inside : {r : ThreadRecord} → i < length rows → r ≡ decoded (getD rows i []) → read.Got r ≡ recordAt (table rows) i
+  pub record-inside : {r : ThreadRecord} → i < length rows → r ≡ decoded (getD rows i [])
+      → read.Got r ≡ recordAt (table rows) i
   unfolding recordAt
   record-inside h e = rw e (reading-row (λ (r : ThreadRecord). read.Got r) read.Damaged h)
 
@@ -129,21 +141,25 @@ module _ (rows : List (List ℕ)) (i : ℕ) where
   unfolding setHeight
   set-height-outside n = storing-none (withHeight n)
 
-  pub set-queue-links-inside : (l : QueueLinks) (w : List ℕ) → i < length rows → decoded w ≡ withQueueLinks l (decoded (getD rows i []))
+  pub set-queue-links-inside : (l : QueueLinks) (w : List ℕ) → i < length rows
+      → decoded w ≡ withQueueLinks l (decoded (getD rows i []))
       → out change.Made (table (set rows i w)) ≡ setQueueLinks (table rows) i l
   unfolding setQueueLinks
   set-queue-links-inside l = storing-row (withQueueLinks l)
 
-  pub set-queue-links-outside : (l : QueueLinks) → length rows ≤ i → out change.Damaged (table rows) ≡ setQueueLinks (table rows) i l
+  pub set-queue-links-outside : (l : QueueLinks) → length rows ≤ i
+      → out change.Damaged (table rows) ≡ setQueueLinks (table rows) i l
   unfolding setQueueLinks
   set-queue-links-outside l = storing-none (withQueueLinks l)
 
-  pub set-runtime-inside : (x : PolicyRuntime) (w : List ℕ) → i < length rows → decoded w ≡ withRuntime x (decoded (getD rows i []))
+  pub set-runtime-inside : (x : PolicyRuntime) (w : List ℕ) → i < length rows
+      → decoded w ≡ withRuntime x (decoded (getD rows i []))
       → out change.Made (table (set rows i w)) ≡ setRuntime (table rows) i x
   unfolding setRuntime
   set-runtime-inside x = storing-row (withRuntime x)
 
-  pub set-runtime-outside : (x : PolicyRuntime) → length rows ≤ i → out change.Damaged (table rows) ≡ setRuntime (table rows) i x
+  pub set-runtime-outside : (x : PolicyRuntime) → length rows ≤ i
+      → out change.Damaged (table rows) ≡ setRuntime (table rows) i x
   unfolding setRuntime
   set-runtime-outside x = storing-none (withRuntime x)
 

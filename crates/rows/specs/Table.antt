@@ -1,4 +1,5 @@
--- The table of records, read and changed by number. A number that is not below the record count is Damaged, and then nothing changes.
+-- The table of records, read and changed by number. A number that is not below the record count is Damaged, and then
+-- nothing changes.
 use Prim.Native.Nat.{ℕ}
 use mathlib.Core.List.{List, [], map}
 use lib.ListN.{length, getD, set}
@@ -21,6 +22,10 @@ use Rattle.rows.specs.declared.RecordRead.{RecordRead}
 use Rattle.rows.specs.declared.RecordRead.the-variants as read
 use Rattle.rows.specs.declared.Change.{Change}
 use Rattle.rows.specs.declared.Change.the-variants as change
+
+-- A record's place is 0 to 4,095.
+abbrev pub maxRecords : ℕ
+maxRecords = 4096
 
 -- An answer, and the table as it is left.
 pub data Out (A : Type 0) : Type 0 where

@@ -1,4 +1,5 @@
--- Choosing by what was read, and by whether a store was made, with the laws by which proofs do: r is what the call gave, x what its contract says of it.
+-- Choosing by what was read, and by whether a store was made, with the laws by which proofs do: r is what the call
+-- gave, x what its contract says of it.
 use mathlib.Core.Path.{_≡_, sym, _∙_}
 use mathlib.Core.List.{List}
 use Rattle.thread.specs.declared.Links.{Links}
@@ -56,15 +57,18 @@ module _ {A : Type 0} {y : A} (a : A) where
   unfolding onKey
   key-damaged f e m h = rw (sym e ∙ m) h
 
-  pub queue-links-got : {r x : QueueLinksRead} {l : QueueLinks} (f : QueueLinks → A) → r ≡ x → r ≡ queueLinks.Got l → y ≡ f l → y ≡ onQueueLinks x a f
+  pub queue-links-got : {r x : QueueLinksRead} {l : QueueLinks} (f : QueueLinks → A) → r ≡ x → r ≡ queueLinks.Got l
+      → y ≡ f l → y ≡ onQueueLinks x a f
   unfolding onQueueLinks
   queue-links-got f e m h = rw (sym e ∙ m) h
 
-  pub queue-links-damaged : {r x : QueueLinksRead} (f : QueueLinks → A) → r ≡ x → r ≡ queueLinks.Damaged → y ≡ a → y ≡ onQueueLinks x a f
+  pub queue-links-damaged : {r x : QueueLinksRead} (f : QueueLinks → A) → r ≡ x → r ≡ queueLinks.Damaged → y ≡ a
+      → y ≡ onQueueLinks x a f
   unfolding onQueueLinks
   queue-links-damaged f e m h = rw (sym e ∙ m) h
 
-  pub record-got : {r x : RecordRead} {t : ThreadRecord} (f : ThreadRecord → A) → r ≡ x → r ≡ read.Got t → y ≡ f t → y ≡ onRecord x a f
+  pub record-got : {r x : RecordRead} {t : ThreadRecord} (f : ThreadRecord → A) → r ≡ x → r ≡ read.Got t → y ≡ f t
+      → y ≡ onRecord x a f
   unfolding onRecord
   record-got f e m h = rw (sym e ∙ m) h
 
@@ -81,4 +85,15 @@ module _ {A : Type 0} {y : A} {r : Change} {x : Out Change} {t : List ThreadReco
   unfolding onMade
   not-made e m h = rw (sym e) (rw m h)
 
-pub ruleset tables = (links-got, links-damaged, key-got, key-damaged, queue-links-got, queue-links-damaged, record-got, record-damaged, made, not-made)
+pub ruleset tables = (
+  links-got,
+  links-damaged,
+  key-got,
+  key-damaged,
+  queue-links-got,
+  queue-links-damaged,
+  record-got,
+  record-damaged,
+  made,
+  not-made,
+)

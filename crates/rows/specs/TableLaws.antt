@@ -1,4 +1,5 @@
--- Laws of reading after a store: the record stored is the one read at that number, and every other record and part is as it was.
+-- Laws of reading after a store: the record stored is the one read at that number, and every other record and part is
+-- as it was.
 use Prim.Native.Nat.{ℕ, zero, suc, _<_, _≤_}
 use native.Mathlib.Omega.{arith}
 use mathlib.Core.Path.{_≡_, refl, sym, ap, _∙_}
@@ -26,7 +27,9 @@ use Rattle.rows.specs.declared.KeyRead.the-variants as key
 use Rattle.rows.specs.declared.QueueLinksRead.the-variants as queueLinks
 use Rattle.rows.specs.declared.RecordRead.the-variants as read
 use Rattle.rows.specs.declared.Change.the-variants as change
-use Rattle.rows.specs.Table.{Out, out, after, recordOf, changed, reading, storing, linksAt, keyAt, queueLinksAt, recordAt, setLinks, setLeft, setRight, setHeight, setQueueLinks, setRuntime, setTurn}
+use Rattle.rows.specs.Table.{Out, out, after, recordOf, changed, reading, storing, linksAt, keyAt, queueLinksAt}
+use Rattle.rows.specs.Table.{recordAt, setLinks, setLeft, setRight, setHeight, setQueueLinks, setRuntime}
+use Rattle.rows.specs.Table.{setTurn}
 use Rattle.rows.specs.TableCases.{onLinks}
 
 -- One lemma about `set` at the same place, one at another, one beyond the end.
@@ -69,7 +72,8 @@ module _ (t : List ThreadRecord) (i : ℕ) (f : ThreadRecord → ThreadRecord) w
   unfolding storing ifLess choose
   after-storing = go (ltb i (length t)) refl
     where
-      go : (b : Bool) → ltb i (length t) ≡ b → after (choose b (out change.Made (changed t i f)) (out change.Damaged t)) ≡ changed t i f
+      go : (b : Bool) → ltb i (length t) ≡ b
+          → after (choose b (out change.Made (changed t i f)) (out change.Damaged t)) ≡ changed t i f
       go true e = refl
       go false e = sym (changed-beyond (ltb-false i (length t) e))
 
@@ -90,7 +94,8 @@ module _ {A : Type 0} (t : List ThreadRecord) (i : ℕ) (g : ThreadRecord → A)
   unfolding reading ifLess choose
   reading-beyond h = rw (le-ltb i (length t) h)
 
-module _ {A : Type 0} (t : List ThreadRecord) (i : ℕ) (f : ThreadRecord → ThreadRecord) (g : ThreadRecord → A) (d : A) where
+module _ {A : Type 0} (t : List ThreadRecord) (i : ℕ) (f : ThreadRecord → ThreadRecord) (g : ThreadRecord → A)
+    (d : A) where
   pub reading-same : i < length t → reading (changed t i f) i g d ≡ g (f (recordOf t i))
   unfolding reading ifLess choose
   reading-same h = rw (length-changed t i f, lt-ltb i (length t) h, record-same t i f h)
@@ -103,10 +108,14 @@ module _ {A : Type 0} (t : List ThreadRecord) (i : ℕ) (f : ThreadRecord → Th
   pub reading-kept : (j : ℕ) → g (f (recordOf t i)) ≡ g (recordOf t i) → reading (changed t i f) j g d ≡ reading t j g d
   reading-kept j h = go (eqb j i) refl (ltb i (length t)) refl
     where
-      go : (b : Bool) → eqb j i ≡ b → (c : Bool) → ltb i (length t) ≡ c → reading (changed t i f) j g d ≡ reading t j g d
+      go : (b : Bool) → eqb j i ≡ b → (c : Bool) → ltb i (length t) ≡ c
+          → reading (changed t i f) j g d ≡ reading t j g d
       go false e c k = reading-other j (eqb-false j i e)
-      go true e false k = ap (λ (s : List ThreadRecord). reading s j g d) (changed-beyond t i f (ltb-false i (length t) k))
-      go true e true k = rw (eqb-true j i e) (reading-same (ltb-true i (length t) k) ∙ h ∙ sym (reading-within t i g d (ltb-true i (length t) k)))
+      go true e false k =
+          ap (λ (s : List ThreadRecord). reading s j g d) (changed-beyond t i f (ltb-false i (length t) k))
+      go true e true k =
+          rw (eqb-true j i e) (reading-same (ltb-true i (length t) k) ∙ h
+          ∙ sym (reading-within t i g d (ltb-true i (length t) k)))
 
 -- What each read gives inside the table, what outside, and that what was got lies inside.
 module _ (t : List ThreadRecord) (i : ℕ) where
@@ -142,18 +151,21 @@ module _ (t : List ThreadRecord) (i : ℕ) where
 
   pub queue-links-within : i < length t → queueLinksAt t i ≡ queueLinks.Got (recordOf t i .«queue_links»)
   unfolding queueLinksAt
-  queue-links-within h = reading-within t i (λ (r : ThreadRecord). queueLinks.Got (r .«queue_links»)) queueLinks.Damaged h
+  queue-links-within h =
+      reading-within t i (λ (r : ThreadRecord). queueLinks.Got (r .«queue_links»)) queueLinks.Damaged h
 
   pub queue-links-beyond : length t ≤ i → queueLinksAt t i ≡ queueLinks.Damaged
   unfolding queueLinksAt
-  queue-links-beyond h = reading-beyond t i (λ (r : ThreadRecord). queueLinks.Got (r .«queue_links»)) queueLinks.Damaged h
+  queue-links-beyond h =
+      reading-beyond t i (λ (r : ThreadRecord). queueLinks.Got (r .«queue_links»)) queueLinks.Damaged h
 
   pub queue-links-got-within : {x : QueueLinks} → queueLinksAt t i ≡ queueLinks.Got x → i < length t
   queue-links-got-within {x} e = go (ltb i (length t)) refl
     where
       go : (b : Bool) → ltb i (length t) ≡ b → i < length t
       go true k = ltb-true i (length t) k
-      go false k = let f : queueLinksAt t i ≡ queueLinks.Damaged = queue-links-beyond (ltb-false i (length t) k) in never cc
+      go false k =
+          let f : queueLinksAt t i ≡ queueLinks.Damaged = queue-links-beyond (ltb-false i (length t) k) in never cc
 
   pub record-within : i < length t → recordAt t i ≡ read.Got (recordOf t i)
   unfolding recordAt
@@ -189,27 +201,37 @@ module _ (t : List ThreadRecord) (i : ℕ) (l : Links) where
 
   pub record-set-links-same : i < length t → recordAt (after (setLinks t i l)) i ≡ read.Got (withLinks l (recordOf t i))
   unfolding recordAt
-  record-set-links-same h = rw after-set-links (reading-same t i (withLinks l) (λ (r : ThreadRecord). read.Got r) read.Damaged h)
+  record-set-links-same h =
+      rw after-set-links (reading-same t i (withLinks l) (λ (r : ThreadRecord). read.Got r) read.Damaged h)
 
   pub record-set-links-other : (j : ℕ) → (j ≡ i → ⊥) → recordAt (after (setLinks t i l)) j ≡ recordAt t j
   unfolding recordAt
-  record-set-links-other j h = rw after-set-links (reading-other t i (withLinks l) (λ (r : ThreadRecord). read.Got r) read.Damaged j h)
+  record-set-links-other j h =
+      rw after-set-links (reading-other t i (withLinks l) (λ (r : ThreadRecord). read.Got r) read.Damaged j h)
 
   pub links-set-links-same : i < length t → linksAt (after (setLinks t i l)) i ≡ links.Got l
   unfolding linksAt
-  links-set-links-same h = rw after-set-links (reading-same t i (withLinks l) (λ (r : ThreadRecord). links.Got (r .«ready_tree»)) links.Damaged h)
+  links-set-links-same h =
+      rw after-set-links (reading-same t i (withLinks l) (λ (r : ThreadRecord). links.Got (r .«ready_tree»))
+      links.Damaged h)
 
   pub links-set-links-other : (j : ℕ) → (j ≡ i → ⊥) → linksAt (after (setLinks t i l)) j ≡ linksAt t j
   unfolding linksAt
-  links-set-links-other j h = rw after-set-links (reading-other t i (withLinks l) (λ (r : ThreadRecord). links.Got (r .«ready_tree»)) links.Damaged j h)
+  links-set-links-other j h =
+      rw after-set-links (reading-other t i (withLinks l) (λ (r : ThreadRecord). links.Got (r .«ready_tree»))
+      links.Damaged j h)
 
   pub key-set-links : (j : ℕ) → keyAt (after (setLinks t i l)) j ≡ keyAt t j
   unfolding keyAt readyIndexKey
-  key-set-links j = rw after-set-links (reading-kept t i (withLinks l) (λ (r : ThreadRecord). key.Got (readyIndexKey r j)) key.Damaged j refl)
+  key-set-links j =
+      rw after-set-links (reading-kept t i (withLinks l) (λ (r : ThreadRecord). key.Got (readyIndexKey r j)) key.Damaged
+      j refl)
 
   pub queue-links-set-links : (j : ℕ) → queueLinksAt (after (setLinks t i l)) j ≡ queueLinksAt t j
   unfolding queueLinksAt
-  queue-links-set-links j = rw after-set-links (reading-kept t i (withLinks l) (λ (r : ThreadRecord). queueLinks.Got (r .«queue_links»)) queueLinks.Damaged j refl)
+  queue-links-set-links j =
+      rw after-set-links (reading-kept t i (withLinks l) (λ (r : ThreadRecord). queueLinks.Got (r .«queue_links»))
+      queueLinks.Damaged j refl)
 
 -- A store of one tree link or of the height is a store of the links that were read with it.
 module _ (t : List ThreadRecord) (i : ℕ) {l : Links} (e : linksAt t i ≡ links.Got l) where
@@ -217,15 +239,18 @@ module _ (t : List ThreadRecord) (i : ℕ) {l : Links} (e : linksAt t i ≡ link
   unfolding onLinks
   links-read = ap (λ (x : LinksRead). onLinks x l (λ m. m)) (sym (links-within t i (links-got-within t i e)) ∙ e)
 
-  pub set-left-links : (sub : Link) → setLeft t i sub ≡ setLinks t i (record { left = sub; right = l .right; height = l .height })
+  pub set-left-links : (sub : Link)
+      → setLeft t i sub ≡ setLinks t i (record { left = sub; right = l .right; height = l .height })
   unfolding setLeft setLinks storing changed
   set-left-links sub = rw links-read
 
-  pub set-right-links : (sub : Link) → setRight t i sub ≡ setLinks t i (record { left = l .left; right = sub; height = l .height })
+  pub set-right-links : (sub : Link)
+      → setRight t i sub ≡ setLinks t i (record { left = l .left; right = sub; height = l .height })
   unfolding setRight setLinks storing changed
   set-right-links sub = rw links-read
 
-  pub set-height-links : (n : ℕ) → setHeight t i n ≡ setLinks t i (record { left = l .left; right = l .right; height = n })
+  pub set-height-links : (n : ℕ)
+      → setHeight t i n ≡ setLinks t i (record { left = l .left; right = l .right; height = n })
   unfolding setHeight setLinks storing changed
   set-height-links n = rw links-read
 
@@ -235,7 +260,9 @@ module _ (t : List ThreadRecord) (i : ℕ) (e : linksAt t i ≡ links.Damaged) w
   outside = go (ltb i (length t)) refl
     where
       go : (b : Bool) → ltb i (length t) ≡ b → length t ≤ i
-      go true k = let f : linksAt t i ≡ links.Got (recordOf t i .«ready_tree») = links-within t i (ltb-true i (length t) k) in never cc
+      go true k =
+          let f : linksAt t i ≡ links.Got (recordOf t i .«ready_tree») = links-within t i (ltb-true i (length t) k) in
+          never cc
       go false k = ltb-false i (length t) k
 
   pub set-left-damaged : (sub : Link) → setLeft t i sub ≡ out change.Damaged t
@@ -263,29 +290,42 @@ module _ (t : List ThreadRecord) (i : ℕ) (l : QueueLinks) where
   pub length-set-queue-links : length (after (setQueueLinks t i l)) ≡ length t
   length-set-queue-links = ap (length {A = ThreadRecord}) after-set-queue-links ∙ length-changed t i (withQueueLinks l)
 
-  pub record-set-queue-links-same : i < length t → recordAt (after (setQueueLinks t i l)) i ≡ read.Got (withQueueLinks l (recordOf t i))
+  pub record-set-queue-links-same : i < length t
+      → recordAt (after (setQueueLinks t i l)) i ≡ read.Got (withQueueLinks l (recordOf t i))
   unfolding recordAt
-  record-set-queue-links-same h = rw after-set-queue-links (reading-same t i (withQueueLinks l) (λ (r : ThreadRecord). read.Got r) read.Damaged h)
+  record-set-queue-links-same h =
+      rw after-set-queue-links (reading-same t i (withQueueLinks l) (λ (r : ThreadRecord). read.Got r) read.Damaged h)
 
   pub record-set-queue-links-other : (j : ℕ) → (j ≡ i → ⊥) → recordAt (after (setQueueLinks t i l)) j ≡ recordAt t j
   unfolding recordAt
-  record-set-queue-links-other j h = rw after-set-queue-links (reading-other t i (withQueueLinks l) (λ (r : ThreadRecord). read.Got r) read.Damaged j h)
+  record-set-queue-links-other j h =
+      rw after-set-queue-links (reading-other t i (withQueueLinks l)
+      (λ (r : ThreadRecord). read.Got r) read.Damaged j h)
 
   pub queue-links-set-queue-links-same : i < length t → queueLinksAt (after (setQueueLinks t i l)) i ≡ queueLinks.Got l
   unfolding queueLinksAt
-  queue-links-set-queue-links-same h = rw after-set-queue-links (reading-same t i (withQueueLinks l) (λ (r : ThreadRecord). queueLinks.Got (r .«queue_links»)) queueLinks.Damaged h)
+  queue-links-set-queue-links-same h =
+      rw after-set-queue-links (reading-same t i (withQueueLinks l)
+      (λ (r : ThreadRecord). queueLinks.Got (r .«queue_links»)) queueLinks.Damaged h)
 
-  pub queue-links-set-queue-links-other : (j : ℕ) → (j ≡ i → ⊥) → queueLinksAt (after (setQueueLinks t i l)) j ≡ queueLinksAt t j
+  pub queue-links-set-queue-links-other : (j : ℕ) → (j ≡ i → ⊥)
+      → queueLinksAt (after (setQueueLinks t i l)) j ≡ queueLinksAt t j
   unfolding queueLinksAt
-  queue-links-set-queue-links-other j h = rw after-set-queue-links (reading-other t i (withQueueLinks l) (λ (r : ThreadRecord). queueLinks.Got (r .«queue_links»)) queueLinks.Damaged j h)
+  queue-links-set-queue-links-other j h =
+      rw after-set-queue-links (reading-other t i (withQueueLinks l)
+      (λ (r : ThreadRecord). queueLinks.Got (r .«queue_links»)) queueLinks.Damaged j h)
 
   pub links-set-queue-links : (j : ℕ) → linksAt (after (setQueueLinks t i l)) j ≡ linksAt t j
   unfolding linksAt
-  links-set-queue-links j = rw after-set-queue-links (reading-kept t i (withQueueLinks l) (λ (r : ThreadRecord). links.Got (r .«ready_tree»)) links.Damaged j refl)
+  links-set-queue-links j =
+      rw after-set-queue-links (reading-kept t i (withQueueLinks l) (λ (r : ThreadRecord). links.Got (r .«ready_tree»))
+      links.Damaged j refl)
 
   pub key-set-queue-links : (j : ℕ) → keyAt (after (setQueueLinks t i l)) j ≡ keyAt t j
   unfolding keyAt readyIndexKey
-  key-set-queue-links j = rw after-set-queue-links (reading-kept t i (withQueueLinks l) (λ (r : ThreadRecord). key.Got (readyIndexKey r j)) key.Damaged j refl)
+  key-set-queue-links j =
+      rw after-set-queue-links (reading-kept t i (withQueueLinks l) (λ (r : ThreadRecord). key.Got (readyIndexKey r j))
+      key.Damaged j refl)
 
 -- `set_runtime` changes the runtime of its record and nothing else; the key where it is the pass.
 module _ (t : List ThreadRecord) (i : ℕ) (x : PolicyRuntime) where
@@ -304,31 +344,43 @@ module _ (t : List ThreadRecord) (i : ℕ) (x : PolicyRuntime) where
   pub length-set-runtime : length (after (setRuntime t i x)) ≡ length t
   length-set-runtime = ap (length {A = ThreadRecord}) after-set-runtime ∙ length-changed t i (withRuntime x)
 
-  pub record-set-runtime-same : i < length t → recordAt (after (setRuntime t i x)) i ≡ read.Got (withRuntime x (recordOf t i))
+  pub record-set-runtime-same : i < length t
+      → recordAt (after (setRuntime t i x)) i ≡ read.Got (withRuntime x (recordOf t i))
   unfolding recordAt
-  record-set-runtime-same h = rw after-set-runtime (reading-same t i (withRuntime x) (λ (r : ThreadRecord). read.Got r) read.Damaged h)
+  record-set-runtime-same h =
+      rw after-set-runtime (reading-same t i (withRuntime x) (λ (r : ThreadRecord). read.Got r) read.Damaged h)
 
   pub record-set-runtime-other : (j : ℕ) → (j ≡ i → ⊥) → recordAt (after (setRuntime t i x)) j ≡ recordAt t j
   unfolding recordAt
-  record-set-runtime-other j h = rw after-set-runtime (reading-other t i (withRuntime x) (λ (r : ThreadRecord). read.Got r) read.Damaged j h)
+  record-set-runtime-other j h =
+      rw after-set-runtime (reading-other t i (withRuntime x) (λ (r : ThreadRecord). read.Got r) read.Damaged j h)
 
   pub links-set-runtime : (j : ℕ) → linksAt (after (setRuntime t i x)) j ≡ linksAt t j
   unfolding linksAt
-  links-set-runtime j = rw after-set-runtime (reading-kept t i (withRuntime x) (λ (r : ThreadRecord). links.Got (r .«ready_tree»)) links.Damaged j refl)
+  links-set-runtime j =
+      rw after-set-runtime (reading-kept t i (withRuntime x) (λ (r : ThreadRecord). links.Got (r .«ready_tree»))
+      links.Damaged j refl)
 
   pub queue-links-set-runtime : (j : ℕ) → queueLinksAt (after (setRuntime t i x)) j ≡ queueLinksAt t j
   unfolding queueLinksAt
-  queue-links-set-runtime j = rw after-set-runtime (reading-kept t i (withRuntime x) (λ (r : ThreadRecord). queueLinks.Got (r .«queue_links»)) queueLinks.Damaged j refl)
+  queue-links-set-runtime j =
+      rw after-set-runtime (reading-kept t i (withRuntime x) (λ (r : ThreadRecord). queueLinks.Got (r .«queue_links»))
+      queueLinks.Damaged j refl)
 
   pub key-set-runtime-other : (j : ℕ) → (j ≡ i → ⊥) → keyAt (after (setRuntime t i x)) j ≡ keyAt t j
   unfolding keyAt
-  key-set-runtime-other j h = rw after-set-runtime (reading-other t i (withRuntime x) (λ (r : ThreadRecord). key.Got (readyIndexKey r j)) key.Damaged j h)
+  key-set-runtime-other j h =
+      rw after-set-runtime (reading-other t i (withRuntime x) (λ (r : ThreadRecord). key.Got (readyIndexKey r j))
+      key.Damaged j h)
 
   pub key-set-runtime : (j : ℕ)
-      → algorithmKey (recordOf t i .parameters) x (recordOf t i .«ready_turn») ≡ algorithmKey (recordOf t i .parameters) (recordOf t i .runtime) (recordOf t i .«ready_turn»)
+      → algorithmKey (recordOf t i .parameters) x (recordOf t i .«ready_turn») ≡ algorithmKey (recordOf t i .parameters)
+      (recordOf t i .runtime) (recordOf t i .«ready_turn»)
       → keyAt (after (setRuntime t i x)) j ≡ keyAt t j
   unfolding keyAt readyIndexKey treeKey
-  key-set-runtime j h = rw after-set-runtime (reading-kept t i (withRuntime x) (λ (r : ThreadRecord). key.Got (readyIndexKey r j)) key.Damaged j (rw h))
+  key-set-runtime j h =
+      rw after-set-runtime (reading-kept t i (withRuntime x) (λ (r : ThreadRecord). key.Got (readyIndexKey r j))
+      key.Damaged j (rw h))
 
 -- `set_turn` changes the turn of its record, and with it the key.
 module _ (t : List ThreadRecord) (i : ℕ) (n : ℕ) where
@@ -349,25 +401,34 @@ module _ (t : List ThreadRecord) (i : ℕ) (n : ℕ) where
 
   pub record-set-turn-same : i < length t → recordAt (after (setTurn t i n)) i ≡ read.Got (withTurn n (recordOf t i))
   unfolding recordAt
-  record-set-turn-same h = rw after-set-turn (reading-same t i (withTurn n) (λ (r : ThreadRecord). read.Got r) read.Damaged h)
+  record-set-turn-same h =
+      rw after-set-turn (reading-same t i (withTurn n) (λ (r : ThreadRecord). read.Got r) read.Damaged h)
 
   pub record-set-turn-other : (j : ℕ) → (j ≡ i → ⊥) → recordAt (after (setTurn t i n)) j ≡ recordAt t j
   unfolding recordAt
-  record-set-turn-other j h = rw after-set-turn (reading-other t i (withTurn n) (λ (r : ThreadRecord). read.Got r) read.Damaged j h)
+  record-set-turn-other j h =
+      rw after-set-turn (reading-other t i (withTurn n) (λ (r : ThreadRecord). read.Got r) read.Damaged j h)
 
   pub links-set-turn : (j : ℕ) → linksAt (after (setTurn t i n)) j ≡ linksAt t j
   unfolding linksAt
-  links-set-turn j = rw after-set-turn (reading-kept t i (withTurn n) (λ (r : ThreadRecord). links.Got (r .«ready_tree»)) links.Damaged j refl)
+  links-set-turn j =
+      rw after-set-turn (reading-kept t i (withTurn n) (λ (r : ThreadRecord). links.Got (r .«ready_tree»)) links.Damaged
+      j refl)
 
   pub queue-links-set-turn : (j : ℕ) → queueLinksAt (after (setTurn t i n)) j ≡ queueLinksAt t j
   unfolding queueLinksAt
-  queue-links-set-turn j = rw after-set-turn (reading-kept t i (withTurn n) (λ (r : ThreadRecord). queueLinks.Got (r .«queue_links»)) queueLinks.Damaged j refl)
+  queue-links-set-turn j =
+      rw after-set-turn (reading-kept t i (withTurn n) (λ (r : ThreadRecord). queueLinks.Got (r .«queue_links»))
+      queueLinks.Damaged j refl)
 
   pub key-set-turn-other : (j : ℕ) → (j ≡ i → ⊥) → keyAt (after (setTurn t i n)) j ≡ keyAt t j
   unfolding keyAt
-  key-set-turn-other j h = rw after-set-turn (reading-other t i (withTurn n) (λ (r : ThreadRecord). key.Got (readyIndexKey r j)) key.Damaged j h)
+  key-set-turn-other j h =
+      rw after-set-turn (reading-other t i (withTurn n) (λ (r : ThreadRecord). key.Got (readyIndexKey r j))
+      key.Damaged j h)
 
 -- The algorithm's part of a key looks at the runtime of a Fair record alone, so a refreshed budget keeps its key.
-pub budget-key-kept : (p : SchedulingParameters) (x y : PolicyRuntime) (turn : ℕ) → p .policy ≡ policy.Budget → algorithmKey p x turn ≡ algorithmKey p y turn
+pub budget-key-kept : (p : SchedulingParameters) (x y : PolicyRuntime) (turn : ℕ) → p .policy ≡ policy.Budget
+    → algorithmKey p x turn ≡ algorithmKey p y turn
 unfolding algorithmKey onPolicy
 budget-key-kept p x y turn h = rw h

@@ -1,7 +1,10 @@
-// The table of records as rows of 32 words, read and changed by a record's number. Each store touches the words of one part.
+// The table of records as rows of 32 words, read and changed by a record's number. Each store touches the words of one
+// part.
 ghost use mathlib.Core.Path.{_≡_};
-ghost use Rattle.rows.specs.Table.{table, out, linksAt, keyAt, queueLinksAt, setLinks, setLeft, setRight, setHeight, setQueueLinks, setRuntime, setTurn};
+ghost use Rattle.rows.specs.Table.{table, out, linksAt, keyAt, queueLinksAt, setLinks, setLeft, setRight};
+ghost use Rattle.rows.specs.Table.{setHeight, setQueueLinks, setRuntime, setTurn};
 use algorithms::PolicyRuntime;
+use codec::Row;
 use codec::key_of;
 use codec::links_of;
 use codec::queue_links_of;
@@ -17,6 +20,9 @@ use thread::Links;
 use thread::QueueLinks;
 use thread::ThreadRecord;
 use thread::TreeKey;
+
+// A record's place is 0 to 4,095.
+pub const MAX_RECORDS: usize = 4096;
 
 // Damaged, here and below: the number is not below the record count.
 pub enum LinksRead {
@@ -45,7 +51,7 @@ pub enum Change {
     Damaged,
 }
 
-pub fn links_at(t: &[[u64; 32]], i: u64) -> LinksRead
+pub fn links_at(t: &[Row], i: u64) -> LinksRead
     ensures { λ r. ⌜ r ≡ linksAt (table (now (t .entry))) i ⌝ }
 {
     let k = i as usize;
@@ -57,7 +63,7 @@ pub fn links_at(t: &[[u64; 32]], i: u64) -> LinksRead
     }
 }
 
-pub fn key_at(t: &[[u64; 32]], i: u64) -> KeyRead
+pub fn key_at(t: &[Row], i: u64) -> KeyRead
     ensures { λ r. ⌜ r ≡ keyAt (table (now (t .entry))) i ⌝ }
 {
     let k = i as usize;
@@ -69,7 +75,7 @@ pub fn key_at(t: &[[u64; 32]], i: u64) -> KeyRead
     }
 }
 
-pub fn queue_links_at(t: &[[u64; 32]], i: u64) -> QueueLinksRead
+pub fn queue_links_at(t: &[Row], i: u64) -> QueueLinksRead
     ensures { λ r. ⌜ r ≡ queueLinksAt (table (now (t .entry))) i ⌝ }
 {
     let k = i as usize;
@@ -81,7 +87,7 @@ pub fn queue_links_at(t: &[[u64; 32]], i: u64) -> QueueLinksRead
     }
 }
 
-pub fn set_links(t: &mut [[u64; 32]], i: u64, links: Links) -> Change
+pub fn set_links(t: &mut [Row], i: u64, links: Links) -> Change
     ensures { λ r. ⌜ out r (table (now (t .exit))) ≡ setLinks (table (now (t .entry))) i links ⌝ }
 {
     let k = i as usize;
@@ -95,7 +101,7 @@ pub fn set_links(t: &mut [[u64; 32]], i: u64, links: Links) -> Change
 }
 
 // One of the tree links, or their height alone: two words or one are stored, and none has to be read.
-pub fn set_left(t: &mut [[u64; 32]], i: u64, link: Link) -> Change
+pub fn set_left(t: &mut [Row], i: u64, link: Link) -> Change
     ensures { λ r. ⌜ out r (table (now (t .exit))) ≡ setLeft (table (now (t .entry))) i link ⌝ }
 {
     let k = i as usize;
@@ -108,7 +114,7 @@ pub fn set_left(t: &mut [[u64; 32]], i: u64, link: Link) -> Change
     }
 }
 
-pub fn set_right(t: &mut [[u64; 32]], i: u64, link: Link) -> Change
+pub fn set_right(t: &mut [Row], i: u64, link: Link) -> Change
     ensures { λ r. ⌜ out r (table (now (t .exit))) ≡ setRight (table (now (t .entry))) i link ⌝ }
 {
     let k = i as usize;
@@ -121,7 +127,7 @@ pub fn set_right(t: &mut [[u64; 32]], i: u64, link: Link) -> Change
     }
 }
 
-pub fn set_height(t: &mut [[u64; 32]], i: u64, height: u8) -> Change
+pub fn set_height(t: &mut [Row], i: u64, height: u8) -> Change
     ensures { λ r. ⌜ out r (table (now (t .exit))) ≡ setHeight (table (now (t .entry))) i height ⌝ }
 {
     let k = i as usize;
@@ -134,7 +140,7 @@ pub fn set_height(t: &mut [[u64; 32]], i: u64, height: u8) -> Change
     }
 }
 
-pub fn set_queue_links(t: &mut [[u64; 32]], i: u64, links: QueueLinks) -> Change
+pub fn set_queue_links(t: &mut [Row], i: u64, links: QueueLinks) -> Change
     ensures { λ r. ⌜ out r (table (now (t .exit))) ≡ setQueueLinks (table (now (t .entry))) i links ⌝ }
 {
     let k = i as usize;
@@ -147,7 +153,7 @@ pub fn set_queue_links(t: &mut [[u64; 32]], i: u64, links: QueueLinks) -> Change
     }
 }
 
-pub fn set_runtime(t: &mut [[u64; 32]], i: u64, runtime: PolicyRuntime) -> Change
+pub fn set_runtime(t: &mut [Row], i: u64, runtime: PolicyRuntime) -> Change
     ensures { λ r. ⌜ out r (table (now (t .exit))) ≡ setRuntime (table (now (t .entry))) i runtime ⌝ }
 {
     let k = i as usize;
@@ -160,7 +166,7 @@ pub fn set_runtime(t: &mut [[u64; 32]], i: u64, runtime: PolicyRuntime) -> Chang
     }
 }
 
-pub fn set_turn(t: &mut [[u64; 32]], i: u64, turn: u64) -> Change
+pub fn set_turn(t: &mut [Row], i: u64, turn: u64) -> Change
     ensures { λ r. ⌜ out r (table (now (t .exit))) ≡ setTurn (table (now (t .entry))) i turn ⌝ }
 {
     let k = i as usize;

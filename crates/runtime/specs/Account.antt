@@ -1,4 +1,5 @@
--- Accounting of one record and the window between two readings, the end of a turn, and the current thread as a candidate. After `account_current`,
+-- Accounting of one record and the window between two readings, the end of a turn, and the current thread as a
+-- candidate. After `account_current`,
 -- `choose_ready` and `current_candidate` of scheduler/state/runtime.rs.
 use Prim.Native.Nat.{ℕ}
 use mathlib.Core.Bool.{Bool, true, false}
@@ -20,11 +21,13 @@ use Rattle.runtime.specs.declared.Accounting.{Accounting}
 use Rattle.runtime.specs.declared.Refreshed.{Refreshed}
 use Rattle.runtime.specs.Judging.{judged, judgedWith, onWith, stored}
 
--- Of a judged record: the runtime accounted, which may be BackInTime, then the window charged. A fair record's pass and slice stay, and the window is still charged.
+-- Of a judged record: the runtime accounted, which may be BackInTime, then the window charged. A fair record's pass and
+-- slice stay, and the window is still charged.
 unfoldable pub accountRecord : ThreadRecord → CpuWindow → DispatchMode → ℕ → ℕ → Answer Accounting
 accountRecord r w m start end =
     andThen (accounted (r .runtime) (r .parameters) start end)
-    (λ x. onWith (accountCall w start end (r .parameters) m) refused (λ u charged. value (record { runtime = x; window = charged })))
+    (λ x. onWith (accountCall w start end (r .parameters) m) refused
+    (λ u charged. value (record { runtime = x; window = charged })))
 
 unfoldable pub accounting : List ThreadRecord → ℕ → CpuWindow → DispatchMode → ℕ → ℕ → Answer Accounting
 accounting t id w m start end = andThen (judgedWith t id w) (λ r. accountRecord r w m start end)
@@ -57,7 +60,12 @@ unfoldable pub candidateOf : ThreadRecord → PolicyRuntime → Candidate
 candidateOf r x =
     given (passOf x)
     (λ pass. given (hasTime x)
-    (λ available. record { parameters = r .parameters; «fair_pass» = pass; turn = r .«ready_turn»; «budget_available» = available }))
+    (λ available. record {
+      parameters = r .parameters;
+      «fair_pass» = pass;
+      turn = r .«ready_turn»;
+      «budget_available» = available;
+    }))
 
 unfoldable pub refreshing : ThreadRecord → ℕ → Answer Refreshed
 refreshing r now =
@@ -69,12 +77,19 @@ refreshingAt t id now = andThen (judged t id) (λ r. refreshing r now)
 
 -- None where the thread is not Running, and then nothing is stored.
 unfoldable pub candidate : List ThreadRecord → ℕ → Bool → Answer Refreshed → Out (Answer (Option Candidate))
-candidate t id running (value f) = choose running (out (value (some (f .candidate))) (after (setRuntime t id (f .runtime)))) (out (value none) t)
+candidate t id running (value f) =
+    choose running (out (value (some (f .candidate))) (after (setRuntime t id (f .runtime)))) (out (value none) t)
 candidate t id running (refused n) = out (refused n) t
 
 -- The current thread as selection and keys take it: refreshed to now where it is Running, else none.
 unfoldable pub currentCandidate : List ThreadRecord → ℕ → Bool → ℕ → Out (Answer (Option Candidate))
 currentCandidate t id running now = candidate t id running (refreshingAt t id now)
+
+-- A candidate stored over another, which stays at a refusal and where there is none.
+unfoldable pub candidateStored : Candidate → Out (Answer (Option Candidate)) → Out (Answer (Unit {0}) × Candidate)
+candidateStored before (out (value (some c)) t) = out (value tt, c) t
+candidateStored before (out (value none) t) = out (value tt, before) t
+candidateStored before (out (refused n) t) = out (refused n, before) t
 
 -- `expired` of the record with this number.
 unfoldable pub expired : List ThreadRecord → ℕ → Answer Bool

@@ -1,12 +1,8 @@
 -- What each answer of the crate stands for: document 01's number, or its values.
 use mathlib.Core.Bool.{Bool}
-use mathlib.Core.Option.{Option, none, some}
 use Rattle.refusal.specs.Answer.{Answer, value, refused, numberOf}
-use Rattle.arbitration.specs.declared.Candidate.{Candidate}
 use Rattle.arbitration.specs.Answers.{verdictOf}
 use Rattle.runtime.specs.declared.Prepared.{Prepared}
-use Rattle.runtime.specs.declared.CandidateAnswer.{CandidateAnswer}
-use Rattle.runtime.specs.declared.CandidateAnswer.the-variants as candidate
 use Rattle.runtime.specs.declared.ExpiredAnswer.{ExpiredAnswer}
 use Rattle.runtime.specs.declared.ExpiredAnswer.the-variants as expired
 use Rattle.runtime.specs.Prepare.{Counted, counted}
@@ -14,11 +10,6 @@ use Rattle.runtime.specs.Prepare.{Counted, counted}
 -- The verdict, and the counters.
 abbrev pub preparedAnswer : Prepared → Counted
 preparedAnswer p = counted (verdictOf (p .answer)) (p .turns)
-
-abbrev pub candidateAnswer : CandidateAnswer → Answer (Option Candidate)
-candidateAnswer (candidate.Candidate c) = value (some c)
-candidateAnswer candidate.NotRunning = value none
-candidateAnswer (candidate.Refused n) = refused (numberOf n)
 
 abbrev pub expiredAnswer : ExpiredAnswer → Answer Bool
 expiredAnswer (expired.Expired b) = value b

@@ -17,12 +17,14 @@ use Rattle.decisions.specs.OwnDeadline.{onKeyMode, ownDeadline}
 use Rattle.runtime.specs.declared.Due.{Due}
 use Rattle.runtime.specs.Judging.{judgedWith, onWith}
 
--- With a key of this mode: the earlier of the thread's own deadline and the window's; runtime and window are refreshed as the two do it.
+-- With a key of this mode: the earlier of the thread's own deadline and the window's; runtime and window are refreshed
+-- as the two do it.
 unfoldable pub dueWith : ℕ → ThreadRecord → DispatchMode → CpuWindow → Contention → Answer Due
 dueWith now r m w x =
     andThen (ownDeadline now (r .runtime) (r .parameters) m x)
     (λ own. onWith (nextDeadlineCall w now m (x .competition) (x .demand)) refused
-    (λ end fresh. given (earliestOf (own .1) end) (λ due. value (record { runtime = own .0; window = fresh; deadline = due }))))
+    (λ end fresh. given (earliestOf (own .1) end)
+    (λ due. value (record { runtime = own .0; window = fresh; deadline = due }))))
 
 -- Without a key: now where anybody competes.
 unfoldable pub dueWithout : ℕ → ThreadRecord → CpuWindow → Contention → Due

@@ -2,7 +2,7 @@
 use Prim.Native.Nat.{ℕ}
 use mathlib.Core.List.{List}
 use lib.ListN.{length}
-use Rattle.refusal.specs.Answer.{Answer, value, refused}
+use Rattle.refusal.specs.Answer.{Answer, value, refused, noThread, badConfig, badTable, badRecord}
 use Rattle.refusal.specs.Cases.{choose, ifLess}
 use Rattle.algorithms.specs.declared.PolicyRuntime.{PolicyRuntime}
 use Rattle.thread.specs.declared.ThreadRecord.{ThreadRecord}
@@ -16,15 +16,17 @@ use Rattle.queue.specs.Queue.{maxRecords}
 
 -- NoThread, then BadRecord.
 unfoldable pub judgedAt : List ThreadRecord → ℕ → Answer ThreadRecord
-judgedAt t id = onRecord (recordAt t id) (refused 4) (λ r. choose (isBadRecord r) (refused 11) (value r))
+judgedAt t id = onRecord (recordAt t id) (refused noThread) (λ r. choose (isBadRecord r) (refused badRecord) (value r))
 
 -- BadTable before them.
 unfoldable pub judged : List ThreadRecord → ℕ → Answer ThreadRecord
-judged t id = ifLess maxRecords (length t) (refused 10) (judgedAt t id)
+judged t id = ifLess maxRecords (length t) (refused badTable) (judgedAt t id)
 
 -- Of a call that is handed a window: BadTable, BadConfig, NoThread, BadRecord, in that order.
 unfoldable pub judgedWith : List ThreadRecord → ℕ → CpuWindow → Answer ThreadRecord
-judgedWith t id w = ifLess maxRecords (length t) (refused 10) (choose (soundConfig (w .config)) (judgedAt t id) (refused 5))
+judgedWith t id w =
+    ifLess maxRecords (length t) (refused badTable)
+    (choose (soundConfig (w .config)) (judgedAt t id) (refused badConfig))
 
 -- By the answer of a window's call: the number of its refusal, or its value and the window as it is left.
 unfoldable pub onWith : {A B : Type 0} → With A → (ℕ → B) → (A → CpuWindow → B) → B

@@ -1,8 +1,9 @@
--- Preparing a thread to be queued: its budget refreshed, and its turn. After `prepare_enqueue` of scheduler/state/runtime.rs.
+-- Preparing a thread to be queued: its budget refreshed, and its turn. After `prepare_enqueue` of
+-- scheduler/state/runtime.rs.
 use Prim.Native.Nat.{ℕ}
 use mathlib.Core.Bool.{Bool}
 use mathlib.Core.List.{List}
-use Rattle.refusal.specs.Answer.{Answer, value, refused}
+use Rattle.refusal.specs.Answer.{Answer, value, refused, already}
 use Rattle.refusal.specs.Cases.{choose, given, andThen}
 use Rattle.algorithms.specs.Runtime.{epochRefreshed}
 use Rattle.thread.specs.declared.ThreadRecord.{ThreadRecord}
@@ -13,14 +14,15 @@ use Rattle.decisions.specs.Turns.{turnFor}
 use Rattle.runtime.specs.declared.Preparation.{Preparation}
 use Rattle.runtime.specs.Judging.{judged}
 
--- Of a judged record: Already where it is in a list, then the refreshed runtime, then the turn, which may be TurnsSpent.
+-- Of a judged record: Already where it is in a list, then the refreshed runtime, then the turn, which may be
+-- TurnsSpent.
 unfoldable pub prepareRecord : ThreadRecord → Bool → ℕ → Turns → Answer Preparation
 prepareRecord r front now c =
     choose (isUnqueued (r .«queue_links» .membership))
     (andThen (epochRefreshed (r .runtime) now (r .parameters))
     (λ x. andThen (turnFor front (r .parameters .policy) (r .«ready_turn») c)
     (λ taken. value (record { runtime = x; turn = taken .turn; turns = taken .turns }))))
-    (refused 3)
+    (refused already)
 
 unfoldable pub preparation : List ThreadRecord → ℕ → Bool → ℕ → Turns → Answer Preparation
 preparation t id front now c = andThen (judged t id) (λ r. prepareRecord r front now c)

@@ -1,4 +1,5 @@
-// The choice of deadline. After `refresh_deadline`: competition, budget peer, ready thread, demand and the current key's mode come as arguments.
+// The choice of deadline. After `refresh_deadline`: competition, budget peer, ready thread, demand and the current
+// key's mode come as arguments.
 ghost use mathlib.Core.Path.{_≡_};
 ghost use mathlib.Core.Bool.{true};
 ghost use mathlib.Core.List.{[]};
@@ -8,7 +9,8 @@ ghost use Rattle.window_config.specs.Config.{soundConfig};
 ghost use Rattle.rows.specs.Table.{table, out};
 ghost use Rattle.arbitration.specs.Answers.{windowDeadline};
 ghost use Rattle.runtime.specs.Deadline.{refreshDeadline};
-ghost use Rattle.runtime.specs.Rows.{sliceEnd, refreshedEnd, budgetEnd, ownEnd, earlierOf, dueRow, keylessDue, deadlineAt};
+ghost use Rattle.runtime.specs.Rows.{sliceEnd, refreshedEnd, budgetEnd, ownEnd, earlierOf, dueRow, keylessDue};
+ghost use Rattle.runtime.specs.Rows.{deadlineAt};
 use crate::judging::budget_parameters;
 use crate::judging::budget_runtime;
 use crate::judging::is_bad_at;
@@ -18,11 +20,15 @@ use arbitration::DispatchMode;
 use arbitration::WindowDeadline;
 use budget::BudgetDeadline;
 use budget::DeadlineAnswer;
+use codec::RUNTIME_TAG;
+use codec::RUNTIME_THIRD;
+use codec::Row;
 use decisions::Contention;
 use decisions::ModeOption;
 use decisions::borrows;
 use decisions::budget_expiry;
 use refusal::Refusal;
+use rows::MAX_RECORDS;
 use rows::set_runtime;
 use thread::ThreadId;
 use time::Deadline;
@@ -30,15 +36,15 @@ use time::checked_add;
 use time::earliest;
 
 // Of a record without a budget: the end of a fair slice, where a thread is ready to take it.
-fn slice_end(row: [u64; 32], reading: u64, competition: bool, ready: bool) -> Deadline
+fn slice_end(row: Row, reading: u64, competition: bool, ready: bool) -> Deadline
     ensures { λ r. ⌜ r ≡ sliceEnd row reading competition ready ⌝ }
 {
-    if row[11] == 1 {
+    if row[RUNTIME_TAG] == 1 {
         if !competition {
             return Deadline::None;
         }
         if ready {
-            return checked_add(reading, row[14]);
+            return checked_add(reading, row[RUNTIME_THIRD]);
         }
         return Deadline::None;
     }
@@ -46,13 +52,7 @@ fn slice_end(row: [u64; 32], reading: u64, competition: bool, ready: bool) -> De
 }
 
 // A budget's own deadline, for which it is refreshed.
-fn refreshed_end(
-    t: &mut [[u64; 32]],
-    id: u64,
-    row: [u64; 32],
-    reading: u64,
-    mode: DispatchMode,
-) -> Deadline
+fn refreshed_end(t: &mut [Row], id: u64, row: Row, reading: u64, mode: DispatchMode) -> Deadline
     ensures { λ r. ⌜ out r (table (now (t .exit))) ≡ refreshedEnd (table (now (t .entry))) id row reading mode ⌝ }
 {
     let runtime = budget_runtime(row);
@@ -70,39 +70,41 @@ fn refreshed_end(
 
 // A budget's: by its time alone where no budget competes.
 fn budget_end(
-    t: &mut [[u64; 32]],
+    t: &mut [Row],
     id: u64,
-    row: [u64; 32],
+    row: Row,
     reading: u64,
     mode: DispatchMode,
     competition: bool,
     budget_peer: bool,
 ) -> Deadline
-    ensures { λ r. ⌜ out r (table (now (t .exit))) ≡ budgetEnd (table (now (t .entry))) id row reading mode competition «budget_peer» ⌝ }
+    ensures { λ r. ⌜ out r (table (now (t .exit)))
+        ≡ budgetEnd (table (now (t .entry))) id row reading mode competition «budget_peer» ⌝ }
 {
     if !competition {
         return Deadline::None;
     }
     if !budget_peer {
         let parameters = budget_parameters(row);
-        return budget_expiry(reading, row[14], parameters);
+        return budget_expiry(reading, row[RUNTIME_THIRD], parameters);
     }
     refreshed_end(t, id, row, reading, mode)
 }
 
 // The thread's own deadline.
 fn own_end(
-    t: &mut [[u64; 32]],
+    t: &mut [Row],
     id: u64,
     reading: u64,
     mode: DispatchMode,
     contention: Contention,
 ) -> Deadline
     requires { ⌜ id < length (now t) ⌝ }
-    ensures { λ r. ⌜ out r (table (now (t .exit))) ≡ ownEnd (table (now (t .entry))) id (getD (now (t .entry)) id []) reading mode contention ⌝ }
+    ensures { λ r. ⌜ out r (table (now (t .exit)))
+        ≡ ownEnd (table (now (t .entry))) id (getD (now (t .entry)) id []) reading mode contention ⌝ }
 {
     let k = id as usize;
-    if t[k][11] == 2 {
+    if t[k][RUNTIME_TAG] == 2 {
         let row = t[k];
         return budget_end(
             t,
@@ -135,7 +137,7 @@ fn earlier_of(step: WindowDeadline, own: Deadline) -> WindowDeadline
 
 // With a key of this mode.
 fn due_with(
-    t: &mut [[u64; 32]],
+    t: &mut [Row],
     id: u64,
     reading: u64,
     mode: DispatchMode,
@@ -143,7 +145,8 @@ fn due_with(
     contention: Contention,
 ) -> WindowDeadline
     requires { ⌜ id < length (now t) ⌝ }
-    ensures { λ r. ⌜ out (windowDeadline r) (table (now (t .exit))) ≡ dueRow (table (now (t .entry))) id (getD (now (t .entry)) id []) reading mode window contention ⌝ }
+    ensures { λ r. ⌜ out (windowDeadline r) (table (now (t .exit)))
+        ≡ dueRow (table (now (t .entry))) id (getD (now (t .entry)) id []) reading mode window contention ⌝ }
 {
     let demand = contention.demand;
     let own = own_end(t, id, reading, mode, contention);
@@ -169,7 +172,7 @@ fn due_without(reading: u64, window: CpuWindow, competition: bool) -> WindowDead
 
 // NoThread, then BadRecord.
 fn due_at(
-    t: &mut [[u64; 32]],
+    t: &mut [Row],
     id: u64,
     reading: u64,
     mode: ModeOption,
@@ -177,7 +180,8 @@ fn due_at(
     contention: Contention,
 ) -> WindowDeadline
     requires { ⌜ soundConfig (window .config) ≡ true ⌝ }
-    ensures { λ r. ⌜ out (windowDeadline r) (table (now (t .exit))) ≡ deadlineAt (table (now (t .entry))) id reading mode window contention ⌝ }
+    ensures { λ r. ⌜ out (windowDeadline r) (table (now (t .exit)))
+        ≡ deadlineAt (table (now (t .entry))) id reading mode window contention ⌝ }
 {
     let k = id as usize;
     if k < t.len() {
@@ -204,17 +208,18 @@ fn due_at(
 
 // The choice of deadline in `refresh_deadline`: order 10, 5, 4, 11. A refusal leaves record and window unchanged.
 pub fn refresh_deadline(
-    t: &mut [[u64; 32]],
+    t: &mut [Row],
     id: ThreadId,
     reading: u64,
     mode: ModeOption,
     window: CpuWindow,
     contention: Contention,
 ) -> WindowDeadline
-    ensures { λ r. ⌜ out (windowDeadline r) (table (now (t .exit))) ≡ refreshDeadline (table (now (t .entry))) (id .0) reading mode window contention ⌝ }
+    ensures { λ r. ⌜ out (windowDeadline r) (table (now (t .exit))) ≡ refreshDeadline (table (now (t .entry)))
+        (id .0) reading mode window contention ⌝ }
 {
     let config = window.config;
-    if 4096 < t.len() {
+    if MAX_RECORDS < t.len() {
         return WindowDeadline {
             answer: DeadlineAnswer::Refused(Refusal::BadTable),
             window,

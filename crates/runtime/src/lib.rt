@@ -1,4 +1,5 @@
-// Preparing, accounting and the choice of deadline over the table. After scheduler/state/runtime.rs; publishing, generations and locks are left out.
+// Preparing, accounting and the choice of deadline over the table. After scheduler/state/runtime.rs; publishing,
+// generations and locks are left out.
 mod account;
 mod deadlines;
 mod judging;
@@ -35,13 +36,6 @@ pub struct Prepared {
 pub struct Accounting {
     pub runtime: PolicyRuntime,
     pub window: CpuWindow,
-}
-
-// The current thread, refreshed to now; none where it is not Running.
-pub enum CandidateAnswer {
-    Candidate(Candidate),
-    NotRunning,
-    Refused(Refusal),
 }
 
 // A runtime refreshed to now, with the candidate that it makes.

@@ -11,33 +11,41 @@ use crate::Prepared;
 use crate::account::refresh_at;
 use crate::judging::is_bad_at;
 use arbitration::Verdict;
+use codec::FIFO_PRIORITY;
+use codec::MEMBERSHIP_TAG;
+use codec::POLICY_TAG;
+use codec::READY_TURN;
+use codec::Row;
 use decisions::TurnAnswer;
 use decisions::Turns;
 use decisions::turn_for;
 use policy_words::policy_from;
 use refusal::Refusal;
+use rows::MAX_RECORDS;
 use rows::set_turn;
 use thread::ThreadId;
 
 // The budget refreshed, then the turn.
-fn store_prepared(t: &mut [[u64; 32]], id: u64, reading: u64, turn: u64)
+fn store_prepared(t: &mut [Row], id: u64, reading: u64, turn: u64)
     requires { ⌜ id < length (now t) ⌝ }
-    ensures { λ r. ⌜ table (now (t .exit)) ≡ preparedRow (table (now (t .entry))) id (getD (now (t .entry)) id []) reading turn ⌝ }
+    ensures { λ r. ⌜ table (now (t .exit)) ≡ preparedRow (table (now (t .entry))) id
+        (getD (now (t .entry)) id []) reading turn ⌝ }
 {
     refresh_at(t, id, reading);
     set_turn(t, id, turn);
 }
 
 // Of a judged record: Already, then the turn, which may be TurnsSpent; only then is anything stored.
-fn prepare_row(t: &mut [[u64; 32]], id: u64, front: bool, reading: u64, turns: Turns) -> Prepared
+fn prepare_row(t: &mut [Row], id: u64, front: bool, reading: u64, turns: Turns) -> Prepared
     requires { ⌜ id < length (now t) ⌝ }
-    ensures { λ r. ⌜ out (preparedAnswer r) (table (now (t .exit))) ≡ rowPrepared (table (now (t .entry))) id (getD (now (t .entry)) id []) front reading turns ⌝ }
+    ensures { λ r. ⌜ out (preparedAnswer r) (table (now (t .exit))) ≡ rowPrepared (table (now (t .entry))) id
+        (getD (now (t .entry)) id []) front reading turns ⌝ }
 {
     let k = id as usize;
     let row = t[k];
-    if row[26] == 0 {
-        let policy = policy_from(row[0], row[1]);
-        let taken = turn_for(front, policy, row[16], turns);
+    if row[MEMBERSHIP_TAG] == 0 {
+        let policy = policy_from(row[POLICY_TAG], row[FIFO_PRIORITY]);
+        let taken = turn_for(front, policy, row[READY_TURN], turns);
         match taken {
             TurnAnswer::Refused(refusal) => {
                 return Prepared {
@@ -61,18 +69,20 @@ fn prepare_row(t: &mut [[u64; 32]], id: u64, front: bool, reading: u64, turns: T
     }
 }
 
-// The turn part of `prepare_enqueue`, with its budget refresh: order 10, 4, 11, 3, 8. A refusal leaves counters and record unchanged.
+// The turn part of `prepare_enqueue`, with its budget refresh: order 10, 4, 11, 3, 8. A refusal leaves counters and
+// record unchanged.
 pub fn prepare_enqueue(
-    t: &mut [[u64; 32]],
+    t: &mut [Row],
     id: ThreadId,
     front: bool,
     reading: u64,
     turns: Turns,
 ) -> Prepared
-    ensures { λ r. ⌜ out (preparedAnswer r) (table (now (t .exit))) ≡ prepareEnqueue (table (now (t .entry))) (id .0) front reading turns ⌝ }
+    ensures { λ r. ⌜ out (preparedAnswer r) (table (now (t .exit))) ≡ prepareEnqueue (table (now (t .entry)))
+        (id .0) front reading turns ⌝ }
 {
     let k = id.0 as usize;
-    if 4096 < t.len() {
+    if MAX_RECORDS < t.len() {
         return Prepared {
             answer: Verdict::Refused(Refusal::BadTable),
             turns,

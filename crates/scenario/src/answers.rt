@@ -1,4 +1,7 @@
 // What is printed where a call was made, and statements that only keep what they say.
+use crate::printing::is_text;
+use crate::printing::listed;
+use crate::printing::say;
 use crate::state::AMOUNT;
 use crate::state::CHOICE;
 use crate::state::EXPIRED;
@@ -7,6 +10,7 @@ use crate::state::LENGTHS;
 use crate::state::READING;
 use crate::state::RECORDS;
 use crate::state::SWITCHES;
+use crate::state::State;
 use crate::state::THREAD;
 use crate::state::TO_FRONT;
 use crate::state::WAKE_AT;
@@ -16,40 +20,44 @@ use crate::state::WAKES;
 use crate::state::least;
 use crate::state::more;
 use crate::state::store;
-use crate::telling::say;
 use crate::words::show;
 
 // A literal is carried through its whole function, so each has one of its own.
-pub fn made(x: &[u64; 864]) {
+pub fn made(x: &State) {
     say(x, b": made\n");
 }
 
-pub fn number(x: &[u64; 864]) {
+pub fn number(x: &State) {
     say(x, b": thread %t\n");
 }
 
-pub fn former(x: &[u64; 864]) {
+pub fn former(x: &State) {
     say(x, b": was %v\n");
 }
 
-pub fn expiry(x: &mut [u64; 864]) {
-    x[CHOICE] = x[EXPIRED];
-    say(x, b": $o\n");
+fn yes_or_no(n: u64) {
+    listed(b": %@\n", b"no|yes", n);
 }
 
-fn stays(x: &[u64; 864]) {
+pub fn expiry(x: &State) {
+    if is_text(x) {
+        yes_or_no(x[EXPIRED]);
+    }
+}
+
+fn stays(x: &State) {
     say(x, b": stay\n");
 }
 
-fn to_back(x: &[u64; 864]) {
+fn to_back(x: &State) {
     say(x, b": switch, the running thread to the back\n");
 }
 
-fn to_front(x: &[u64; 864]) {
+fn to_front(x: &State) {
     say(x, b": switch, the running thread to the front\n");
 }
 
-pub fn choice(x: &[u64; 864]) {
+pub fn choice(x: &State) {
     if x[SWITCHES] == 0 {
         stays(x);
         return;
@@ -61,7 +69,7 @@ pub fn choice(x: &[u64; 864]) {
     to_front(x);
 }
 
-pub fn deadline(x: &[u64; 864]) {
+pub fn deadline(x: &State) {
     if x[SWITCHES] == 0 {
         say(x, b": none\n");
         return;
@@ -69,13 +77,13 @@ pub fn deadline(x: &[u64; 864]) {
     say(x, b": %k\n");
 }
 
-pub fn lengths(x: &mut [u64; 864]) {
+pub fn lengths(x: &mut State) {
     show(x, LENGTHS);
     say(x, b": real time %p, fair %q, budget %r\n");
 }
 
 // A wake is kept for the next run; there is room for 32.
-pub fn note(x: &mut [u64; 864]) {
+pub fn note(x: &mut State) {
     let at = x[WAKES];
     if 31 < at {
         say(x, b": no room\n");
@@ -91,10 +99,10 @@ pub fn note(x: &mut [u64; 864]) {
     say(x, b": noted\n");
 }
 
-pub fn records(x: &mut [u64; 864]) {
+pub fn records(x: &mut State) {
     x[RECORDS] = least(x[READING], 4097);
 }
 
-pub fn explains(x: &mut [u64; 864]) {
+pub fn explains(x: &mut State) {
     x[EXPLAINS] = x[CHOICE];
 }

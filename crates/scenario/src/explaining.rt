@@ -1,11 +1,15 @@
 // Why a thread is chosen: its key, the demand, the window, and each tree's threads in order with the key of its head.
+use crate::printing::is_text;
+use crate::printing::listed;
+use crate::printing::mode;
+use crate::printing::name;
+use crate::printing::plain;
+use crate::printing::say;
 use crate::state::BACK_PLACE;
 use crate::state::BACK_PLAYED;
 use crate::state::CHOICE;
 use crate::state::DEMAND;
 use crate::state::EXPLAINS;
-use crate::state::EXPLANATION;
-use crate::state::ITS_MODE;
 use crate::state::KEY;
 use crate::state::KEY_MODE;
 use crate::state::LEAST_PASS;
@@ -16,23 +20,20 @@ use crate::state::ROW;
 use crate::state::SELECTED;
 use crate::state::SELECTED_ID;
 use crate::state::STACK;
+use crate::state::State;
 use crate::state::TREE;
 use crate::state::WINDOW_EPOCH;
 use crate::state::WINDOW_RANKS;
-use crate::state::WORD;
 use crate::state::minus;
 use crate::state::more;
 use crate::state::plus;
 use crate::state::store;
 use crate::state::word;
-use crate::telling::say;
+use crate::steps;
 use crate::words::keep;
 use crate::words::show;
-
-// Places in the script of an explanation (tables.rt): the demand, and the next tree.
-const ASKED: u64 = 4;
-
-const NEXT_TREE: u64 = 5;
+use codec::Row;
+use lent_queue::QueueRows;
 
 // Of the way through a tree: the link to go down by, how many threads wait above, and from there on these.
 const LINK: usize = 416;
@@ -41,16 +42,16 @@ const LINKED: usize = 417;
 
 const DEPTH: usize = 418;
 
-pub fn begin(x: &mut [u64; 864]) {
+pub fn begin(x: &mut State) {
     x[BACK_PLAYED] = x[PLAYED];
     x[BACK_PLACE] = x[PLACE];
-    x[PLAYED] = EXPLANATION as u64;
+    x[PLAYED] = steps::EXPLANATION;
     x[PLACE] = 0;
     x[TREE] = 0;
 }
 
 // In a run, where that is asked for.
-pub fn begin_in_run(x: &mut [u64; 864]) {
+pub fn begin_in_run(x: &mut State) {
     if x[EXPLAINS] != 0 {
         say(x, b"at %n");
         begin(x);
@@ -58,68 +59,80 @@ pub fn begin_in_run(x: &mut [u64; 864]) {
 }
 
 // The thread that selection names.
-pub fn named(x: &mut [u64; 864]) {
+pub fn named(x: &mut State) {
     x[MEMBER] = x[SELECTED_ID];
     if x[SELECTED] == 0 {
         say(x, b": nobody\n");
-        x[PLACE] = ASKED;
+        x[PLACE] = steps::ASKED;
     }
 }
 
-fn no_key(x: &[u64; 864]) {
-    say(x, b"no key");
+fn no_key() {
+    plain(b"no key");
 }
 
-fn parts(x: &[u64; 864]) {
-    say(
-        x,
-        b"$m, urgency %q, rank %r, then algorithm rank %s, algorithm %t:%u, band %v, turn %w",
-    );
+fn parts(x: &State) {
+    say(x, b", urgency %q, rank %r, then algorithm rank %s, ");
 }
 
-fn key(x: &mut [u64; 864]) {
+fn other_parts(x: &State) {
+    say(x, b"algorithm %t:%u, band %v, turn %w");
+}
+
+// The key's words are those of the letters.
+fn key(x: &State) {
     if x[KEY] == 0 {
-        no_key(x);
+        no_key();
         return;
     }
-    show(x, KEY_MODE);
-    x[ITS_MODE] = x[KEY_MODE];
+    mode(x[KEY_MODE], b"%@");
     parts(x);
+    other_parts(x);
 }
 
-fn name(x: &[u64; 864]) {
-    say(x, b": %G, ");
+fn member(x: &State) {
+    name(x, x[MEMBER], b"%@");
 }
 
-fn line_end(x: &[u64; 864]) {
-    say(x, b"\n");
-}
-
-pub fn chosen(x: &mut [u64; 864]) {
-    name(x);
+fn chosen_in(x: &State) {
+    plain(b": ");
+    member(x);
+    plain(b", ");
     key(x);
-    line_end(x);
+    plain(b"\n");
 }
 
-fn demand(x: &[u64; 864]) {
+pub fn chosen(x: &mut State) {
+    show(x, KEY_MODE);
+    if is_text(x) {
+        chosen_in(x);
+    }
+}
+
+fn demand(x: &State) {
+    say(x, b"  demand: protected %p, fair %q, ");
+}
+
+fn other_demand(x: &State) {
     say(
         x,
-        b"  demand: protected %p, fair %q, window sensitive %r, eligible budget %s, any budget %t; ",
+        b"window sensitive %r, eligible budget %s, any budget %t; ",
     );
 }
 
-fn no_pass(x: &[u64; 864]) {
+fn no_pass(x: &State) {
     say(x, b"no fair pass\n");
 }
 
-fn lowest(x: &[u64; 864]) {
+fn lowest(x: &State) {
     say(x, b"lowest fair pass %v:%w\n");
 }
 
 // Demand and lowest pass.
-fn asked(x: &mut [u64; 864]) {
+fn asked(x: &mut State) {
     show(x, DEMAND);
     demand(x);
+    other_demand(x);
     if x[LEAST_PASS] == 0 {
         no_pass(x);
         return;
@@ -127,16 +140,16 @@ fn asked(x: &mut [u64; 864]) {
     lowest(x);
 }
 
-fn no_epoch(x: &[u64; 864]) {
+fn no_epoch(x: &State) {
     say(x, b"  window: no epoch, allowance left %v, floor left %w\n");
 }
 
-fn epoch(x: &[u64; 864]) {
+fn epoch(x: &State) {
     say(x, b"  window: epoch %u, allowance left %v, floor left %w\n");
 }
 
 // Demand, lowest pass and window.
-pub fn circumstances(x: &mut [u64; 864]) {
+pub fn circumstances(x: &mut State) {
     asked(x);
     show(x, WINDOW_RANKS);
     if x[WINDOW_EPOCH] == 0 {
@@ -147,7 +160,7 @@ pub fn circumstances(x: &mut [u64; 864]) {
 }
 
 // The root of a tree; after the last tree the explanation ends.
-pub fn root(q: &[[u64; 5]; 270], x: &mut [u64; 864]) {
+pub fn root(q: &QueueRows, x: &mut State) {
     let tree = x[TREE];
     x[DEPTH] = 0;
     x[LINK] = 0;
@@ -160,11 +173,10 @@ pub fn root(q: &[[u64; 5]; 270], x: &mut [u64; 864]) {
     let row = q[at];
     x[LINK] = row[0];
     x[LINKED] = row[1];
-    x[WORD] = tree;
 }
 
 // A step down on the left; a link outside the table, or a 29th step, is none.
-fn down(t: &[[u64; 32]], x: &mut [u64; 864]) {
+fn down(t: &[Row], x: &mut State) {
     let id = x[LINKED];
     let i = id as usize;
     if x[LINK] == 0 {
@@ -182,7 +194,7 @@ fn down(t: &[[u64; 32]], x: &mut [u64; 864]) {
     x[LINKED] = row[18];
 }
 
-fn descend(t: &[[u64; 32]], x: &mut [u64; 864]) {
+fn descend(t: &[Row], x: &mut State) {
     let mut left: u64 = 28;
     while 0 < left {
         down(t, x);
@@ -191,7 +203,7 @@ fn descend(t: &[[u64; 32]], x: &mut [u64; 864]) {
 }
 
 // What is on the right of a thread comes after it.
-fn turn(t: &[[u64; 32]], x: &mut [u64; 864], id: u64) {
+fn turn(t: &[Row], x: &mut State, id: u64) {
     let i = id as usize;
     if i < t.len() {
         let row = t[i];
@@ -201,7 +213,7 @@ fn turn(t: &[[u64; 32]], x: &mut [u64; 864], id: u64) {
 }
 
 // The next thread of the tree, if there is one.
-pub fn walk(t: &[[u64; 32]], x: &mut [u64; 864]) {
+pub fn walk(t: &[Row], x: &mut State) {
     descend(t, x);
     let depth = x[DEPTH];
     x[CHOICE] = 0;
@@ -215,11 +227,11 @@ pub fn walk(t: &[[u64; 32]], x: &mut [u64; 864]) {
     turn(t, x, id);
 }
 
-fn keep_row(x: &mut [u64; 864], row: [u64; 32]) {
+fn keep_row(x: &mut State, row: Row) {
     keep(x, ROW, &row);
 }
 
-pub fn load(t: &[[u64; 32]], x: &mut [u64; 864]) {
+pub fn load(t: &[Row], x: &mut State) {
     let i = x[MEMBER] as usize;
     if i < t.len() {
         keep_row(x, t[i]);
@@ -227,36 +239,57 @@ pub fn load(t: &[[u64; 32]], x: &mut [u64; 864]) {
 }
 
 // An empty tree is passed over.
-pub fn if_any(x: &mut [u64; 864]) {
+pub fn if_any(x: &mut State) {
     if x[CHOICE] == 0 {
         x[TREE] = more(x[TREE]);
-        x[PLACE] = NEXT_TREE;
+        x[PLACE] = steps::NEXT_TREE;
     }
 }
 
-fn tree(x: &[u64; 864]) {
-    say(x, b"  tree of $k: %G (");
+fn policy(n: u64) {
+    listed(
+        b"  tree of %@",
+        b"FIFO|fair|budget with time left|budget exhausted",
+        n,
+    );
 }
 
-fn closed(x: &[u64; 864]) {
-    say(x, b")");
+fn role(n: u64) {
+    listed(b", %@: ", b"ordinary|priority|protected", n);
 }
 
-pub fn head(x: &mut [u64; 864]) {
-    tree(x);
+fn head_in(x: &State) {
+    policy(x[TREE] / 3);
+    role(x[TREE] % 3);
+    member(x);
+    plain(b" (");
     key(x);
-    closed(x);
+    plain(b")");
+}
+
+pub fn head(x: &mut State) {
+    show(x, KEY_MODE);
+    if is_text(x) {
+        head_in(x);
+    }
 }
 
 // The tree's line ends after its last thread.
-pub fn if_more(x: &mut [u64; 864]) {
+pub fn if_more(x: &mut State) {
     if x[CHOICE] == 0 {
-        line_end(x);
+        say(x, b"\n");
     }
     if_any(x);
 }
 
-pub fn behind(x: &mut [u64; 864]) {
-    say(x, b", then %G");
-    x[PLACE] = 11;
+fn behind_in(x: &State) {
+    plain(b", then ");
+    member(x);
+}
+
+pub fn behind(x: &mut State) {
+    if is_text(x) {
+        behind_in(x);
+    }
+    x[PLACE] = steps::NEXT_THREAD;
 }

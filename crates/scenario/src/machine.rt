@@ -1,12 +1,19 @@
-// Lines are read, and their scripts played letter by letter, each a call or a part of what is printed, until a refusal or the end.
+// Lines are read, and their scripts played step by step, each a call or a part of what is printed, until a refusal or
+// the end.
 use crate::answers;
 use crate::calls;
 use crate::explaining;
-use crate::matching::is_matched;
-use crate::reading::COUNT;
-use crate::reading::words_of;
+use crate::matching::matched;
+use crate::printing::is_text;
+use crate::printing::listed;
+use crate::printing::print;
+use crate::printing::quote;
+use crate::printing::say;
+use crate::reading::NONE;
+use crate::reading::last_end;
+use crate::reading::word_after;
 use crate::running;
-use crate::state::CYCLE;
+use crate::state::CONFIG;
 use crate::state::END;
 use crate::state::KEY;
 use crate::state::LETTERS;
@@ -18,21 +25,22 @@ use crate::state::RECORDS;
 use crate::state::ROW;
 use crate::state::RUNNER;
 use crate::state::RUNS;
-use crate::state::SCRIPT;
-use crate::state::SLICE;
+use crate::state::SELECTED;
+use crate::state::State;
 use crate::state::THREAD;
 use crate::state::clear;
 use crate::state::more;
-use crate::state::word;
-use crate::telling::quote;
-use crate::telling::say;
+use crate::statements::NO_NAME;
+use crate::steps;
 use crate::words;
+use codec::Row;
+use lent_queue::QueueRows;
 
 // A script is over.
 const OVER: u64 = 99;
 
 // The key of the running thread; none where there is none.
-fn key_of_runner(x: &mut [u64; 864]) -> u64 {
+fn key_of_runner(x: &mut State) -> u64 {
     x[KEY] = 0;
     if x[RUNS] == 0 {
         return 0;
@@ -40,209 +48,207 @@ fn key_of_runner(x: &mut [u64; 864]) -> u64 {
     calls::key(x)
 }
 
-fn runner(x: &mut [u64; 864]) {
+fn runner(x: &mut State) {
     x[RUNNER] = x[THREAD];
     x[RUNS] = 1;
 }
 
 // Calls that need neither queue nor table.
-fn apart(x: &mut [u64; 864], letter: u8) -> u64 {
-    match letter {
-        b'k' => key_of_runner(x),
-        b'j' => calls::key(x),
-        b'w' => calls::window(x),
-        b'b' => calls::switch(x),
-        b'B' => words::budget(x),
-        _ => {
-            told(x, letter);
-            0
-        }
+fn apart(x: &mut State, step: u64) -> u64 {
+    match step {
+        steps::RUNNER_KEY => key_of_runner(x),
+        steps::KEY => calls::key(x),
+        steps::WINDOW => calls::window(x),
+        steps::SWITCH => calls::switch(x),
+        _ => words::budget(x),
     }
 }
 
-fn told(x: &mut [u64; 864], letter: u8) {
-    match letter {
-        b'.' => answers::made(x),
-        b',' => answers::number(x),
-        b'=' => answers::former(x),
-        b'?' => answers::expiry(x),
-        b'!' => answers::choice(x),
-        b':' => answers::deadline(x),
-        b';' => answers::lengths(x),
-        b'K' => answers::note(x),
-        b'N' => answers::records(x),
-        b'O' => answers::explains(x),
-        _ => played(x, letter),
+fn told(x: &mut State, step: u64) {
+    match step {
+        steps::SAY_MADE => answers::made(x),
+        steps::SAY_THREAD => answers::number(x),
+        steps::SAY_FORMER => answers::former(x),
+        steps::SAY_EXPIRED => answers::expiry(x),
+        steps::SAY_SWITCH => answers::choice(x),
+        steps::SAY_DEADLINE => answers::deadline(x),
+        steps::SAY_LENGTHS => answers::lengths(x),
+        _ => answers::note(x),
     }
 }
 
-fn played(x: &mut [u64; 864], letter: u8) {
-    match letter {
-        b'R' => running::run(x),
-        b'@' => running::event(x),
-        b'J' => running::again(x),
-        b'(' => running::if_expired(x),
-        b'v' => running::follow(x),
-        b'y' => running::take(x),
-        b'Y' => running::point(x),
-        b'r' => running::stretch(x),
-        b'x' => explaining::begin(x),
-        b'X' => explaining::begin_in_run(x),
-        _ => explained(x, letter),
-    }
-}
-
-fn explained(x: &mut [u64; 864], letter: u8) {
-    match letter {
-        b'g' => explaining::named(x),
-        b'H' => explaining::chosen(x),
-        b'M' => explaining::circumstances(x),
-        b'i' => explaining::if_any(x),
-        b'G' => explaining::head(x),
-        b'z' => explaining::if_more(x),
-        b'n' => explaining::behind(x),
-        _ => kept(x, letter),
-    }
-}
-
-fn kept(x: &mut [u64; 864], letter: u8) {
-    match letter {
-        b'F' => words::fifo(x),
-        b'S' => words::fair(x),
-        b'I' => words::idle(x),
-        b'+' => words::grow(x),
-        b'V' => words::set_window(x),
-        b'Z' => words::set_turns(x),
-        b'C' => runner(x),
+fn set(x: &mut State, step: u64) {
+    match step {
+        steps::SET_RECORDS => answers::records(x),
+        steps::SET_EXPLAINS => answers::explains(x),
+        steps::MAKE_RUNNER => runner(x),
+        steps::MAKE_FIFO => words::fifo(x),
+        steps::MAKE_FAIR => words::fair(x),
+        steps::MAKE_IDLE => words::idle(x),
+        steps::GROW => words::grow(x),
+        steps::SET_WINDOW => words::set_window(x),
+        steps::SET_TURNS => words::set_turns(x),
         _ => x[END] = 1,
     }
 }
 
-// Calls on the table.
-fn tabled(t: &mut [[u64; 32]], x: &mut [u64; 864], letter: u8) -> u64 {
-    match letter {
-        b'p' => calls::prepare(t, x),
-        b'a' => calls::account(t, x),
-        b'f' => calls::finish(t, x),
-        b'e' => calls::expired(t, x),
-        b'c' => calls::candidate(t, x),
-        b'd' => calls::deadline(t, x),
-        _ => {
-            viewed(t, x, letter);
-            0
-        }
+fn run(x: &mut State, step: u64) {
+    match step {
+        steps::RUN => running::run(x),
+        steps::EVENT => running::event(x),
+        steps::AGAIN => running::again(x),
+        steps::IF_EXPIRED => running::if_expired(x),
+        steps::FOLLOW => running::follow(x),
+        steps::TAKE => running::take(x),
+        steps::POINT => running::point(x),
+        _ => running::stretch(x),
     }
 }
 
-fn viewed(t: &mut [[u64; 32]], x: &mut [u64; 864], letter: u8) {
-    match letter {
-        b'W' => explaining::walk(t, x),
-        b'L' => explaining::load(t, x),
-        b'U' => words::set_record(t, x),
+fn explained(x: &mut State, step: u64) {
+    match step {
+        steps::EXPLAIN => explaining::begin(x),
+        steps::EXPLAIN_RUN => explaining::begin_in_run(x),
+        steps::NAME_SELECTED => explaining::named(x),
+        steps::TELL_CHOSEN => explaining::chosen(x),
+        steps::TELL_DEMAND => explaining::circumstances(x),
+        steps::IF_ANY => explaining::if_any(x),
+        steps::TELL_HEAD => explaining::head(x),
+        steps::IF_MORE => explaining::if_more(x),
+        _ => explaining::behind(x),
+    }
+}
+
+// Calls on the table.
+fn tabled(t: &mut [Row], x: &mut State, step: u64) -> u64 {
+    match step {
+        steps::PREPARE => calls::prepare(t, x),
+        steps::ACCOUNT => calls::account(t, x),
+        steps::FINISH => calls::finish(t, x),
+        steps::EXPIRED => calls::expired(t, x),
+        steps::CANDIDATE => calls::candidate(t, x),
+        _ => calls::deadline(t, x),
+    }
+}
+
+fn viewed(t: &mut [Row], x: &mut State, step: u64) {
+    match step {
+        steps::WALK => explaining::walk(t, x),
+        steps::LOAD => explaining::load(t, x),
+        steps::SET_RECORD => words::set_record(t, x),
         _ => words::declare(t, x),
     }
 }
 
-// Calls on the queue alone.
-fn counted(q: &mut [[u64; 5]; 270], x: &mut [u64; 864], letter: u8) -> u64 {
-    match letter {
-        b'l' => calls::lengths(q, x),
-        b'T' => {
-            explaining::root(q, x);
-            0
-        }
-        _ => {
-            words::set_queue(q, x);
-            0
-        }
-    }
-}
-
-fn queued(q: &mut [[u64; 5]; 270], t: &mut [[u64; 32]], x: &mut [u64; 864], letter: u8) -> u64 {
-    match letter {
-        b's' => calls::select(q, t, x),
-        b'q' => calls::put(q, t, x),
+// Calls on both.
+fn queued(q: &mut QueueRows, t: &mut [Row], x: &mut State, step: u64) -> u64 {
+    match step {
+        steps::SELECT => calls::select(q, t, x),
+        steps::ENQUEUE => calls::put(q, t, x),
         _ => calls::remove(q, t, x),
     }
 }
 
-// What a letter needs: 0 neither queue nor table, 1 the table, 2 the queue, 3 both.
-fn needs(letter: u8) -> u64 {
-    match letter {
-        b's' | b'q' | b'o' => 3,
-        b'l' | b'T' | b'Q' => 2,
-        b'p' | b'a' | b'f' | b'e' | b'c' | b'd' | b'W' | b'L' | b'U' | b'D' => 1,
-        _ => 0,
+// On the queue alone.
+fn counted(q: &mut QueueRows, x: &mut State, step: u64) {
+    match step {
+        steps::LENGTHS => {
+            calls::lengths(q, x);
+        }
+        steps::ROOT => explaining::root(q, x),
+        _ => words::set_queue(q, x),
     }
 }
 
-fn performed(q: &mut [[u64; 5]; 270], t: &mut [[u64; 32]], x: &mut [u64; 864], letter: u8) -> u64 {
-    match needs(letter) {
-        3 => queued(q, t, x, letter),
-        2 => counted(q, x, letter),
-        1 => tabled(t, x, letter),
-        _ => apart(x, letter),
+// Steps that answer nothing and need neither queue nor table.
+fn small(x: &mut State, step: u64) {
+    match step / 10 {
+        1 => told(x, step),
+        2 => set(x, step),
+        3 => run(x, step),
+        _ => explained(x, step),
     }
 }
 
-fn letter_at(x: &[u64; 864], at: u64) -> u64 {
-    let script = x[PLAYED] as usize;
-    word(x, script, at)
+fn performed(q: &mut QueueRows, t: &mut [Row], x: &mut State, step: u64) -> u64 {
+    match step {
+        steps::SELECT | steps::ENQUEUE | steps::REMOVE => return queued(q, t, x, step),
+        50..=55 => return tabled(t, x, step),
+        56..=59 => viewed(t, x, step),
+        60..=62 => counted(q, x, step),
+        1..=5 => return apart(x, step),
+        _ => small(x, step),
+    }
+    0
 }
 
-// The letter that is next.
-fn next(x: &mut [u64; 864]) -> u8 {
+// The step that is next.
+fn next(x: &mut State) -> u64 {
     let at = x[PLACE];
-    let letter = letter_at(x, at);
     x[PLACE] = more(at);
-    (letter % 256) as u8
+    steps::step_at(x[PLAYED], at)
 }
 
-// A letter is played on as many records as there are, unless a call was refused before.
-fn step(q: &mut [[u64; 5]; 270], t: &mut [[u64; 32]], x: &mut [u64; 864], refused: u64) -> u64 {
+// A step is played on as many records as there are, unless a call was refused before.
+fn step(q: &mut QueueRows, t: &mut [Row], x: &mut State, refused: u64) -> u64 {
     if refused != 0 {
         return refused;
     }
-    let letter = next(x);
+    let step = next(x);
     let n = x[RECORDS] as usize;
-    if letter == 0 {
+    if step == 0 {
         return OVER;
     }
     if t.len() < n {
         return OVER;
     }
-    performed(q, &mut t[0..n], x, letter)
+    performed(q, &mut t[0..n], x, step)
 }
 
-fn stopped(x: &[u64; 864]) {
-    say(x, b": stopped\n");
+fn names(number: u64) {
+    listed(
+        b": refused, %@",
+        b"made|Damaged|BadState|Already|NoThread|BadConfig",
+        number,
+    );
 }
 
-fn line_again(x: &[u64; 864]) {
-    say(x, b"line %l");
+fn further_names(number: u64) {
+    listed(
+        b": refused, %@",
+        b"BadBudget|BackInTime|TurnsSpent|Halted|BadTable|BadRecord",
+        number,
+    );
 }
 
-fn refused(x: &[u64; 864]) {
-    say(x, b": refused, $s (%s)\n");
+// A refusal is named with its number; without one a run was stopped.
+fn ended(number: u64) {
+    if number == 0 {
+        print(b": stopped\n", &[0], b"");
+        return;
+    }
+    if number < 6 {
+        names(number);
+    } else {
+        further_names(number - 6);
+    }
+    print(b" (%a)\n", &[number], b"");
 }
 
-// A refusal is named with its number; in a run its line is named again.
-fn end(x: &mut [u64; 864], number: u64) {
+// In a run the line is named again.
+fn end(x: &State, number: u64) {
     if number == OVER {
         return;
     }
-    if x[PLAYED] == CYCLE as u64 {
-        line_again(x);
+    if x[PLAYED] == steps::CYCLE {
+        say(x, b"line %l");
     }
-    x[SLICE] = number;
-    if number == 0 {
-        stopped(x);
-        return;
+    if is_text(x) {
+        ended(number);
     }
-    refused(x);
 }
 
-fn play(q: &mut [[u64; 5]; 270], t: &mut [[u64; 32]], x: &mut [u64; 864]) {
+fn play(q: &mut QueueRows, t: &mut [Row], x: &mut State) {
     let mut number: u64 = 0;
     let mut left: u64 = 65_536;
     while 0 < left {
@@ -252,31 +258,44 @@ fn play(q: &mut [[u64; 5]; 270], t: &mut [[u64; 32]], x: &mut [u64; 864]) {
     end(x, number);
 }
 
-// A line is quoted, with its number; whether it is a statement.
-fn is_understood(x: &mut [u64; 864], line: &[u8]) -> bool {
-    clear(x, LETTERS, ROW);
-    x[NUMBER] = x[LINES];
-    let understood = is_matched(x);
-    if understood {
-        say(x, b"line %l: ");
-    } else {
-        say(x, b"line %l: not understood: ");
-    }
-    quote(x, line);
-    understood
+fn numbered(number: u64) {
+    print(b"line %a: ", &[number], b"");
 }
 
-pub fn line(q: &mut [[u64; 5]; 270], t: &mut [[u64; 32]], x: &mut [u64; 864], line: &[u8]) {
-    x[LINES] = more(x[LINES]);
-    words_of(x, line);
-    if x[COUNT] == 0 {
-        return;
+// A line is quoted with its number.
+fn quoted(number: u64, line: &[u8], start: usize, end: usize, understood: bool) {
+    numbered(number);
+    if !understood {
+        print(b"not understood: ", &[0], b"");
     }
-    if is_understood(x, line) {
-        x[PLAYED] = SCRIPT as u64;
+    quote(line, start, last_end(line, end));
+    if !understood {
+        print(b"\n", &[0], b"");
+    }
+}
+
+// The statement that a line is, with its letters' words set and the line quoted.
+fn understood(x: &mut State, line: &[u8]) -> u64 {
+    let first = word_after(line, 0);
+    if first.kind == NONE {
+        return NO_NAME;
+    }
+    clear(x, LETTERS, ROW);
+    clear(x, CONFIG, SELECTED);
+    x[NUMBER] = x[LINES];
+    let statement = matched(x, line, first);
+    if is_text(x) {
+        quoted(x[LINES], line, first.start, first.end, statement != NO_NAME);
+    }
+    statement
+}
+
+pub fn line(q: &mut QueueRows, t: &mut [Row], x: &mut State, line: &[u8]) {
+    x[LINES] = more(x[LINES]);
+    let statement = understood(x, line);
+    if statement != NO_NAME {
+        x[PLAYED] = statement;
         x[PLACE] = 0;
         play(q, t, x);
-        return;
     }
-    say(x, b"\n");
 }

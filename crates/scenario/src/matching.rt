@@ -1,225 +1,300 @@
-// What follows a statement's name, by its pattern: each letter takes a word, or two, and the letter's word is set. A wrong word, or one too many, makes the line malformed.
-use crate::reading::BAD;
-use crate::reading::COUNT;
+// What follows a statement's name, by its pattern: each letter takes a word, or two, and the letter's word is set. A
+// wrong word, or one too many, makes the line malformed.
 use crate::reading::NAME;
-use crate::reading::NEXT;
+use crate::reading::NONE;
 use crate::reading::PLACE;
 use crate::reading::PLAIN;
-use crate::state::KINDS;
-use crate::state::LETTERS;
+use crate::reading::Word;
+use crate::reading::half;
+use crate::reading::middle;
+use crate::reading::word_after;
+use crate::state::AT;
+use crate::state::BACKEND;
+use crate::state::BAD;
+use crate::state::CHOICE;
+use crate::state::CONFIG;
+use crate::state::END;
+use crate::state::FAIR;
+use crate::state::HOOK;
+use crate::state::ITS_MODE;
 use crate::state::NAMES;
 use crate::state::NAMES_END;
-use crate::state::NUMBERS;
-use crate::state::OPTION;
-use crate::state::OPTION_VALUE;
-use crate::state::PATTERN;
+use crate::state::NEW_NAME;
+use crate::state::NEW_NAME_END;
+use crate::state::ROLE;
+use crate::state::RUNNER;
 use crate::state::RUNS;
+use crate::state::State;
+use crate::state::THREAD;
 use crate::state::THREADS;
-use crate::state::WORDS;
-use crate::state::WORDS_END;
-use crate::state::minus;
-use crate::state::more;
 use crate::state::store;
 use crate::state::word;
-use crate::tables::option;
-use crate::tables::place;
-use crate::tables::policy;
-use crate::tables::statement;
-
-// The word of the letter r.
-const LETTER_R: usize = 49;
+use crate::statements;
+use crate::statements::NO_NAME;
+use crate::statements::find;
 
 const NOBODY: u64 = 18_446_744_073_709_551_615;
 
-// Letters of patterns.
-const AT: u64 = 97;
-
-const BACKEND: u64 = 98;
-
-const CURRENT: u64 = 99;
-
-const END: u64 = 101;
-
-const FAIR: u64 = 102;
-
-const HOOK: u64 = 104;
-
-const MODE: u64 = 109;
-
-const CHOICE: u64 = 111;
-
-const ROLE: u64 = 114;
-
-const THREAD: u64 = 116;
-
-const PLUS: u64 = 43;
-
-const DASH: u64 = 45;
-
-fn is_name(x: &[u64; 864], token: u64, i: u64) -> bool {
-    if word(x, NAMES, i) != word(x, WORDS, token) {
+fn is_name(x: &State, i: u64, first: u64, second: u64) -> bool {
+    if word(x, NAMES, i) != first {
         return false;
     }
-    word(x, NAMES_END, i) == word(x, WORDS_END, token)
+    word(x, NAMES_END, i) == second
 }
 
-// The thread with the name of a word.
-fn named(x: &[u64; 864], token: u64) -> u64 {
+// The first thread with a name, by its halves.
+fn named(x: &State, first: u64, second: u64) -> u64 {
     let mut found = NOBODY;
     let mut left: u64 = x[THREADS];
     while 0 < left {
         left -= 1;
-        if is_name(x, token, left) {
+        if is_name(x, left, first, second) {
             found = left;
         }
     }
     found
 }
 
-fn malformed(x: &mut [u64; 864]) {
-    x[BAD] = 1;
+fn thread_named(x: &State, line: &[u8], start: usize, end: usize) -> u64 {
+    let mid = middle(start, end);
+    named(x, half(line, start, mid), half(line, mid, end))
 }
 
-fn set(x: &mut [u64; 864], letter: u64, value: u64) {
-    store(x, LETTERS, minus(letter, AT), value);
-    x[NEXT] = more(x[NEXT]);
-}
-
-fn thread(x: &mut [u64; 864], letter: u64, token: u64) {
-    let kind = word(x, KINDS, token);
-    if kind == PLACE {
-        set(x, letter, word(x, NUMBERS, token));
-        return;
+fn thread(x: &mut State, line: &[u8], w: Word) -> u64 {
+    if w.kind == PLACE {
+        return w.number;
     }
-    let id = named(x, token);
-    if kind != NAME {
-        malformed(x);
+    let id = thread_named(x, line, w.start, w.end);
+    if w.kind != NAME {
+        x[BAD] = 1;
     }
     if id == NOBODY {
-        malformed(x);
+        x[BAD] = 1;
     }
-    set(x, letter, id);
+    id
 }
 
-// An option's value is a digit.
-fn chosen(x: &mut [u64; 864], letter: u64, kind: u64, token: u64) {
-    option(x, token);
-    if x[OPTION] != kind {
-        malformed(x);
-    }
-    let value = minus(x[OPTION_VALUE], 48);
-    store(x, NUMBERS, token, value);
-    set(x, letter, value);
-}
-
-fn number(x: &mut [u64; 864], letter: u64, token: u64) {
-    if word(x, KINDS, token) != PLAIN {
-        malformed(x);
-    }
-    set(x, letter, word(x, NUMBERS, token));
+fn modes(piece: &[u8]) -> u64 {
+    find(b"strict priority protected ordinary borrow", piece)
 }
 
 // A role is named as a mode is; there is no strict and no borrowing one.
-fn role(x: &mut [u64; 864], letter: u64, token: u64) {
-    chosen(x, letter, MODE, token);
-    match x[LETTER_R] {
-        1 | 2 | 3 => {}
-        _ => malformed(x),
+fn role(piece: &[u8]) -> u64 {
+    let n = modes(piece);
+    match n {
+        1 | 2 | 3 => n,
+        _ => NO_NAME,
     }
 }
 
-// `current` and a thread, or `hook` and a name.
-fn paired(x: &mut [u64; 864], letter: u64, token: u64) {
-    chosen(x, letter, letter, token);
-    let its = more(token);
-    if letter == CURRENT {
-        x[RUNS] = 1;
-        thread(x, letter, its);
-        return;
+fn option_in(piece: &[u8], slot: usize) -> u64 {
+    match slot {
+        ITS_MODE => modes(piece),
+        ROLE => role(piece),
+        END => find(b"back front", piece),
+        BACKEND => find(b"stride round-robin", piece),
+        CHOICE => find(b"off on", piece),
+        _ => word_in(piece, slot),
     }
-    if word(x, KINDS, its) != NAME {
-        malformed(x);
-    }
-    set(x, letter, word(x, WORDS, its) % 256);
 }
 
-fn is_optional(letter: u64) -> bool {
-    match letter {
-        CURRENT | FAIR | HOOK => true,
+fn word_in(piece: &[u8], slot: usize) -> u64 {
+    match slot {
+        AT => find(b"at", piece),
+        HOOK => find(b"hook", piece),
+        RUNNER => find(b"current", piece),
+        _ => given_once(find(b"prefer-fair", piece)),
+    }
+}
+
+// An option that is 1 where it stands.
+fn given_once(n: u64) -> u64 {
+    if n == 0 {
+        return 1;
+    }
+    n
+}
+
+// The place of an option's word among those that may stand there.
+fn option(line: &[u8], slot: usize, start: usize, end: usize) -> u64 {
+    if end < start {
+        return NO_NAME;
+    }
+    if line.len() < end {
+        return NO_NAME;
+    }
+    option_in(&line[start..end], slot)
+}
+
+fn chosen(x: &mut State, line: &[u8], w: Word, slot: usize) -> u64 {
+    let n = option(line, slot, w.start, w.end);
+    if n == NO_NAME {
+        x[BAD] = 1;
+    }
+    n
+}
+
+fn number(x: &mut State, w: Word) -> u64 {
+    if w.kind != PLAIN {
+        x[BAD] = 1;
+    }
+    w.number
+}
+
+fn hook(x: &mut State, line: &[u8], w: Word) -> u64 {
+    if w.kind != NAME {
+        x[BAD] = 1;
+    }
+    half(line, w.start, middle(w.start, w.end)) % 256
+}
+
+// What a word gives for a letter.
+fn value(x: &mut State, line: &[u8], w: Word, slot: usize) -> u64 {
+    match slot {
+        THREAD | RUNNER => thread(x, line, w),
+        HOOK => hook(x, line, w),
+        AT | BACKEND | END | FAIR | ITS_MODE | CHOICE | ROLE => chosen(x, line, w, slot),
+        _ => number(x, w),
+    }
+}
+
+fn set(x: &mut State, slot: usize, k: usize, value: u64) {
+    if slot < 64 {
+        x[slot] = value;
+    }
+    store(x, CONFIG, k as u64, value);
+}
+
+fn is_optional(slot: usize) -> bool {
+    match slot {
+        RUNNER | FAIR | HOOK => true,
         _ => false,
     }
 }
 
-fn given(x: &mut [u64; 864], letter: u64, token: u64) {
-    match letter {
-        THREAD => thread(x, letter, token),
-        CURRENT | HOOK => paired(x, letter, token),
-        ROLE => role(x, letter, token),
-        AT | BACKEND | END | FAIR | MODE | CHOICE => chosen(x, letter, letter, token),
-        _ => number(x, letter, token),
-    }
-}
-
-fn taken(x: &mut [u64; 864], letter: u64) {
-    let token = x[NEXT];
-    if letter < AT {
-        return;
-    }
-    if is_optional(letter) {
-        if x[COUNT] <= token {
-            return;
+// `current` and `hook` stand before what they are of.
+fn announced(x: &mut State, line: &[u8], w: Word, slot: usize) -> Word {
+    match slot {
+        RUNNER => {
+            x[RUNS] = 1;
+            chosen(x, line, w, slot);
+            word_after(line, w.end)
         }
+        HOOK => {
+            chosen(x, line, w, slot);
+            word_after(line, w.end)
+        }
+        _ => w,
     }
-    given(x, letter, token);
 }
 
-fn each(x: &mut [u64; 864]) {
-    let mut k: u64 = 0;
-    while k < 16 {
-        taken(x, word(x, PATTERN, k));
+// A letter of a pattern takes its words; where the next one is looked for.
+fn taken(x: &mut State, line: &[u8], at: usize, slot: usize, k: usize) -> usize {
+    if slot == 0 {
+        return at;
+    }
+    let w = word_after(line, at);
+    if w.kind == NONE {
+        if !is_optional(slot) {
+            x[BAD] = 1;
+        }
+        return at;
+    }
+    let its = announced(x, line, w, slot);
+    let v = value(x, line, its, slot);
+    set(x, slot, k, v);
+    its.end
+}
+
+fn each(x: &mut State, line: &[u8], from: usize, pattern: [usize; 8]) -> usize {
+    let mut at = from;
+    let mut k: usize = 0;
+    while k < 8 {
+        at = taken(x, line, at, pattern[k], k);
         k += 1;
     }
+    at
 }
 
 // A thread's name is new, and there is room for it.
-fn declared(x: &mut [u64; 864]) {
-    policy(x);
-    x[NEXT] = 3;
-    if named(x, 1) != NOBODY {
-        malformed(x);
+fn declared(x: &mut State, line: &[u8], w: Word) {
+    let mid = middle(w.start, w.end);
+    x[NEW_NAME] = half(line, w.start, mid);
+    x[NEW_NAME_END] = half(line, mid, w.end);
+    if thread_named(x, line, w.start, w.end) != NOBODY {
+        x[BAD] = 1;
     }
-    if word(x, KINDS, 1) != NAME {
-        malformed(x);
+    if w.kind != NAME {
+        x[BAD] = 1;
     }
     if 31 < x[THREADS] {
-        malformed(x);
+        x[BAD] = 1;
     }
 }
 
-// A statement's pattern and script.
-fn sought(x: &mut [u64; 864]) {
-    statement(x);
-    x[NEXT] = 1;
-    let first = x[PATTERN];
-    if first == PLUS {
-        declared(x);
-        return;
-    }
-    if first == DASH {
-        place(x);
-        x[NEXT] = 2;
+fn piece_statement(piece: &[u8], of: u64) -> u64 {
+    match of {
+        statements::THREADS => statements::policy(piece),
+        statements::WORDS => statements::place(piece),
+        _ => statements::statement(piece),
     }
 }
 
-// Whether the line is a statement; its letters' words and its script are then set.
-pub fn is_matched(x: &mut [u64; 864]) -> bool {
-    sought(x);
-    if x[PATTERN] == 0 {
-        return false;
+// The statement that a word names, by itself or after `thread` or `word`.
+fn statement(line: &[u8], start: usize, end: usize, of: u64) -> u64 {
+    if end < start {
+        return NO_NAME;
     }
-    each(x);
+    if line.len() < end {
+        return NO_NAME;
+    }
+    piece_statement(&line[start..end], of)
+}
+
+// What a line is: its statement, and where its words end.
+pub struct Match {
+    pub statement: u64,
+    pub end: usize,
+}
+
+// With the statement's own words behind its name.
+fn sought(x: &mut State, line: &[u8], first: Word) -> Match {
+    let name = statement(line, first.start, first.end, NO_NAME);
+    let second = word_after(line, first.end);
+    if name == statements::THREADS {
+        declared(x, line, second);
+        let third = word_after(line, second.end);
+        return Match {
+            statement: statement(line, third.start, third.end, name),
+            end: third.end,
+        };
+    }
+    if name == statements::WORDS {
+        return Match {
+            statement: statement(line, second.start, second.end, name),
+            end: second.end,
+        };
+    }
+    Match {
+        statement: name,
+        end: first.end,
+    }
+}
+
+// The statement that a line is, with its letters' words set; none where it is malformed.
+pub fn matched(x: &mut State, line: &[u8], first: Word) -> u64 {
+    x[BAD] = 0;
+    let m = sought(x, line, first);
+    if m.statement == NO_NAME {
+        return NO_NAME;
+    }
+    let end = each(x, line, m.end, statements::pattern(m.statement));
+    let rest = word_after(line, end);
+    if rest.kind != NONE {
+        return NO_NAME;
+    }
     if x[BAD] != 0 {
-        return false;
+        return NO_NAME;
     }
-    x[NEXT] == x[COUNT]
+    m.statement
 }

@@ -1,6 +1,8 @@
-// Where the words of a run stand, in one array, so that a function borrows one.
+// Where the words of a run stand, in one array of rows of 32, so that a function borrows one.
+pub type State = [u64; 448];
 
-// Of the board: the last reading; the running thread, whether it is Running, and its last mode; the idle thread; the two turn counters;
+// Of the board: the last reading; the running thread, whether it is Running, and its last mode; the idle thread; the
+// two turn counters;
 pub const NOW: usize = 0;
 
 pub const CURRENT: usize = 1;
@@ -26,7 +28,8 @@ pub const THREADS: usize = 10;
 
 pub const RECORDS: usize = 11;
 
-// whether a run explains its selections; what becomes of the output; the script and the place in it, and those to go back to; the tree that is shown;
+// whether a run explains its selections; what becomes of the output; the script and the place in it, and those to go
+// back to; the tree that is shown;
 pub const EXPLAINS: usize = 12;
 
 pub const OUTPUT: usize = 13;
@@ -41,7 +44,8 @@ pub const BACK_PLACE: usize = 17;
 
 pub const TREE: usize = 18;
 
-// the line; for a picture how many nanoseconds a pixel has, the last reading of all, and how many lanes; and up to where a protected window is drawn.
+// the line; for a picture how many nanoseconds a pixel has, the last reading of all, and how many lanes; up to where a
+// protected window is drawn;
 pub const LINES: usize = 19;
 
 pub const UNIT: usize = 20;
@@ -52,8 +56,17 @@ pub const LANES: usize = 22;
 
 pub const SHADED: usize = 23;
 
+// whether the line is malformed; and the two halves of the name that it gives.
+pub const BAD: usize = 24;
+
+pub const NEW_NAME: usize = 25;
+
+pub const NEW_NAME_END: usize = 26;
+
 // A word for each letter, from LETTERS on: what a statement gives, what a call answers, and what a template prints.
 pub const LETTERS: usize = 32;
+
+pub const AT: usize = 32;
 
 pub const BACKEND: usize = 33;
 
@@ -64,6 +77,9 @@ pub const RUNS: usize = 35;
 pub const END: usize = 36;
 
 pub const LENGTH: usize = 37;
+
+// A window's option stands where a length does.
+pub const FAIR: usize = 37;
 
 pub const MEMBER: usize = 38;
 
@@ -123,6 +139,9 @@ pub const WINDOW_EPOCH: usize = 104;
 
 pub const WINDOW_FLOOR: usize = 107;
 
+// The numbers of a statement in their order, of which a window's is its configuration.
+pub const CONFIG: usize = 112;
+
 pub const SELECTED: usize = 128;
 
 pub const SELECTED_ID: usize = 129;
@@ -134,6 +153,10 @@ pub const LEAST_PASS: usize = 144;
 pub const KEY: usize = 160;
 
 pub const KEY_MODE: usize = 161;
+
+pub const KEY_URGENCY: usize = 162;
+
+pub const KEY_RANK: usize = 163;
 
 // Of each thread the two halves of its name, its hook's letter, and the work that it has left.
 pub const NAMES: usize = 192;
@@ -153,36 +176,6 @@ pub const WAKE_WORK: usize = 384;
 
 // The way through a tree.
 pub const STACK: usize = 416;
-
-// The scripts of a run's cycle and of an explanation.
-pub const CYCLE: usize = 448;
-
-pub const EXPLANATION: usize = 480;
-
-// Of each word of a line its two halves, its number, and its kind.
-pub const WORDS: usize = 512;
-
-pub const WORDS_END: usize = 544;
-
-pub const NUMBERS: usize = 576;
-
-pub const KINDS: usize = 608;
-
-// What is read of a line, and of a word of it; what is sought in a table.
-pub const LINE: usize = 640;
-
-pub const TOKEN: usize = 672;
-
-pub const SOUGHT: usize = 704;
-
-// A statement's pattern and script, letter by letter; an option's kind and value, likewise.
-pub const PATTERN: usize = 736;
-
-pub const SCRIPT: usize = 768;
-
-pub const OPTION: usize = 800;
-
-pub const OPTION_VALUE: usize = 832;
 
 // What becomes of the output: text, nothing, or a picture.
 pub const TEXT: u64 = 0;
@@ -222,37 +215,33 @@ pub fn least(a: u64, b: u64) -> u64 {
     b
 }
 
-pub fn wide(byte: u8) -> u64 {
-    byte as u64
-}
-
 // The k-th word of 32, or 0 where there is none.
-pub fn word(x: &[u64; 864], row: usize, k: u64) -> u64 {
+pub fn word(x: &State, row: usize, k: u64) -> u64 {
     if 31 < k {
         return 0;
     }
-    if 832 < row {
+    if 416 < row {
         return 0;
     }
     x[row + k as usize]
 }
 
 // A word beyond the last of 32 is not stored.
-pub fn store(x: &mut [u64; 864], row: usize, k: u64, value: u64) {
+pub fn store(x: &mut State, row: usize, k: u64, value: u64) {
     if 31 < k {
         return;
     }
-    if 832 < row {
+    if 416 < row {
         return;
     }
     x[row + k as usize] = value;
 }
 
 // The words from one place up to another become 0.
-pub fn clear(x: &mut [u64; 864], from: usize, to: usize) {
+pub fn clear(x: &mut State, from: usize, to: usize) {
     let mut i: usize = from;
     while i < to {
-        if i < 864 {
+        if i < 448 {
             x[i] = 0;
         }
         i += 1;

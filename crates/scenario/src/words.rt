@@ -9,6 +9,8 @@ use crate::state::IDLE;
 use crate::state::LETTERS;
 use crate::state::NAMES;
 use crate::state::NAMES_END;
+use crate::state::NEW_NAME;
+use crate::state::NEW_NAME_END;
 use crate::state::PRIORITY;
 use crate::state::QUEUE_ROW;
 use crate::state::RECORDS;
@@ -16,6 +18,7 @@ use crate::state::ROLE;
 use crate::state::ROW;
 use crate::state::RUNNING;
 use crate::state::SLICE;
+use crate::state::State;
 use crate::state::THREAD;
 use crate::state::THREADS;
 use crate::state::VALUE;
@@ -27,6 +30,8 @@ use crate::state::clear;
 use crate::state::more;
 use crate::state::store;
 use crate::state::word;
+use codec::Row;
+use lent_queue::QueueRows;
 use record_entries::budget_parameters_new;
 
 // Words of a row (crate codec).
@@ -60,13 +65,8 @@ const BURST_REMAINING: usize = 79;
 
 const HEIGHT: usize = 85;
 
-// The second word of a line.
-const NAME_WORD: usize = 513;
-
-const NAME_WORD_END: usize = 545;
-
 // Eight words become those of the letters p to w.
-pub fn show(x: &mut [u64; 864], from: usize) {
+pub fn show(x: &mut State, from: usize) {
     let mut k: u64 = 0;
     while k < 8 {
         let value = word(x, from, k);
@@ -76,7 +76,7 @@ pub fn show(x: &mut [u64; 864], from: usize) {
 }
 
 // A list's words become those from a place on, 32 at most.
-pub fn keep(x: &mut [u64; 864], at: usize, words: &[u64]) {
+pub fn keep(x: &mut State, at: usize, words: &[u64]) {
     let mut i: usize = 0;
     while i < words.len() {
         store(x, at, i as u64, words[i]);
@@ -91,7 +91,7 @@ fn put(to: &mut [u64], i: usize, value: u64) {
 }
 
 // The words from a place on become a list's, 32 at most.
-pub fn copy(to: &mut [u64], x: &[u64; 864], at: usize) {
+pub fn copy(to: &mut [u64], x: &State, at: usize) {
     let mut i: usize = 0;
     while i < to.len() {
         put(to, i, word(x, at, i as u64));
@@ -100,7 +100,7 @@ pub fn copy(to: &mut [u64], x: &[u64; 864], at: usize) {
 }
 
 // A word of the queue; what was there becomes v's.
-pub fn set_queue(q: &mut [[u64; 5]; 270], x: &mut [u64; 864]) {
+pub fn set_queue(q: &mut QueueRows, x: &mut State) {
     let row = x[QUEUE_ROW];
     let k = x[WORD];
     let value = x[VALUE];
@@ -114,7 +114,7 @@ pub fn set_queue(q: &mut [[u64; 5]; 270], x: &mut [u64; 864]) {
     q[row as usize][k as usize] = value;
 }
 
-pub fn set_record(t: &mut [[u64; 32]], x: &mut [u64; 864]) {
+pub fn set_record(t: &mut [Row], x: &mut State) {
     let i = x[THREAD] as usize;
     let k = x[WORD];
     let value = x[VALUE];
@@ -128,7 +128,7 @@ pub fn set_record(t: &mut [[u64; 32]], x: &mut [u64; 864]) {
     t[i][k as usize] = value;
 }
 
-pub fn set_window(x: &mut [u64; 864]) {
+pub fn set_window(x: &mut State) {
     let k = x[WORD];
     let value = x[VALUE];
     x[VALUE] = word(x, WINDOW, k);
@@ -136,7 +136,7 @@ pub fn set_window(x: &mut [u64; 864]) {
 }
 
 // A turn counter, 0 the back one, 1 the front one.
-pub fn set_turns(x: &mut [u64; 864]) {
+pub fn set_turns(x: &mut State) {
     let k = x[WORD] % 2;
     let value = x[VALUE];
     x[VALUE] = word(x, BACK, k);
@@ -152,7 +152,7 @@ fn role(mode: u64) -> u64 {
 }
 
 // A thread of processor 0 in band 128 that stands in no queue and had no turn yet.
-fn fresh(x: &mut [u64; 864], policy: u64) {
+fn fresh(x: &mut State, policy: u64) {
     clear(x, ROW, WINDOW);
     x[POLICY] = policy;
     x[RUNTIME] = policy;
@@ -162,12 +162,12 @@ fn fresh(x: &mut [u64; 864], policy: u64) {
     x[HEIGHT] = 1;
 }
 
-pub fn fifo(x: &mut [u64; 864]) {
+pub fn fifo(x: &mut State) {
     fresh(x, 0);
     x[ITS_PRIORITY] = x[PRIORITY];
 }
 
-pub fn fair(x: &mut [u64; 864]) {
+pub fn fair(x: &mut State) {
     fresh(x, 1);
     x[ITS_WEIGHT] = x[WEIGHT];
     x[QUANTUM] = x[SLICE];
@@ -175,13 +175,13 @@ pub fn fair(x: &mut [u64; 864]) {
     x[REMAINING] = x[SLICE];
 }
 
-fn budget_in(x: &[u64; 864]) -> u64 {
+fn budget_in(x: &State) -> u64 {
     let mut made = [0u64; 3];
     budget_parameters_new(x[AMOUNT], x[PRIORITY], x[SLICE], &mut made)
 }
 
 // Full, and with no epoch yet.
-pub fn budget(x: &mut [u64; 864]) -> u64 {
+pub fn budget(x: &mut State) -> u64 {
     let number = budget_in(x);
     fresh(x, 2);
     x[HAS_BUDGET] = 1;
@@ -194,7 +194,7 @@ pub fn budget(x: &mut [u64; 864]) -> u64 {
 }
 
 // It always works; a board starts with it.
-pub fn idle(x: &mut [u64; 864]) {
+pub fn idle(x: &mut State) {
     fresh(x, 3);
     let id = x[THREADS];
     x[IDLE] = id;
@@ -204,11 +204,11 @@ pub fn idle(x: &mut [u64; 864]) {
 }
 
 // The thread's name and hook, and its number.
-fn known(x: &mut [u64; 864]) -> u64 {
+fn known(x: &mut State) -> u64 {
     let id = x[THREADS];
     let hook = x[HOOK];
-    let half = x[NAME_WORD];
-    let other_half = x[NAME_WORD_END];
+    let half = x[NEW_NAME];
+    let other_half = x[NEW_NAME_END];
     store(x, NAMES, id, half);
     store(x, NAMES_END, id, other_half);
     store(x, HOOKS, id, hook);
@@ -218,7 +218,7 @@ fn known(x: &mut [u64; 864]) -> u64 {
 }
 
 // The row becomes a record; where the table has no room for it, nothing does.
-pub fn declare(t: &mut [[u64; 32]], x: &mut [u64; 864]) {
+pub fn declare(t: &mut [Row], x: &mut State) {
     let i = known(x) as usize;
     let mut row = [0u64; 32];
     copy(&mut row, x, ROW);
@@ -228,7 +228,7 @@ pub fn declare(t: &mut [[u64; 32]], x: &mut [u64; 864]) {
 }
 
 // As many records as there are threads with the next one, at least.
-pub fn grow(x: &mut [u64; 864]) {
+pub fn grow(x: &mut State) {
     let n = more(x[THREADS]);
     if x[RECORDS] < n {
         x[RECORDS] = n;

@@ -2,18 +2,13 @@
 use Prim.Native.Nat.{ℕ}
 use mathlib.Core.List.{List}
 use Rattle.refusal.specs.Answer.{Answer, value, refused, numberOf}
-use Rattle.queue.specs.declared.CpuRunQueue.{CpuRunQueue}
 use Rattle.selection.specs.declared.Selection.{Selection}
-use Rattle.renewal.specs.declared.SelectionParts.{SelectionParts}
-use Rattle.selection.specs.declared.SelectionStep.{SelectionStep}
 use Rattle.selection.specs.declared.PeekAnswer.{PeekAnswer}
 use Rattle.selection.specs.declared.PeekAnswer.the-variants as peek
 use Rattle.selection.specs.declared.WindowPeek.{WindowPeek}
-use Rattle.selection.specs.declared.PartsPeek.{PartsPeek}
 use Rattle.selection.specs.declared.GatheredAnswer.{GatheredAnswer}
 use Rattle.selection.specs.declared.GatheredAnswer.the-variants as gathered
 use Rattle.selection.specs.HeadNumbers.{HeadNumbers}
-use Rattle.selection.specs.Peek.{Peeked, peeked}
 use Rattle.selection.specs.Steps.{Looked, looked}
 
 -- What was found, beside the numbers of the heads.
@@ -28,10 +23,3 @@ peekAnswer (peek.Refused n) = refused (numberOf n)
 
 abbrev pub lookedOf : WindowPeek → Looked
 lookedOf s = looked (peekAnswer (s .answer)) (s .window)
-
-abbrev pub partsPeeked : PartsPeek → Peeked SelectionParts
-partsPeeked s = peeked (peekAnswer (s .answer)) (s .window) (s .parts)
-
--- The answer, the window and the queue of a selection.
-abbrev pub selectionOf : SelectionStep → Peeked CpuRunQueue
-selectionOf s = peeked (peekAnswer (s .answer)) (s .window) (s .queue)

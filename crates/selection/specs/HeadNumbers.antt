@@ -1,4 +1,5 @@
--- The heads as the code holds them: the numbers of those that were found, one after the other. The laws (HeadLaws, LookLaws) say that this is selection by `Heads`.
+-- The heads as the code holds them: the numbers of those that were found, one after the other. The laws (HeadLaws,
+-- LookLaws) say that this is selection by `Heads`.
 use Prim.Native.Nat.{ℕ, zero, suc, _-_}
 use mathlib.Core.Bool.{Bool, true, false}
 use mathlib.Core.List.{List, [], _∷_, _++_}
@@ -20,11 +21,11 @@ use Rattle.demands.specs.declared.Gathered.{Gathered}
 use Rattle.selection.specs.declared.ReadyOption.{ReadyOption}
 use Rattle.selection.specs.declared.ReadyOption.the-variants as ready
 use Rattle.selection.specs.declared.ReadyThread.{ReadyThread}
-use Rattle.selection.specs.declared.Selection.{Selection}
 use Rattle.demands.specs.Demands.{ofCurrent}
 use Rattle.renewal.specs.Renewal.{headOf, rootAt}
 use Rattle.selection.specs.Heads.{Chosen, onReady, onKeyOption, comesBefore, lesserReady, readyWith}
 use Rattle.selection.specs.Steps.{headRefreshed, headGathered, Looked, looked}
+use Rattle.queue.specs.RunQueue.{treeCount}
 
 unfoldable pub sameByte : ℕ → ℕ → Bool
 sameByte a b = ifEqual a b true false
@@ -35,7 +36,8 @@ pub record HeadNumbers : Type 0 where
   pub found : Gathered
 
 -- The heads of the last so many trees, after those that were found before. An empty tree is passed over.
-unfoldable pub gatherNumbers : ℕ → List ThreadRecord → List Root → CpuIndex → ℕ → List ℕ → Gathered → Out (Answer HeadNumbers)
+unfoldable pub gatherNumbers : ℕ → List ThreadRecord → List Root → CpuIndex → ℕ → List ℕ → Gathered
+    → Out (Answer HeadNumbers)
 gatherNumbers zero t roots c now l g = out (value (record { numbers = l; found = g })) t
 gatherNumbers (suc left) t roots c now l g =
     given (11 - left)
@@ -66,19 +68,21 @@ leastNumber t (id ∷ l) now d w best = leastNumber t l now d w (readyWith t id 
 -- The least key, and the window, which is refreshed at each head.
 unfoldable pub leastNumbers : List ThreadRecord → List ℕ → ℕ → Demand → CpuWindow → ReadyOption → Chosen
 leastNumbers t [] now d w best = record { window = w; ready = best }
-leastNumbers t (id ∷ l) now d w best = given (refreshed w now) (λ fresh. leastNumbers t l now d fresh (readyWith t id fresh now d best))
+leastNumbers t (id ∷ l) now d w best =
+    given (refreshed w now) (λ fresh. leastNumbers t l now d fresh (readyWith t id fresh now d best))
 
 -- The selection among the heads that were found, and the window as they leave it.
 unfoldable pub chosenNumber : List ThreadRecord → List ℕ → ℕ → CpuWindow → Gathered → Looked
 chosenNumber t l now w g =
     given (leastNumbers t l now (g .demand) w ready.None)
-    (λ least. looked (value (record { ready = least .ready; demand = g .demand; «fair_min_pass» = g .«fair_min_pass» })) (least .window))
+    (λ least. looked (value (record { ready = least .ready; demand = g .demand; «fair_min_pass» = g .«fair_min_pass» }))
+    (least .window))
 
 -- `lookedAt` by numbers.
 unfoldable pub lookedNumbers : List ThreadRecord → List Root → CpuIndex → ℕ → CpuWindow → CandidateOption → Out Looked
 lookedNumbers t roots c now w current =
     given (ofCurrent current)
-    (λ g. onOut (gatherNumbers 12 t roots c now [] g)
+    (λ g. onOut (gatherNumbers treeCount t roots c now [] g)
     (λ a t₁. onAnswer a
     (λ n. out (looked (refused n) w) t₁)
     (λ h. given (chosenNumber t₁ (h .numbers) now w (h .found)) (λ x. out x t₁))))

@@ -1,9 +1,10 @@
--- The heads of the twelve trees, refreshed, with what they ask for; and the least key among them. After the second and third loop of `CpuRunQueue::peek_next`.
+-- The heads of the twelve trees, refreshed, with what they ask for; and the least key among them. After the second and
+-- third loop of `CpuRunQueue::peek_next`.
 use Prim.Native.Nat.{ℕ, zero, suc, _-_}
 use mathlib.Core.Bool.{Bool, true, false}
 use mathlib.Core.List.{List}
 use lib.ListN.{getD, set, replicate}
-use Rattle.refusal.specs.Answer.{Answer, value, refused}
+use Rattle.refusal.specs.Answer.{Answer, value, refused, damaged}
 use Rattle.refusal.specs.Cases.{choose, given, ifLess}
 use Rattle.order.specs.Order.{onOrdering}
 use Rattle.arbitration.specs.declared.Candidate.{Candidate}
@@ -30,26 +31,29 @@ use Rattle.selection.specs.declared.ReadyOption.the-variants as ready
 use Rattle.selection.specs.declared.ReadyThread.{ReadyThread}
 use Rattle.demands.specs.Demands.{candidateOf, gathered}
 use Rattle.renewal.specs.Renewal.{headOf, refreshRecord, rootAt}
+use Rattle.queue.specs.RunQueue.{treeCount}
 
 -- A head: ready on this processor, else Damaged; then judged and refreshed.
 unfoldable pub headAt : List ThreadRecord → ℕ → CpuIndex → ℕ → Out (Answer Candidate)
 headAt t id c now =
-    onRecord (recordAt t id) (out (refused 1) t)
+    onRecord (recordAt t id) (out (refused damaged) t)
     (λ r. choose (isReadyOn (r .«queue_links» .membership) c)
     (onOut (refreshRecord t id r now)
     (λ a t₁. onAnswer a (λ n. out (refused n) t₁) (λ s. given (candidateOf s) (λ head. out (value head) t₁))))
-    (out (refused 1) t))
+    (out (refused damaged) t))
 
--- The head of each tree, none where it is empty or not yet looked at; and what those found ask for, with the running thread.
+-- The head of each tree, none where it is empty or not yet looked at; and what those found ask for, with the running
+-- thread.
 pub record Heads : Type 0 where
   pub heads : List Link
   pub found : Gathered
 
 abbrev pub noHeads : List Link
-noHeads = replicate 12 link.None
+noHeads = replicate treeCount link.None
 
 -- The heads of the last so many trees. An empty tree is passed over.
-unfoldable pub gatherHeads : ℕ → List ThreadRecord → List Root → CpuIndex → ℕ → List Link → Gathered → Out (Answer Heads)
+unfoldable pub gatherHeads : ℕ → List ThreadRecord → List Root → CpuIndex → ℕ → List Link → Gathered
+    → Out (Answer Heads)
 gatherHeads zero t roots c now heads g = out (value (record { heads = heads; found = g })) t
 gatherHeads (suc left) t roots c now heads g =
     given (11 - left)
@@ -80,7 +84,8 @@ comesBefore r old = onOrdering (compareKeys (r .key) (old .key)) true (ifLess (r
 unfoldable pub lesserReady : ReadyOption → ReadyThread → ReadyOption
 lesserReady best r = onReady best (ready.Some r) (λ old. choose (comesBefore r old) (ready.Some r) (ready.Some old))
 
--- The least so far with one more head, under a window that is refreshed to now. The head was read before, so that it is in the table.
+-- The least so far with one more head, under a window that is refreshed to now. The head was read before, so that it is
+-- in the table.
 unfoldable pub readyWith : List ThreadRecord → ℕ → CpuWindow → ℕ → Demand → ReadyOption → ReadyOption
 readyWith t id w now d best =
     onRecord (recordAt t id) best

@@ -12,7 +12,7 @@ pub mod Answers
 pub mod HeadLaws
 -- Selection by the numbers of the heads is selection by the heads.
 pub mod LookLaws
--- Laws by which selection on parts and on a queue meets the definitions.
+-- Laws by which the choice among the heads meets the definitions.
 pub mod PeekLaws
 -- A small table and selections on it.
 pub mod Samples

@@ -20,7 +20,7 @@ use Rattle.arbitration.specs.declared.CpuWindow.{CpuWindow}
 use Rattle.thread.specs.declared.ThreadRecord.{ThreadRecord}
 use Rattle.thread.specs.Membership.{emptyLinks, emptyQueueLinks}
 use Rattle.rows.specs.Table.{Out, out}
-use Rattle.queue.specs.declared.CpuRunQueue.{CpuRunQueue}
+use Rattle.queue.specs.RunQueue.{CpuRunQueue, treeCount}
 use Rattle.queue.specs.Samples.{cpu, Left}
 use Rattle.demands.specs.declared.CandidateOption.{CandidateOption}
 use Rattle.demands.specs.declared.PassOption.{PassOption}
@@ -34,7 +34,13 @@ use Rattle.selection.specs.Peek.{Peeked, peeked, peekNext}
 abbrev pub window : CpuWindow
 window =
     record {
-      config = record { «period_ns» = 10000000; «priority_allowance_ns» = 2000000; «protected_floor_ns» = 3000000; order = record { «priority_rank» = 0; «budget_rank» = 1; «fair_rank» = 2; «borrow_rank» = 3 }; «prefer_fair» = false };
+      config = record {
+        «period_ns» = 10000000;
+        «priority_allowance_ns» = 2000000;
+        «protected_floor_ns» = 3000000;
+        order = record { «priority_rank» = 0; «budget_rank» = 1; «fair_rank» = 2; «borrow_rank» = 3 };
+        «prefer_fair» = false;
+      };
       epoch = epoch.None;
       «priority_remaining_ns» = 2000000;
       «protected_remaining_ns» = 3000000;
@@ -42,13 +48,26 @@ window =
 
 -- The same in epoch 0 with the allowance spent.
 abbrev pub spentWindow : CpuWindow
-spentWindow = record { config = window .config; epoch = epoch.Some 0; «priority_remaining_ns» = 0; «protected_remaining_ns» = 3000000 }
+spentWindow =
+    record {
+      config = window .config;
+      epoch = epoch.Some 0;
+      «priority_remaining_ns» = 0;
+      «protected_remaining_ns» = 3000000;
+    }
 
 -- The same with a floor of 0.
 abbrev pub badWindow : CpuWindow
 badWindow =
     record {
-      config = record { «period_ns» = 10000000; «priority_allowance_ns» = 2000000; «protected_floor_ns» = 0; order = window .config .order; «prefer_fair» = false };
+      config =
+          record {
+            «period_ns» = 10000000;
+            «priority_allowance_ns» = 2000000;
+            «protected_floor_ns» = 0;
+            order = window .config .order;
+            «prefer_fair» = false;
+          };
       epoch = epoch.None;
       «priority_remaining_ns» = 0;
       «protected_remaining_ns» = 0;
@@ -56,38 +75,78 @@ badWindow =
 
 -- A record in no list, on processor 0, with this turn.
 abbrev pub thread : SchedulingParameters → PolicyRuntime → ℕ → ThreadRecord
-thread p r turn = record { parameters = p; runtime = r; «ready_turn» = turn; «ready_tree» = emptyLinks; «queue_links» = emptyQueueLinks; cpu = cpu 0 }
+thread p r turn =
+    record {
+      parameters = p;
+      runtime = r;
+      «ready_turn» = turn;
+      «ready_tree» = emptyLinks;
+      «queue_links» = emptyQueueLinks;
+      cpu = cpu 0;
+    }
 
 -- 2,000,000 in 10,000,000, with this epoch and so much left.
 abbrev pub budgeted : SchedulingRole → Epoch → ℕ → ℕ → ThreadRecord
 budgeted r e left turn =
-    thread (ofBudget (record { «budget_ns» = 2000000; «period_ns» = 10000000; «burst_ns» = 2000000 }) (record { 0 = 1 }) r)
+    thread (ofBudget (record { «budget_ns» = 2000000; «period_ns» = 10000000; «burst_ns» = 2000000 })
+    (record { 0 = 1 }) r)
     (runtime.Budget (record { epoch = e; «remaining_ns» = left; «burst_remaining_ns» = 2000000 })) turn
 
 abbrev pub fairParameters : FairBackend → SchedulingRole → SchedulingParameters
 fairParameters b r =
-    record { policy = policy.Fair; band = record { 0 = 1 }; role = r; weight = defaultWeight; «quantum_ns» = 1000000; «fair_backend» = b; budget = budget.None }
+    record {
+      policy = policy.Fair;
+      band = record { 0 = 1 };
+      role = r;
+      weight = defaultWeight;
+      «quantum_ns» = 1000000;
+      «fair_backend» = b;
+      budget = budget.None;
+    }
 
 abbrev pub fair : FairBackend → SchedulingRole → ℕ → ℕ → ℕ → ThreadRecord
-fair b r high low turn = thread (fairParameters b r) (runtime.Fair (record { pass = record { high = high; low = low }; «remaining_ns» = 1000000 })) turn
+fair b r high low turn =
+    thread (fairParameters b r) (runtime.Fair
+    (record { pass = record { high = high; low = low }; «remaining_ns» = 1000000 })) turn
 
 -- Protected and empty in epoch 1; ordinary and empty in epoch 0; FIFO; three Fair threads of two backends.
 abbrev pub six : List ThreadRecord
 six =
-    budgeted role.Protected (epoch.Some 1) 0 7 ∷ budgeted role.Ordinary (epoch.Some 0) 0 8 ∷ thread (ofFifo (record { 0 = 5 }) (record { 0 = 1 }) role.Ordinary) runtime.Fifo 9
-    ∷ fair backend.Stride role.Ordinary 1 5 10 ∷ fair backend.Stride role.Priority 1 4 11 ∷ fair backend.RoundRobin role.Protected 3 3 12 ∷ []
+    budgeted role.Protected (epoch.Some 1) 0 7 ∷ budgeted role.Ordinary (epoch.Some 0) 0 8
+    ∷ thread (ofFifo (record { 0 = 5 }) (record { 0 = 1 }) role.Ordinary) runtime.Fifo 9
+    ∷ fair backend.Stride role.Ordinary 1 5 10 ∷ fair backend.Stride role.Priority 1 4 11
+    ∷ fair backend.RoundRobin role.Protected 3 3 treeCount ∷ []
 
 -- A FIFO thread that runs.
 abbrev pub running : Candidate
-running = record { parameters = ofFifo (record { 0 = 5 }) (record { 0 = 1 }) role.Ordinary; «fair_pass» = record { high = 0; low = 0 }; turn = 3; «budget_available» = true }
+running = record {
+  parameters = ofFifo (record { 0 = 5 }) (record { 0 = 1 }) role.Ordinary;
+  «fair_pass» = record { high = 0; low = 0 };
+  turn = 3;
+  «budget_available» = true;
+}
 
 -- A Fair thread that runs, with this pass.
 abbrev pub runningFair : FairBackend → ℕ → ℕ → Candidate
-runningFair b high low = record { parameters = fairParameters b role.Ordinary; «fair_pass» = record { high = high; low = low }; turn = 3; «budget_available» = true }
+runningFair b high low =
+    record {
+      parameters = fairParameters b role.Ordinary;
+      «fair_pass» = record { high = high; low = low };
+      turn = 3;
+      «budget_available» = true;
+    }
 
 -- The queue as if its last selection had been in this epoch.
 abbrev pub lastAt : Epoch → CpuRunQueue → CpuRunQueue
-lastAt e q = record { realtime = q .realtime; «realtime_len» = q .«realtime_len»; fair = q .fair; indices = q .indices; «budget_epoch» = e; «budget_threads» = q .«budget_threads»; halted = q .halted }
+lastAt e q = record {
+  realtime = q .realtime;
+  «realtime_len» = q .«realtime_len»;
+  fair = q .fair;
+  indices = q .indices;
+  «budget_epoch» = e;
+  «budget_threads» = q .«budget_threads»;
+  halted = q .halted;
+}
 
 -- A selection on processor 0 after calls that left queue and table.
 abbrev pub selected : Left → ℕ → CandidateOption → Out (Peeked CpuRunQueue)

@@ -1,7 +1,8 @@
--- Parts of selection that have a function of their own; each is a part of a definition's text, or the definition goes by it (HeadLaws, PeekLaws).
-use Prim.Native.Nat.{ℕ, _-_}
+-- Parts of selection that have a function of their own; each is a part of a definition's text, or the definition goes
+-- by it (HeadLaws, PeekLaws).
+use Prim.Native.Nat.{ℕ}
 use mathlib.Core.List.{List}
-use Rattle.refusal.specs.Answer.{Answer, value, refused}
+use Rattle.refusal.specs.Answer.{Answer, value, refused, damaged}
 use Rattle.refusal.specs.Cases.{choose, given}
 use Rattle.arbitration.specs.declared.CpuWindow.{CpuWindow}
 use Rattle.thread.specs.declared.CpuIndex.{CpuIndex}
@@ -18,12 +19,13 @@ use Rattle.selection.specs.declared.Selection.{Selection}
 use Rattle.demands.specs.Demands.{candidateOf, gathered, ofCurrent}
 use Rattle.selection.specs.Heads.{noHeads, gatherHeads, leastOf}
 use Rattle.renewal.specs.Steps.{rowRefreshed}
+use Rattle.queue.specs.RunQueue.{treeCount}
 
 -- A head: ready on its processor, then judged and refreshed.
 unfoldable pub headRefreshed : List ThreadRecord → ℕ → CpuIndex → ℕ → Out (Answer (Unit {0}))
 headRefreshed t id c now =
-    onRecord (recordAt t id) (out (refused 1) t)
-    (λ r. choose (isReadyOn (r .«queue_links» .membership) c) (rowRefreshed t id r now) (out (refused 1) t))
+    onRecord (recordAt t id) (out (refused damaged) t)
+    (λ r. choose (isReadyOn (r .«queue_links» .membership) c) (rowRefreshed t id r now) (out (refused damaged) t))
 
 -- What was found before, with the head as it stands in the table.
 unfoldable pub headGathered : List ThreadRecord → ℕ → Gathered → Gathered
@@ -37,8 +39,12 @@ pub data Looked : Type 0 where
 unfoldable pub lookedAt : List ThreadRecord → List Root → CpuIndex → ℕ → CpuWindow → CandidateOption → Out Looked
 lookedAt t roots c now w current =
     given (ofCurrent current)
-    (λ g. onOut (gatherHeads 12 t roots c now noHeads g)
+    (λ g. onOut (gatherHeads treeCount t roots c now noHeads g)
     (λ a t₁. onAnswer a
     (λ n. out (looked (refused n) w) t₁)
-    (λ h. given (leastOf 12 t₁ (h .heads) now (h .found .demand) w ready.None)
-    (λ least. out (looked (value (record { ready = least .ready; demand = h .found .demand; «fair_min_pass» = h .found .«fair_min_pass» })) (least .window)) t₁))))
+    (λ h. given (leastOf treeCount t₁ (h .heads) now (h .found .demand) w ready.None)
+    (λ least. out (looked (value (record {
+      ready = least .ready;
+      demand = h .found .demand;
+      «fair_min_pass» = h .found .«fair_min_pass»;
+    })) (least .window)) t₁))))

@@ -1,8 +1,9 @@
-// The heads of the twelve trees, refreshed, with what they ask for; and the least key among them. After the second and third loop of `CpuRunQueue::peek_next`.
-ghost use Prim.Native.Nat.{_<_, _≤_, _+_};
+// The heads of the twelve trees, refreshed, with what they ask for; and the least key among them. After the second and
+// third loop of `CpuRunQueue::peek_next`.
+ghost use Prim.Native.Nat.{_<_, _≤_};
 ghost use mathlib.Core.Path.{_≡_};
-ghost use mathlib.Core.List.{[]};
 ghost use lib.ListN.{length, take, set};
+ghost use mathlib.Core.List.{[]};
 ghost use Rattle.thread.specs.Membership.{isReadyOn};
 ghost use Rattle.codec.specs.Codec.{decoded};
 ghost use Rattle.rows.specs.Table.{table, out};
@@ -13,6 +14,7 @@ ghost use Rattle.selection.specs.HeadNumbers as numbers;
 ghost use Rattle.renewal.specs.RootRows.{rootsOf};
 ghost use Rattle.selection.specs.declared.ReadyOption.the-variants as ready;
 ghost use Rattle.selection.specs.Answers.{foundAnswer};
+ghost use Rattle.queue.specs.RunQueue.{treeCount};
 use crate::GatheredAnswer;
 use crate::Gathering;
 use crate::ReadyOption;
@@ -21,12 +23,17 @@ use arbitration::Candidate;
 use arbitration::CpuWindow;
 use arbitration::Demand;
 use arbitration::KeyOption;
+use codec::MEMBERSHIP_FIRST;
+use codec::MEMBERSHIP_TAG;
+use codec::Row;
 use codec::byte_from;
 use demands::Gathered;
 use demands::candidate_of_row;
 use demands::gathered_row;
 use dispatch_keys::compare_keys;
+use lent_queue::QueueRow;
 use order::Ordering;
+use queue::TREES;
 use queue::Verdict;
 use refusal::Refusal;
 use renewal::HeadRead;
@@ -47,24 +54,25 @@ fn same_byte(a: u8, b: u8) -> bool
 }
 
 // Whether the row's record is ready on this processor, by the words of its membership.
-fn is_ready_row(w: [u64; 32], cpu: CpuIndex) -> bool
+fn is_ready_row(w: Row, cpu: CpuIndex) -> bool
     ensures { λ r. ⌜ r ≡ isReadyOn (decoded w .«queue_links» .membership) cpu ⌝ }
 {
-    if w[26] == 0 {
+    if w[MEMBERSHIP_TAG] == 0 {
         return false;
     }
-    if w[26] == 1 {
-        return same_byte(byte_from(w[27]), cpu.0);
+    if w[MEMBERSHIP_TAG] == 1 {
+        return same_byte(byte_from(w[MEMBERSHIP_FIRST]), cpu.0);
     }
-    if w[26] == 2 {
-        return same_byte(byte_from(w[27]), cpu.0);
+    if w[MEMBERSHIP_TAG] == 2 {
+        return same_byte(byte_from(w[MEMBERSHIP_FIRST]), cpu.0);
     }
     false
 }
 
 // A head: ready on this processor, then judged and refreshed.
-fn head_at(t: &mut [[u64; 32]], id: u64, cpu: CpuIndex, reading: u64) -> Verdict
-    ensures { λ r. ⌜ out (verdictAnswer r) (table (now (t .exit))) ≡ steps.headRefreshed (table (now (t .entry))) id cpu reading ⌝ }
+fn head_at(t: &mut [Row], id: u64, cpu: CpuIndex, reading: u64) -> Verdict
+    ensures { λ r. ⌜ out (verdictAnswer r) (table (now (t .exit)))
+        ≡ steps.headRefreshed (table (now (t .entry))) id cpu reading ⌝ }
 {
     let k = id as usize;
     if k < t.len() {
@@ -78,7 +86,7 @@ fn head_at(t: &mut [[u64; 32]], id: u64, cpu: CpuIndex, reading: u64) -> Verdict
 }
 
 // What was found before, with one more head.
-fn gather_row(t: &[[u64; 32]], id: u64, found: Gathered) -> Gathered
+fn gather_row(t: &[Row], id: u64, found: Gathered) -> Gathered
     ensures { λ r. ⌜ r ≡ steps.headGathered (table (now (t .entry))) id found ⌝ }
 {
     let k = id as usize;
@@ -97,7 +105,7 @@ fn put_head(heads: &mut [u64], count: usize, id: u64)
 }
 
 // One more head: its number is held, and what it asks for is gathered.
-fn join_head(t: &[[u64; 32]], heads: &mut [u64], count: usize, id: u64, found: Gathered) -> Gathered
+fn join_head(t: &[Row], heads: &mut [u64], count: usize, id: u64, found: Gathered) -> Gathered
     requires { ⌜ count < length (now heads) ⌝ }
     ensures { λ r. ⌜ r ≡ steps.headGathered (table (now (t .entry))) id found ⌝ }
     ensures { λ r. ⌜ now (heads .exit) ≡ set (now (heads .entry)) count id ⌝ }
@@ -108,22 +116,24 @@ fn join_head(t: &[[u64; 32]], heads: &mut [u64], count: usize, id: u64, found: G
 
 // The heads of the twelve trees, one after the other, with what they and the running thread ask for.
 pub fn gather_heads(
-    t: &mut [[u64; 32]],
-    roots: &[[u64; 5]],
+    t: &mut [Row],
+    roots: &[QueueRow],
     heads: &mut [u64],
     cpu: CpuIndex,
     reading: u64,
     current: Gathered,
 ) -> Gathering
-    requires { ⌜ length (now heads) ≡ 12 ⌝ }
-    ensures { λ r. ⌜ out (foundAnswer (r .answer) (take (r .count) (now (heads .exit)))) (table (now (t .exit))) ≡ numbers.gatherNumbers 12 (table (now (t .entry))) (rootsOf (now (roots .entry))) cpu reading [] current ⌝ }
-    ensures { λ r. ⌜ r .count ≤ 12 ⌝ }
+    requires { ⌜ length (now heads) ≡ treeCount ⌝ }
+    ensures { λ r. ⌜ out (foundAnswer (r .answer) (take (r .count) (now (heads .exit)))) (table (now (t .exit)))
+        ≡ numbers.gatherNumbers treeCount (table (now (t .entry))) (rootsOf (now (roots .entry))) cpu reading
+        [] current ⌝ }
+    ensures { λ r. ⌜ r .count ≤ treeCount ⌝ }
 {
     let mut found = current;
     let mut count: usize = 0;
-    let mut left: usize = 12;
+    let mut left: usize = TREES;
     while 0 < left {
-        let k = 12 - left;
+        let k = TREES - left;
         left -= 1;
         let root = root_at(roots, k);
         let HeadRead::Head(head) = head_of(t, root) else {
@@ -222,7 +232,7 @@ fn ready_by(
 
 // The least so far with one more head.
 fn ready_with(
-    t: &[[u64; 32]],
+    t: &[Row],
     id: u64,
     window: CpuWindow,
     reading: u64,
@@ -242,7 +252,7 @@ fn ready_with(
 
 // The least key of the first so many heads, under a window that is refreshed to the reading.
 pub fn least_of(
-    t: &[[u64; 32]],
+    t: &[Row],
     heads: &[u64],
     count: usize,
     reading: u64,
@@ -250,7 +260,8 @@ pub fn least_of(
     window: CpuWindow,
 ) -> ReadyOption
     requires { ⌜ count ≤ length (now heads) ⌝ }
-    ensures { λ r. ⌜ r ≡ numbers.leastNumber (table (now (t .entry))) (take count (now (heads .entry))) reading demand window ready.None ⌝ }
+    ensures { λ r. ⌜ r ≡ numbers.leastNumber (table (now (t .entry)))
+        (take count (now (heads .entry))) reading demand window ready.None ⌝ }
 {
     let mut best = ReadyOption::None;
     let mut k: usize = 0;

@@ -42,7 +42,8 @@ has-append j (i ∷ a) b = ap (λ x. eqb j i || x) (has-append j a b) ∙ or-gro
 
 -- A thread moved to the front.
 pub has-move : (j i : ℕ) (a b : List ℕ) → has j (a ++ i ∷ b) ≡ has j (i ∷ (a ++ b))
-has-move j i a b = has-append j a (i ∷ b) ∙ or-swap (has j a) (eqb j i) (has j b) ∙ ap (λ x. eqb j i || x) (sym (has-append j a b))
+has-move j i a b =
+    has-append j a (i ∷ b) ∙ or-swap (has j a) (eqb j i) (has j b) ∙ ap (λ x. eqb j i || x) (sym (has-append j a b))
 
 -- Of a list with a thread in the middle: it has that thread, and what either part has.
 pub has-middle : (a : List ℕ) (i : ℕ) (b : List ℕ) → has i (a ++ i ∷ b) ≡ true
@@ -58,7 +59,8 @@ has-after j a i b e = has-append j a (i ∷ b) ∙ or-second (has j a) (has j (i
 
 -- With one thread added, a list has that thread and what it had.
 pub has-added : (x : List ℕ) (i : ℕ) (y : List ℕ) → Added x i y → (j : ℕ) → has j y ≡ eqb j i || has j x
-has-added x i y a j = ap (has j) (a .with) ∙ has-move j i (a .left) (a .right) ∙ ap (λ l. eqb j i || has j l) (sym (a .without))
+has-added x i y a j =
+    ap (has j) (a .with) ∙ has-move j i (a .left) (a .right) ∙ ap (λ l. eqb j i || has j l) (sym (a .without))
 
 -- A thread of a tree's list, as a place in the tree.
 pub has-in : (j : ℕ) (x : Tree) → has j (inOrder x) ≡ true → In j x
@@ -67,4 +69,5 @@ has-in j leaf e = never cc
 has-in j (node l i r) e =
     or-cases (has j (inOrder l)) (has j (i ∷ inOrder r)) (sym (has-append j (inOrder l) (i ∷ inOrder r)) ∙ e)
     (λ h. in-left (has-in j l h))
-    (λ h. or-cases (eqb j i) (has j (inOrder r)) h (λ q. subst (λ k. In j (node l k r)) (eqb-true j i q) here) (λ q. in-right (has-in j r q)))
+    (λ h. or-cases (eqb j i) (has j (inOrder r)) h (λ q. subst (λ k. In j (node l k r)) (eqb-true j i q) here)
+    (λ q. in-right (has-in j r q)))

@@ -1,4 +1,5 @@
--- A table holds no balanced tree that is higher than 16, so no path in it has more than 16 entries and MAX_PATH never binds.
+-- A table holds no balanced tree that is higher than 16, so no path in it has more than 16 entries and MAX_PATH never
+-- binds.
 use mathlib.Core.Path.{_≡_, refl, ap}
 use mathlib.Core.Bool.{Bool, true, false}
 use mathlib.Core.Logic.{_≢_}
@@ -18,6 +19,7 @@ use Rattle.sound_index.specs.Holds.{Holds}
 use Rattle.sound_index.specs.Rank.{rank}
 use Rattle.sound_index.specs.Represents.{Up, Below}
 use Rattle.sound_index.specs.HoldsLaws.{holds-represents, represents-up, linked-below}
+use Rattle.rows.specs.Table.{maxRecords}
 
 -- The list without n.
 without : ℕ → List ℕ → List ℕ
@@ -33,7 +35,8 @@ below-without : (n : ℕ) (l : List ℕ) → Below (suc n) l → Below n (withou
 unfolding without
 below-without n [] p = tt
 below-without n (a ∷ l) p =
-    below-choose (eqb a n) n a (without n l) (λ e. let q : a ≢ n = eqb-false a n e in let h = p .here in omega arith) (below-without n l (p .rest))
+    below-choose (eqb a n) n a (without n l) (λ e. let q : a ≢ n = eqb-false a n e in let h = p .here in omega arith)
+    (below-without n l (p .rest))
 
 module _ (key : ℕ → ℕ) where
   up-from : (lo hi lo′ : ℕ) (l : List ℕ) → lo′ ≤ lo → Up key lo hi l → Up key lo′ hi l
@@ -46,9 +49,13 @@ module _ (key : ℕ → ℕ) where
   without-none n lo hi [] h p = refl
   without-none n lo hi (a ∷ l) h p =
       let g = p .ge in
-      rw (ne-eqb a n (λ e. let q : key a ≡ key n = ap key e in omega arith), without-none n (suc (key a)) hi l (omega arith) (p .rest))
+      rw (
+        ne-eqb a n (λ e. let q : key a ≡ key n = ap key e in omega arith),
+        without-none n (suc (key a)) hi l (omega arith) (p .rest),
+      )
 
-  up-choose : (x : Bool) (lo hi a : ℕ) (l : List ℕ) → lo ≤ key a → key a < hi → Up key (suc (key a)) hi l → Up key lo hi (choose x l (a ∷ l))
+  up-choose : (x : Bool) (lo hi a : ℕ) (l : List ℕ) → lo ≤ key a → key a < hi → Up key (suc (key a)) hi l
+      → Up key lo hi (choose x l (a ∷ l))
   unfolding choose
   up-choose true lo hi a l g h p = up-from (suc (key a)) hi lo l (omega arith) p
   up-choose false lo hi a l g h p = record { ge = g; lt = h; rest = p }
@@ -56,24 +63,34 @@ module _ (key : ℕ → ℕ) where
   up-without : (n lo hi : ℕ) (l : List ℕ) → Up key lo hi l → Up key lo hi (without n l)
   unfolding without
   up-without n lo hi [] p = tt
-  up-without n lo hi (a ∷ l) p = up-choose (eqb a n) lo hi a (without n l) (p .ge) (p .lt) (up-without n (suc (key a)) hi l (p .rest))
+  up-without n lo hi (a ∷ l) p =
+      up-choose (eqb a n) lo hi a (without n l) (p .ge) (p .lt) (up-without n (suc (key a)) hi l (p .rest))
 
-  one-less : (x : Bool) (n hi a : ℕ) (l : List ℕ) → eqb a n ≡ x → Up key (suc (key a)) hi l → length l ≤ suc (length (without n l))
+  one-less : (x : Bool) (n hi a : ℕ) (l : List ℕ) → eqb a n ≡ x → Up key (suc (key a)) hi l
+      → length l ≤ suc (length (without n l))
       → suc (length l) ≤ suc (length (choose x (without n l) (a ∷ without n l)))
   unfolding choose
-  one-less true n hi a l e p q = let h : key a ≡ key n = ap key (eqb-true a n e) in rw (without-none n (suc (key a)) hi l (omega arith) p) (le-refl _)
+  one-less true n hi a l e p q =
+      let h : key a ≡ key n = ap key (eqb-true a n e) in
+      rw (without-none n (suc (key a)) hi l (omega arith) p) (le-refl _)
   one-less false n hi a l e p q = omega arith
 
   length-without : (n lo hi : ℕ) (l : List ℕ) → Up key lo hi l → length l ≤ suc (length (without n l))
   unfolding without
   length-without n lo hi [] p = omega arith
-  length-without n lo hi (a ∷ l) p = one-less (eqb a n) n hi a l refl (p .rest) (length-without n (suc (key a)) hi l (p .rest))
+  length-without n lo hi (a ∷ l) p =
+      one-less (eqb a n) n hi a l refl (p .rest) (length-without n (suc (key a)) hi l (p .rest))
 
   -- In strict order, at most n threads are below n.
   pigeonhole : (n lo hi : ℕ) (l : List ℕ) → Below n l → Up key lo hi l → length l ≤ n
   pigeonhole zero lo hi [] b p = le-refl _
   pigeonhole zero lo hi (j ∷ l) b p = let h = b .here in absurd (omega arith)
-  pigeonhole (suc n) lo hi l b p = omega (arith, length-without n lo hi l p, pigeonhole n lo hi (without n l) (below-without n l b) (up-without n lo hi l p))
+  pigeonhole (suc n) lo hi l b p =
+      omega (
+        arith,
+        length-without n lo hi l p,
+        pigeonhole n lo hi (without n l) (below-without n l b) (up-without n lo hi l p),
+      )
 
 -- A tree that a table holds has at most as many nodes as the table has records.
 pub held-size : (t : List ThreadRecord) (x : Tree) → Holds t x → size x ≤ length t
@@ -86,9 +103,12 @@ held-size t x h =
     )
 
 -- 4,096 records give height 16 at most.
-pub held-height : (t : List ThreadRecord) (x : Tree) → Holds t x → Balanced x → length t ≤ 4096 → height x ≤ 16
+pub held-height : (t : List ThreadRecord) (x : Tree) → Holds t x → Balanced x → length t ≤ maxRecords → height x ≤ 16
 held-height t x h b n = height-of-table x b (omega (arith, held-size t x h))
 
--- No path in it has more than 16 entries, so MAX_PATH (40) never binds; the way to a removed thread and on to its successor is one such path.
-pub held-path : (t : List ThreadRecord) (x : Tree) → Holds t x → Balanced x → length t ≤ 4096 → (z : List Frame) (y : Tree) → plug z y ≡ x → length z ≤ 16
-held-path t x h b n z y e = let k : height (plug z y) ≡ height x = ap height e in omega (arith, path-length z y, held-height t x h b n)
+-- No path in it has more than 16 entries, so MAX_PATH (40) never binds; the way to a removed thread and on to its
+-- successor is one such path.
+pub held-path : (t : List ThreadRecord) (x : Tree) → Holds t x → Balanced x → length t ≤ maxRecords
+    → (z : List Frame) (y : Tree) → plug z y ≡ x → length z ≤ 16
+held-path t x h b n z y e =
+    let k : height (plug z y) ≡ height x = ap height e in omega (arith, path-length z y, held-height t x h b n)

@@ -34,7 +34,8 @@ linksOver l r = record { left = root l; right = root r; height = suc (max (heigh
 -- Every record of the tree has the links and the height that the tree gives it.
 abbrev pub Linked : List ThreadRecord → Tree → Type 0
 Linked t leaf = Unit {0}
-Linked t (node l i r) = record { links : linksAt t i ≡ links.Got (linksOver l r); left : Linked t l; right : Linked t r }
+Linked t (node l i r) =
+    record { links : linksAt t i ≡ links.Got (linksOver l r); left : Linked t l; right : Linked t r }
 
 -- Two threads of the table, the first with the lesser tree key.
 pub record Precedes (t : List ThreadRecord) (i j : ℕ) : Type 0 where

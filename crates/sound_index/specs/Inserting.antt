@@ -27,7 +27,8 @@ module _ (ranks key : ℕ → ℕ) where
     pub whole : plug path leaf ≡ x
     pub roots : Roots ranks key t LO HI o (insertAt path i)
 
-  insert-along : (t : List ThreadRecord) (LO HI : ℕ) (x : Tree) (i : ℕ) (a : TreeKey) → Read t i a → height x ≤ 40 → ranks i ≡ key i
+  insert-along : (t : List ThreadRecord) (LO HI : ℕ) (x : Tree) (i : ℕ) (a : TreeKey) → Read t i a → height x ≤ 40
+      → ranks i ≡ key i
       → Walks ranks key t LO HI (ranks i) [] x (walk 40 t a (root x) []) → Inserts t LO HI x i (insert t (root x) i)
   unfolding insert onKey onWalk onMade
   insert-along t LO HI x i a k s tie d =
@@ -38,8 +39,10 @@ module _ (ranks key : ℕ → ℕ) where
       let kept = kept-store ranks key t (d .lo) (d .hi) i c ge lt in
       let m = frames-within ranks key t (d .lo) (d .hi) LO HI (d .path) (d .frames) in
       let f = rebuild-is ranks key (d .path) (stored t i c) (d .lo) (d .hi) LO HI (node leaf i leaf) 100
-      (keep-frames ranks key t (d .lo) (d .hi) (stored t i c) (d .lo) (d .hi) LO HI (d .path) kept (le-refl _) (le-refl _) (d .frames))
-      (put ranks key t (d .lo) (d .hi) leaf i leaf _ (e .1) tie ge lt tt tt) (omega arith) (omega arith) (omega (arith, d .short)) in
+      (keep-frames ranks key t (d .lo) (d .hi) (stored t i c) (d .lo) (d .hi) LO HI (d .path) kept (le-refl _)
+      (le-refl _) (d .frames))
+      (put ranks key t (d .lo) (d .hi) leaf i leaf _ (e .1) tie ge lt tt tt) (omega arith) (omega arith)
+      (omega (arith, d .short)) in
       record {
         path = d .path;
         whole = d .whole;
@@ -47,12 +50,17 @@ module _ (ranks key : ℕ → ℕ) where
           table = f .table;
           represents = f .represents;
           is = rw (k .key, d .is, set-made t i c _ (e .1)) (f .is);
-          kept = kept-trans ranks key t (d .lo) (d .hi) (stored t i c) LO HI (f .table) kept (f .kept) LO HI (m .0) (le-refl _) (m .1) (le-refl _);
+          kept =
+              kept-trans ranks key t (d .lo) (d .hi) (stored t i c) LO HI (f .table) kept (f .kept) LO HI (m .0)
+              (le-refl _) (m .1) (le-refl _);
         };
       }
 
-  pub insert-is : (t : List ThreadRecord) (LO HI : ℕ) (x : Tree) (i : ℕ) (a : TreeKey) → Compares t ranks → Read t i a → Represents ranks key t LO HI x → height x ≤ 40
-      → ranks i ≡ key i → LO ≤ key i → key i < HI → Fresh ranks key (ranks i) x → Inserts t LO HI x i (insert t (root x) i)
+  pub insert-is : (t : List ThreadRecord) (LO HI : ℕ) (x : Tree) (i : ℕ) (a : TreeKey) → Compares t ranks → Read t i a
+      → Represents ranks key t LO HI x → height x ≤ 40
+      → ranks i ≡ key i → LO ≤ key i → key i < HI → Fresh ranks key (ranks i) x
+      → Inserts t LO HI x i (insert t (root x) i)
   insert-is t LO HI x i a c k p s tie ge lt n =
       insert-along t LO HI x i a k s tie
-      (walk-is ranks key x 40 t LO HI LO HI i a [] c k p (record { low = le-refl _; high = le-refl _ }) n s (omega arith) (omega arith) (omega arith))
+      (walk-is ranks key x 40 t LO HI LO HI i a [] c k p (record { low = le-refl _; high = le-refl _ }) n s
+      (omega arith) (omega arith) (omega arith))

@@ -20,7 +20,8 @@ pub record OnlyLinks (l : List ℕ) (t s : List ThreadRecord) : Type 0 where
   pub besides : besidesLinks s ≡ besidesLinks t
   pub records : (j : ℕ) → has j l ≡ false → recordAt s j ≡ recordAt t j
 
--- An accepted insertion of i into x: a root is answered, and the table then holds a balanced tree with exactly the earlier threads and i, each at its place.
+-- An accepted insertion of i into x: a root is answered, and the table then holds a balanced tree with exactly the
+-- earlier threads and i, each at its place.
 pub record Inserted (t : List ThreadRecord) (x : Tree) (i : ℕ) (o : Out Rooted) : Type 0 where
   pub table : List ThreadRecord
   pub tree : Tree
@@ -30,7 +31,8 @@ pub record Inserted (t : List ThreadRecord) (x : Tree) (i : ℕ) (o : Out Rooted
   pub added : Added (inOrder x) i (inOrder tree)
   pub only : OnlyLinks (i ∷ inOrder x) t table
 
--- An accepted removal of i from x: a root is answered, the table then holds a balanced tree with exactly the other threads in their order, and i's links are empty.
+-- An accepted removal of i from x: a root is answered, the table then holds a balanced tree with exactly the other
+-- threads in their order, and i's links are empty.
 pub record Removed (t : List ThreadRecord) (x : Tree) (i : ℕ) (o : Out Rooted) : Type 0 where
   pub table : List ThreadRecord
   pub tree : Tree

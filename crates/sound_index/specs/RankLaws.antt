@@ -9,7 +9,8 @@ use lib.ListN.{length}
 use Rattle.order.specs.declared.Ordering.{Ordering}
 use Rattle.order.specs.declared.Ordering.the-variants.{Less, Equal, Greater}
 use Rattle.order.specs.Order.{compareNumbers, compareParts}
-use Rattle.order.specs.StrictOrder.{compare-less, compare-equal, compare-greater, flipped, turned-about, same-key, equal-only, less-transitive}
+use Rattle.order.specs.StrictOrder.{compare-less, compare-equal, compare-greater, flipped, turned-about, same-key}
+use Rattle.order.specs.StrictOrder.{equal-only, less-transitive}
 use Rattle.thread.specs.declared.TreeKey.{TreeKey}
 use Rattle.thread.specs.declared.ThreadRecord.{ThreadRecord}
 use Rattle.thread.specs.TreeKey.{parts, compareTreeKeys}
@@ -59,25 +60,29 @@ tally-rises t p q zero h = le-refl 0
 tally-rises t p q (suc n) h = omega (arith, lesser-rises (keyAt t n) p q h, tally-rises t p q n h)
 
 -- Among the records counted is the one with the lesser key itself.
-tally-strict : (t : List ThreadRecord) (i : ℕ) (a : TreeKey) (q : List ℕ) (n : ℕ) → keyAt t i ≡ read.Got a → compareParts (parts a) q ≡ Less → i < n
+tally-strict : (t : List ThreadRecord) (i : ℕ) (a : TreeKey) (q : List ℕ) (n : ℕ) → keyAt t i ≡ read.Got a
+    → compareParts (parts a) q ≡ Less → i < n
     → tally t (parts a) n < tally t q n
 unfolding tally
 tally-strict t i a q zero e h l = absurd (omega arith)
 tally-strict t i a q (suc n) e h l = go (decLe (suc i) n) (λ l. tally-strict t i a q n e h l)
   where
-    go : Dec (suc i ≤ n) → (i < n → tally t (parts a) n < tally t q n) → lesser (keyAt t n) (parts a) + tally t (parts a) n < lesser (keyAt t n) q + tally t q n
+    go : Dec (suc i ≤ n) → (i < n → tally t (parts a) n < tally t q n)
+        → lesser (keyAt t n) (parts a) + tally t (parts a) n < lesser (keyAt t n) q + tally t q n
     go (yes p) f = omega (arith, lesser-rises (keyAt t n) (parts a) q h, f p)
     go (no p) f =
         let same : i ≡ n = omega arith in
         let k : keyAt t n ≡ read.Got a = ap (keyAt t) (sym same) ∙ e in
         rw (k, same-key (parts a), h) (omega (arith, tally-rises t (parts a) q n h))
 
-rank-is : (t : List ThreadRecord) (i : ℕ) (a : TreeKey) → keyAt t i ≡ read.Got a → rank t i ≡ tally t (parts a) (length t)
+rank-is : (t : List ThreadRecord) (i : ℕ) (a : TreeKey) → keyAt t i ≡ read.Got a
+    → rank t i ≡ tally t (parts a) (length t)
 unfolding rank
 rank-is t i a e = ap (rankOf t) e
 
 -- The lesser key has the lesser rank.
-less-rank : (t : List ThreadRecord) (i j : ℕ) (a b : TreeKey) → i < length t → keyAt t i ≡ read.Got a → keyAt t j ≡ read.Got b
+less-rank : (t : List ThreadRecord) (i j : ℕ) (a b : TreeKey) → i < length t → keyAt t i ≡ read.Got a
+    → keyAt t j ≡ read.Got b
     → compareParts (parts a) (parts b) ≡ Less → rank t i < rank t j
 less-rank t i j a b l e f h = rw (rank-is t i a e, rank-is t j b f) (tally-strict t i a (parts b) (length t) e h l)
 
@@ -86,12 +91,14 @@ unfolding flipped
 greater-turns a b h = turned-about (parts a) (parts b) ∙ ap flipped h
 
 -- Keys compare as ranks do.
-pub compare-ranks : (t : List ThreadRecord) (i j : ℕ) (a b : TreeKey) → i < length t → j < length t → keyAt t i ≡ read.Got a → keyAt t j ≡ read.Got b
+pub compare-ranks : (t : List ThreadRecord) (i j : ℕ) (a b : TreeKey) → i < length t → j < length t
+    → keyAt t i ≡ read.Got a → keyAt t j ≡ read.Got b
     → compareTreeKeys a b ≡ compareNumbers (rank t i) (rank t j)
 unfolding compareTreeKeys
 compare-ranks t i j a b l m e f = go (compareParts (parts a) (parts b)) refl
   where
-    go : (o : Ordering) → compareParts (parts a) (parts b) ≡ o → compareParts (parts a) (parts b) ≡ compareNumbers (rank t i) (rank t j)
+    go : (o : Ordering) → compareParts (parts a) (parts b) ≡ o
+        → compareParts (parts a) (parts b) ≡ compareNumbers (rank t i) (rank t j)
     go Less h = h ∙ sym (compare-less (rank t i) (rank t j) (less-rank t i j a b l e f h))
     go Equal h = h ∙ sym (compare-equal (rank t i) (rank t j)
         (rank-is t i a e ∙ ap (λ p. tally t p (length t)) (equal-only (parts a) (parts b) h) ∙ sym (rank-is t j b f)))
@@ -100,10 +107,12 @@ compare-ranks t i j a b l m e f = go (compareParts (parts a) (parts b)) refl
 -- A thread that precedes another has the lesser rank.
 pub precedes-rank : (t : List ThreadRecord) (i j : ℕ) → Precedes t i j → rank t i < rank t j
 unfolding compareTreeKeys
-precedes-rank t i j p = less-rank t i j (p .key) (p .other) (key-got-within t i (p .has-key)) (p .has-key) (p .has-other) (p .less)
+precedes-rank t i j p =
+    less-rank t i j (p .key) (p .other) (key-got-within t i (p .has-key)) (p .has-key) (p .has-other) (p .less)
 
 -- The lesser rank is that of a thread that precedes.
-pub rank-precedes : (t : List ThreadRecord) (i j : ℕ) → i < length t → j < length t → rank t i < rank t j → Precedes t i j
+pub rank-precedes : (t : List ThreadRecord) (i j : ℕ) → i < length t → j < length t → rank t i < rank t j
+    → Precedes t i j
 rank-precedes t i j l m h =
     let a = inside-key t i l in
     let b = inside-key t j m in
@@ -125,5 +134,7 @@ unfolding compareTreeKeys
 rank-injective t i j l m h =
     let a = inside-key t i l in
     let b = inside-key t j m in
-    let e : compareParts (parts (a .0)) (parts (b .0)) ≡ Equal = compare-ranks t i j (a .0) (b .0) l m (a .1) (b .1) ∙ compare-equal (rank t i) (rank t j) h in
-    sym (key-id t i (a .0) l (a .1)) ∙ last-part (a .0) (b .0) (equal-only (parts (a .0)) (parts (b .0)) e) ∙ key-id t j (b .0) m (b .1)
+    let e : compareParts (parts (a .0)) (parts (b .0)) ≡ Equal = compare-ranks t i j (a .0) (b .0) l m (a .1) (b .1)
+    ∙ compare-equal (rank t i) (rank t j) h in
+    sym (key-id t i (a .0) l (a .1)) ∙ last-part (a .0) (b .0) (equal-only (parts (a .0)) (parts (b .0)) e)
+    ∙ key-id t j (b .0) m (b .1)

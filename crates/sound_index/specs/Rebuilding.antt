@@ -26,14 +26,18 @@ use Rattle.ready_index.specs.Index.{hung, rebuildStep, rebuild}
 use Rattle.sound_index.specs.Holds.{stored, root}
 use Rattle.sound_index.specs.TableLaws.{set-made}
 use Rattle.sound_index.specs.Represents.{linksBy, Represents, Frames, Turns, Roots, steps}
-use Rattle.sound_index.specs.RepresentsLaws.{widen, kept-same, kept-store, kept-trans, keep-frames, frames-within, put-opened}
+use Rattle.sound_index.specs.RepresentsLaws.{widen, kept-same, kept-store, kept-trans, keep-frames}
+use Rattle.sound_index.specs.RepresentsLaws.{frames-within, put-opened}
 use Rattle.sound_index.specs.Rotations.{balance-is}
 
 module _ (ranks key : ℕ → ℕ) where
   -- What `rebuild` does along z; n bounds the heights.
   abbrev pub Rebuilds : List Frame → Type 0
-  Rebuilds z = (t : List ThreadRecord) (lo hi LO HI : ℕ) (x : Tree) (n : ℕ) → Frames ranks key t lo hi LO HI z → Represents ranks key t lo hi x
-      → tree.height x ≤ n → 100 ≤ n → n + length z < 200 → Roots ranks key t LO HI (rebuild (steps z) t (root x)) (path.rebuild z x)
+  Rebuilds z =
+      (t : List ThreadRecord) (lo hi LO HI : ℕ) (x : Tree) (n : ℕ) → Frames ranks key t lo hi LO HI z
+      → Represents ranks key t lo hi x
+      → tree.height x ≤ n → 100 ≤ n → n + length z < 200
+      → Roots ranks key t LO HI (rebuild (steps z) t (root x)) (path.rebuild z x)
 
   -- One step up, and the rest of the path.
   step-up : (t : List ThreadRecord) (lo hi LO HI i : ℕ) (c h : Links) (z : List Frame) (l r : Tree) (n : ℕ)
@@ -41,19 +45,24 @@ module _ (ranks key : ℕ → ℕ) where
       → Turns ranks key (stored t i c) lo hi (balance (stored t i c) i) (rotation.balance l i r)
       → tree.height l ≤ n → tree.height r ≤ n → 100 ≤ n → n + suc (length z) < 200 → Rebuilds z
       → Roots ranks key t LO HI
-      (onTurned (onMade (setLinks t i c) (out turned.Damaged) (λ t₁. balance t₁ i)) (out rooted.Damaged) (λ top t₁. rebuild (steps z) t₁ (link.Some top)))
+      (onTurned (onMade (setLinks t i c) (out turned.Damaged) (λ t₁. balance t₁ i)) (out rooted.Damaged)
+      (λ top t₁. rebuild (steps z) t₁ (link.Some top)))
       (path.rebuild z (rotation.balance l i r))
   unfolding onTurned onMade
   step-up t lo hi LO HI i c h z l r n e a b p d hl hr hn hz ih =
       let m = frames-within ranks key t lo hi LO HI z p in
-      let k = kept-trans ranks key t lo hi (stored t i c) lo hi (d .table) (kept-store ranks key t lo hi i c a b) (d .kept) lo hi (le-refl _) (le-refl _) (le-refl _) (le-refl _) in
-      let f = ih (d .table) lo hi LO HI (rotation.balance l i r) (suc n) (keep-frames ranks key t lo hi (d .table) lo hi LO HI z k (le-refl _) (le-refl _) p) (d .represents)
+      let k = kept-trans ranks key t lo hi (stored t i c) lo hi (d .table) (kept-store ranks key t lo hi i c a b)
+      (d .kept) lo hi (le-refl _) (le-refl _) (le-refl _) (le-refl _) in
+      let f = ih (d .table) lo hi LO HI (rotation.balance l i r) (suc n)
+      (keep-frames ranks key t lo hi (d .table) lo hi LO HI z k (le-refl _) (le-refl _) p) (d .represents)
       (omega (arith, balance-height l i r)) (omega arith) (omega arith) in
       record {
         table = f .table;
         represents = f .represents;
         is = rw (set-made t i c h e, d .is, ← d .at-top) (f .is);
-        kept = kept-trans ranks key t lo hi (d .table) LO HI (f .table) k (f .kept) LO HI (m .0) (le-refl _) (m .1) (le-refl _);
+        kept =
+            kept-trans ranks key t lo hi (d .table) LO HI (f .table) k (f .kept) LO HI (m .0) (le-refl _) (m .1)
+            (le-refl _);
       }
 
   rebuild-end : Rebuilds []
@@ -70,7 +79,8 @@ module _ (ranks key : ℕ → ℕ) where
   rebuild-left i r z ih t lo hi LO HI x n p q hx hn hz =
       rw (p .cell) (step-up t lo (p .end) LO HI i _ _ z x r n (p .cell) (p .ge) (p .lt) (p .up)
       (balance-is ranks key (stored t i (linksBy (root x) (root r) (p .old))) lo (p .end) x i r
-      (put-opened ranks key t lo (p .end) x i r _ (p .old) (p .cell) (p .tie) (p .ge) (p .lt) (widen ranks key t lo hi lo (key i) x (le-refl _) (p .hole) q) (p .side))
+      (put-opened ranks key t lo (p .end) x i r _ (p .old) (p .cell) (p .tie) (p .ge) (p .lt)
+      (widen ranks key t lo hi lo (key i) x (le-refl _) (p .hole) q) (p .side))
       (omega arith) (omega arith))
       hx (omega arith) hn (omega arith) ih)
 
@@ -79,7 +89,8 @@ module _ (ranks key : ℕ → ℕ) where
   rebuild-right l i z ih t lo hi LO HI x n p q hx hn hz =
       rw (p .cell) (step-up t (p .end) hi LO HI i _ _ z l x n (p .cell) (p .ge) (p .lt) (p .up)
       (balance-is ranks key (stored t i (linksBy (root l) (root x) (p .old))) (p .end) hi l i x
-      (put-opened ranks key t (p .end) hi l i x _ (p .old) (p .cell) (p .tie) (p .ge) (p .lt) (p .side) (widen ranks key t lo hi (suc (key i)) hi x (p .hole) (le-refl _) q))
+      (put-opened ranks key t (p .end) hi l i x _ (p .old) (p .cell) (p .tie) (p .ge) (p .lt) (p .side)
+      (widen ranks key t lo hi (suc (key i)) hi x (p .hole) (le-refl _) q))
       (omega arith) (omega arith))
       (omega arith) hx hn (omega arith) ih)
 

@@ -1,4 +1,5 @@
--- What the proofs of the operations go by: a table represents a tree whose threads have ranks in an interval, so that what lies outside of the interval is not of the tree.
+-- What the proofs of the operations go by: a table represents a tree whose threads have ranks in an interval, so that
+-- what lies outside of the interval is not of the tree.
 use mathlib.Core.Path.{_≡_}
 use mathlib.Core.Logic.{_≢_}
 use mathlib.Core.List.{List, [], _∷_}
@@ -36,7 +37,8 @@ pub data In (i : ℕ) : Tree → Type 0 where
 
 -- Keys of the table compare as these numbers.
 abbrev pub Compares : List ThreadRecord → (ℕ → ℕ) → Type 0
-Compares t ranks = (i j : ℕ) (a b : TreeKey) → i < length t → j < length t → keyAt t i ≡ read.Got a → keyAt t j ≡ read.Got b
+Compares t ranks =
+    (i j : ℕ) (a b : TreeKey) → i < length t → j < length t → keyAt t i ≡ read.Got a → keyAt t j ≡ read.Got b
     → compareTreeKeys a b ≡ compareNumbers (ranks i) (ranks j)
 
 -- A key that was read, of a thread of the table.

@@ -28,9 +28,11 @@ use Rattle.sound_lists.specs.Sound.{Linked, HoldsList, MayJoin, Accepted
 use Rattle.sound_lists.specs.LinkedLaws.{last-links}
 
 -- A call that comes to a list and a table for which all is shown.
-pub accepted-by : {t : List ThreadRecord} {x : Out (Answer ThreadQueue)} {members : List ℕ} {id : ℕ} {now : List ℕ} {m : QueueMembership} (list : ThreadQueue) (t′ : List ThreadRecord)
+pub accepted-by : {t : List ThreadRecord} {x : Out (Answer ThreadQueue)} {members : List ℕ} {id : ℕ} {now : List ℕ}
+    {m : QueueMembership} (list : ThreadQueue) (t′ : List ThreadRecord)
     → x ≡ out (value list) t′ → HoldsList t′ list now m → withoutLists t′ ≡ withoutLists t
-    → ((j : ℕ) → has j members ≡ false → j ≢ id → (recordAt t′ j ≡ recordAt t j) × (queueLinksAt t′ j ≡ queueLinksAt t j))
+    → ((j : ℕ) → has j members ≡ false → j ≢ id
+    → (recordAt t′ j ≡ recordAt t j) × (queueLinksAt t′ j ≡ queueLinksAt t j))
     → Accepted t x members id now m
 accepted-by {t} {x} {members} {id} {now} {m} list t′ e h r o =
     let s : t′ ≡ after x = sym (ap after e) in
@@ -39,7 +41,11 @@ accepted-by {t} {x} {members} {id} {now} {m} list t′ e h r o =
       accepted = ap answer e;
       holds = subst (λ (u : List ThreadRecord). HoldsList u list now m) s h;
       rest = ap withoutLists (sym s) ∙ r;
-      others = λ j z n. (ap (λ (u : List ThreadRecord). recordAt u j) (sym s) ∙ o j z n .0, ap (λ (u : List ThreadRecord). queueLinksAt u j) (sym s) ∙ o j z n .1);
+      others =
+          λ j z n. (
+            ap (λ (u : List ThreadRecord). recordAt u j) (sym s) ∙ o j z n .0,
+            ap (λ (u : List ThreadRecord). queueLinksAt u j) (sym s) ∙ o j z n .1,
+          );
     }
 
 unqueued-holds : (x : QueueMembership) → x ≡ membership.None → isUnqueued x ≡ true
@@ -47,15 +53,20 @@ unfolding isUnqueued onMembership
 unqueued-holds x e = rw e
 
 module _ (t : List ThreadRecord) (m : QueueMembership) where
-  head-agrees : (k : ℕ) {n : Link} → queueLinksAt t k ≡ queueLinks.Got (record { previous = link.None; next = n; membership = m }) → headAgrees t k m ≡ true
+  head-agrees : (k : ℕ) {n : Link}
+      → queueLinksAt t k ≡ queueLinks.Got (record { previous = link.None; next = n; membership = m })
+      → headAgrees t k m ≡ true
   unfolding headAgrees onQueueLinks choose isNone onLink
   head-agrees k e = rw (e, same-membership-self m)
 
-  tail-agrees : (k : ℕ) {p : Link} → queueLinksAt t k ≡ queueLinks.Got (record { previous = p; next = link.None; membership = m }) → tailAgrees t k m ≡ true
+  tail-agrees : (k : ℕ) {p : Link}
+      → queueLinksAt t k ≡ queueLinks.Got (record { previous = p; next = link.None; membership = m })
+      → tailAgrees t k m ≡ true
   unfolding tailAgrees onQueueLinks choose isNone onLink
   tail-agrees k e = rw (e, same-membership-self m)
 
-  ends-agree : (h x : Link) (n : ℕ) (s : List ℕ) → h ≡ firstOr s link.None → x ≡ lastOr link.None s → n ≡ length s → Linked (queueLinksAt t) m link.None s link.None
+  ends-agree : (h x : Link) (n : ℕ) (s : List ℕ) → h ≡ firstOr s link.None → x ≡ lastOr link.None s → n ≡ length s
+      → Linked (queueLinksAt t) m link.None s link.None
       → endsAgree t (record { head = h; tail = x; len = n }) m ≡ true
   unfolding endsAgree onLink ifEqual choose
   ends-agree h x n [] eh ex en q = rw (eh, ex, en)
@@ -65,7 +76,8 @@ module _ (t : List ThreadRecord) (m : QueueMembership) where
       (tail-agrees (y .0) (last-links (queueLinksAt t) m link.None (k ∷ s) link.None (y .0) q (y .1) .1))
 
 -- A thread that may join a sound list passes the checks.
-pub preflight-passes : {t : List ThreadRecord} {q : ThreadQueue} {members : List ℕ} {m : QueueMembership} (id : ℕ) → HoldsList t q members m → MayJoin t q members id m
+pub preflight-passes : {t : List ThreadRecord} {q : ThreadQueue} {members : List ℕ} {m : QueueMembership} (id : ℕ)
+    → HoldsList t q members m → MayJoin t q members id m
     → preflightInsert t q id m ≡ value (q .len + 1)
 unfolding preflightInsert onRecord choose ifEqual
 preflight-passes {t} {q} {members} {m} id L J =

@@ -23,7 +23,8 @@ use Rattle.sound_lists.specs.LinkedLaws.{linked-frame, member-links}
 pub empty-holds : (t : List ThreadRecord) (m : QueueMembership) → HoldsList t emptyQueue [] m
 empty-holds t m = record { head = refl; tail = refl; len = refl; linked = tt; distinct = tt }
 
-module _ {t : List ThreadRecord} {q : ThreadQueue} {members : List ℕ} {m : QueueMembership} (L : HoldsList t q members m) where
+module _ {t : List ThreadRecord} {q : ThreadQueue} {members : List ℕ} {m : QueueMembership}
+    (L : HoldsList t q members m) where
   -- A list whose head is none holds no thread.
   pub no-head-no-thread : isNone (q .head) ≡ true → members ≡ []
   no-head-no-thread e = go members (sym (L .head) ∙ is-none-true (q .head) e)
@@ -34,14 +35,19 @@ module _ {t : List ThreadRecord} {q : ThreadQueue} {members : List ℕ} {m : Que
 
   -- Each thread of a list is a record of the table.
   pub member-below : (j : ℕ) → has j members ≡ true → j < length t
-  member-below j h = let l = member-links (queueLinksAt t) m link.None members link.None j (L .linked) h in queue-links-got-within t j (l .2)
+  member-below j h =
+      let l = member-links (queueLinksAt t) m link.None members link.None j (L .linked) h in
+      queue-links-got-within t j (l .2)
 
   -- Each thread of a list has the list's membership.
-  pub member-of : (j : ℕ) → has j members ≡ true → (p : Link) × (n : Link) × (queueLinksAt t j ≡ queueLinks.Got (record { previous = p; next = n; membership = m }))
+  pub member-of : (j : ℕ) → has j members ≡ true
+      → (p : Link) × (n : Link) × (queueLinksAt t j
+      ≡ queueLinks.Got (record { previous = p; next = n; membership = m }))
   member-of j h = member-links (queueLinksAt t) m link.None members link.None j (L .linked) h
 
   -- A table in which the members' links are as they were holds the same list.
-  pub holds-frame : (t′ : List ThreadRecord) → ((j : ℕ) → has j members ≡ true → queueLinksAt t′ j ≡ queueLinksAt t j) → HoldsList t′ q members m
+  pub holds-frame : (t′ : List ThreadRecord) → ((j : ℕ) → has j members ≡ true → queueLinksAt t′ j ≡ queueLinksAt t j)
+      → HoldsList t′ q members m
   holds-frame t′ h = record {
     head = L .head;
     tail = L .tail;
@@ -51,6 +57,9 @@ module _ {t : List ThreadRecord} {q : ThreadQueue} {members : List ℕ} {m : Que
   }
 
   -- A record that is not a member may change in any way.
-  pub holds-outside : (id : ℕ) (f : ThreadRecord → ThreadRecord) → has id members ≡ false → HoldsList (changed t id f) q members m
+  pub holds-outside : (id : ℕ) (f : ThreadRecord → ThreadRecord) → has id members ≡ false
+      → HoldsList (changed t id f) q members m
   unfolding queueLinksAt
-  holds-outside id f o = holds-frame (changed t id f) (λ j h. reading-other t id f (λ (r : ThreadRecord). queueLinks.Got (r .«queue_links»)) queueLinks.Damaged j (apart j id members h o))
+  holds-outside id f o = holds-frame (changed t id f)
+      (λ j h. reading-other t id f (λ (r : ThreadRecord). queueLinks.Got (r .«queue_links»)) queueLinks.Damaged j
+      (apart j id members h o))

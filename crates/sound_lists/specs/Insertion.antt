@@ -1,4 +1,5 @@
--- push and push_front on a sound list: accepted, and the list holds the earlier threads in order with the new one at the named end.
+-- push and push_front on a sound list: accepted, and the list holds the earlier threads in order with the new one at
+-- the named end.
 use Prim.Native.Nat.{ℕ, _+_}
 use native.Mathlib.Omega.{arith}
 use mathlib.Core.Path.{_≡_, refl, sym, ap, _∙_}
@@ -20,53 +21,75 @@ use Rattle.rows.specs.Table.{out, changed, queueLinksAt}
 use Rattle.rows.specs.TableLaws.{queue-links-within}
 use Rattle.lists.specs.Lists.{onAnswer, onOut, append, prepend, push, pushFront}
 use Rattle.sound_lists.specs.Members.{has, firstOr, lastOr}
-use Rattle.sound_lists.specs.MembersLaws.{apart, not-both, last-some, last-member, first-member, last-append, distinct-append}
+use Rattle.sound_lists.specs.MembersLaws.{apart, not-both, last-some, last-member, first-member, last-append}
+use Rattle.sound_lists.specs.MembersLaws.{distinct-append}
 use Rattle.sound_lists.specs.Sound.{Linked, HoldsList, MayJoin, Accepted}
 use Rattle.sound_lists.specs.Stores.{nextIs, previousIs, relinked, relinkedAt}
-use Rattle.sound_lists.specs.StoreLaws.{set-next-is, set-previous-is, commit-insert-is, links-relinked-same, links-relinked-other, record-relinked-other, rest-relinked, links-at-same, links-at-other, record-at-other, rest-at}
+use Rattle.sound_lists.specs.StoreLaws.{set-next-is, set-previous-is, commit-insert-is, links-relinked-same}
+use Rattle.sound_lists.specs.StoreLaws.{links-relinked-other, record-relinked-other, rest-relinked}
+use Rattle.sound_lists.specs.StoreLaws.{links-at-same, links-at-other, record-at-other, rest-at}
 use Rattle.sound_lists.specs.LinkedLaws.{linked-join, linked-start, linked-end}
 use Rattle.sound_lists.specs.AcceptedLaws.{accepted-by, preflight-passes}
 
 -- The table after `push`: the old tail goes on to the thread, and the thread's own links are stored.
 abbrev appendedTable : List ThreadRecord → ThreadQueue → ℕ → QueueMembership → List ThreadRecord
-appendedTable t q id m = changed (relinkedAt t (q .tail) (nextIs (link.Some id))) id (relinked (λ (k : QueueLinks). record { previous = q .tail; next = link.None; membership = m }))
+appendedTable t q id m = changed (relinkedAt t (q .tail) (nextIs (link.Some id))) id
+    (relinked (λ (k : QueueLinks). record { previous = q .tail; next = link.None; membership = m }))
 
 abbrev appendedList : ThreadQueue → ℕ → ℕ → ThreadQueue
 appendedList q id n = record { head = onLink (q .tail) (link.Some id) (λ k. q .head); tail = link.Some id; len = n }
 
 append-is : (t : List ThreadRecord) (h x : Link) (k id : ℕ) (m : QueueMembership) (n : ℕ)
-    → append t (record { head = h; tail = x; len = k }) id m n ≡ out (appendedList (record { head = h; tail = x; len = k }) id n) (appendedTable t (record { head = h; tail = x; len = k }) id m)
+    → append t (record { head = h; tail = x; len = k }) id m n
+    ≡ out (appendedList (record { head = h; tail = x; len = k }) id n)
+    (appendedTable t (record { head = h; tail = x; len = k }) id m)
 unfolding append onLink given relinkedAt
-append-is t h link.None k id m n = rw (commit-insert-is t id (record { previous = link.None; next = link.None; membership = m }))
+append-is t h link.None k id m n =
+    rw (commit-insert-is t id (record { previous = link.None; next = link.None; membership = m }))
 append-is t h (link.Some i) k id m n =
-    rw (set-next-is t i (link.Some id), commit-insert-is (changed t i (relinked (nextIs (link.Some id)))) id (record { previous = link.Some i; next = link.None; membership = m }))
+    rw (
+      set-next-is t i (link.Some id),
+      commit-insert-is (changed t i (relinked (nextIs (link.Some id)))) id
+          (record { previous = link.Some i; next = link.None; membership = m }),
+    )
 
 -- The table after `push_front`: the old head goes back to the thread, and the thread's own links are stored.
 abbrev prependedTable : List ThreadRecord → ThreadQueue → ℕ → QueueMembership → List ThreadRecord
-prependedTable t q id m = changed (relinkedAt t (q .head) (previousIs (link.Some id))) id (relinked (λ (k : QueueLinks). record { previous = link.None; next = q .head; membership = m }))
+prependedTable t q id m = changed (relinkedAt t (q .head) (previousIs (link.Some id))) id
+    (relinked (λ (k : QueueLinks). record { previous = link.None; next = q .head; membership = m }))
 
 abbrev prependedList : ThreadQueue → ℕ → ℕ → ThreadQueue
 prependedList q id n = record { head = link.Some id; tail = onLink (q .head) (link.Some id) (λ k. q .tail); len = n }
 
 prepend-is : (t : List ThreadRecord) (h x : Link) (k id : ℕ) (m : QueueMembership) (n : ℕ)
-    → prepend t (record { head = h; tail = x; len = k }) id m n ≡ out (prependedList (record { head = h; tail = x; len = k }) id n) (prependedTable t (record { head = h; tail = x; len = k }) id m)
+    → prepend t (record { head = h; tail = x; len = k }) id m n
+    ≡ out (prependedList (record { head = h; tail = x; len = k }) id n)
+    (prependedTable t (record { head = h; tail = x; len = k }) id m)
 unfolding prepend onLink given relinkedAt
-prepend-is t link.None x k id m n = rw (commit-insert-is t id (record { previous = link.None; next = link.None; membership = m }))
+prepend-is t link.None x k id m n =
+    rw (commit-insert-is t id (record { previous = link.None; next = link.None; membership = m }))
 prepend-is t (link.Some i) x k id m n =
-    rw (set-previous-is t i (link.Some id), commit-insert-is (changed t i (relinked (previousIs (link.Some id)))) id (record { previous = link.None; next = link.Some i; membership = m }))
+    rw (
+      set-previous-is t i (link.Some id),
+      commit-insert-is (changed t i (relinked (previousIs (link.Some id)))) id
+          (record { previous = link.None; next = link.Some i; membership = m }),
+    )
 
 -- The other end after the insertion.
-first-after : (s : List ℕ) (h x : Link) (id : ℕ) → h ≡ firstOr s link.None → x ≡ lastOr link.None s → onLink x (link.Some id) (λ k. h) ≡ firstOr (s ++ id ∷ []) link.None
+first-after : (s : List ℕ) (h x : Link) (id : ℕ) → h ≡ firstOr s link.None → x ≡ lastOr link.None s
+    → onLink x (link.Some id) (λ k. h) ≡ firstOr (s ++ id ∷ []) link.None
 unfolding onLink
 first-after [] h x id eh ex = rw ex
 first-after (k ∷ s) h x id eh ex = let y = last-some k s in rw (ex, y .1) eh
 
-last-after : (s : List ℕ) (h x : Link) (id : ℕ) → h ≡ firstOr s link.None → x ≡ lastOr link.None s → onLink h (link.Some id) (λ k. x) ≡ lastOr (link.Some id) s
+last-after : (s : List ℕ) (h x : Link) (id : ℕ) → h ≡ firstOr s link.None → x ≡ lastOr link.None s
+    → onLink h (link.Some id) (λ k. x) ≡ lastOr (link.Some id) s
 unfolding onLink
 last-after [] h x id eh ex = rw eh
 last-after (k ∷ s) h x id eh ex = rw eh ex
 
-module _ {t : List ThreadRecord} {q : ThreadQueue} {members : List ℕ} {m : QueueMembership} (id : ℕ) (L : HoldsList t q members m) (J : MayJoin t q members id m) where
+module _ {t : List ThreadRecord} {q : ThreadQueue} {members : List ℕ} {m : QueueMembership} (id : ℕ)
+    (L : HoldsList t q members m) (J : MayJoin t q members id m) where
   not-tail : (j : ℕ) → has j members ≡ false → q .tail ≢ link.Some j
   not-tail j o y = not-both (has j members) (last-member members j (sym (L .tail) ∙ y)) o
 
@@ -78,12 +101,17 @@ module _ {t : List ThreadRecord} {q : ThreadQueue} {members : List ℕ} {m : Que
       let u = relinkedAt t (q .tail) (nextIs (link.Some id)) in
       let g : QueueLinks → QueueLinks = λ k. record { previous = q .tail; next = link.None; membership = m } in
       linked-join (queueLinksAt (appendedTable t q id m)) m link.None members (id ∷ []) link.None
-      (linked-end (queueLinksAt t) (queueLinksAt (appendedTable t q id m)) m link.None members link.None (link.Some id) (L .distinct)
-      (λ j z n. links-relinked-other u id g j (apart j id members z (J .outside)) ∙ links-at-other t (q .tail) (nextIs (link.Some id)) j (λ y. n (sym (L .tail) ∙ y)))
-      (λ j l y e. links-relinked-other u id g j (apart j id members (last-member members j y) (J .outside)) ∙ links-at-same t (q .tail) (nextIs (link.Some id)) j (L .tail ∙ y) e)
+      (linked-end (queueLinksAt t) (queueLinksAt (appendedTable t q id m)) m link.None members link.None (link.Some id)
+      (L .distinct)
+      (λ j z n. links-relinked-other u id g j (apart j id members z (J .outside))
+      ∙ links-at-other t (q .tail) (nextIs (link.Some id)) j (λ y. n (sym (L .tail) ∙ y)))
+      (λ j l y e. links-relinked-other u id g j (apart j id members (last-member members j y) (J .outside))
+      ∙ links-at-same t (q .tail) (nextIs (link.Some id)) j (L .tail ∙ y) e)
       (L .linked))
       (record {
-        here = links-relinked-same u id g (links-at-other t (q .tail) (nextIs (link.Some id)) id (not-tail id (J .outside)) ∙ queue-links-within t id (J .below))
+        here =
+            links-relinked-same u id g (links-at-other t (q .tail) (nextIs (link.Some id)) id (not-tail id (J .outside))
+            ∙ queue-links-within t id (J .below))
             ∙ ap (λ (p : Link). queueLinks.Got (record { previous = p; next = link.None; membership = m })) (L .tail);
         rest = tt;
       })
@@ -93,11 +121,17 @@ module _ {t : List ThreadRecord} {q : ThreadQueue} {members : List ℕ} {m : Que
       let u = relinkedAt t (q .head) (previousIs (link.Some id)) in
       let g : QueueLinks → QueueLinks = λ k. record { previous = link.None; next = q .head; membership = m } in
       record {
-        here = links-relinked-same u id g (links-at-other t (q .head) (previousIs (link.Some id)) id (not-head id (J .outside)) ∙ queue-links-within t id (J .below))
+        here = links-relinked-same u id g
+            (links-at-other t (q .head) (previousIs (link.Some id)) id (not-head id (J .outside))
+            ∙ queue-links-within t id (J .below))
             ∙ ap (λ (p : Link). queueLinks.Got (record { previous = link.None; next = p; membership = m })) (L .head);
-        rest = linked-start (queueLinksAt t) (queueLinksAt (prependedTable t q id m)) m link.None (link.Some id) members link.None (L .distinct)
-            (λ j z n. links-relinked-other u id g j (apart j id members z (J .outside)) ∙ links-at-other t (q .head) (previousIs (link.Some id)) j (λ y. n (sym (L .head) ∙ y)))
-            (λ j l y e. links-relinked-other u id g j (apart j id members (first-member members j y) (J .outside)) ∙ links-at-same t (q .head) (previousIs (link.Some id)) j (L .head ∙ y) e)
+        rest =
+            linked-start (queueLinksAt t) (queueLinksAt (prependedTable t q id m)) m link.None
+            (link.Some id) members link.None (L .distinct)
+            (λ j z n. links-relinked-other u id g j (apart j id members z (J .outside))
+            ∙ links-at-other t (q .head) (previousIs (link.Some id)) j (λ y. n (sym (L .head) ∙ y)))
+            (λ j l y e. links-relinked-other u id g j (apart j id members (first-member members j y) (J .outside))
+            ∙ links-at-same t (q .head) (previousIs (link.Some id)) j (L .head ∙ y) e)
             (L .linked);
       }
 

@@ -31,7 +31,8 @@ not-both x p q = never cc
 
 pub has-append : (j : ℕ) (a b : List ℕ) → has j (a ++ b) ≡ (has j a || has j b)
 has-append j [] b = refl
-has-append j (i ∷ a) b = ap (λ (x : Bool). eqb j i || x) (has-append j a b) ∙ sym (or-assoc (eqb j i) (has j a) (has j b))
+has-append j (i ∷ a) b =
+    ap (λ (x : Bool). eqb j i || x) (has-append j a b) ∙ sym (or-assoc (eqb j i) (has j a) (has j b))
 
 pub has-first : (j : ℕ) (s : List ℕ) → has j (j ∷ s) ≡ true
 has-first j s = or-left (eqb j j) (has j s) (eq-eqb j j refl)
@@ -75,7 +76,10 @@ pub distinct-append : (s : List ℕ) (i : ℕ) → has i s ≡ false → Distinc
 distinct-append [] i h d = record { first = refl; rest = tt }
 distinct-append (k ∷ s) i h d =
     let n = or-neither (eqb i k) (has i s) h in
-    record { first = has-append k s (i ∷ []) ∙ rw (d .first, ne-eqb k i (λ z. eqb-false i k (n .0) (sym z))); rest = distinct-append s i (n .1) (d .rest) }
+    record {
+      first = has-append k s (i ∷ []) ∙ rw (d .first, ne-eqb k i (λ z. eqb-false i k (n .0) (sym z)));
+      rest = distinct-append s i (n .1) (d .rest);
+    }
 
 -- A sequence in two parts about one of its numbers.
 pub split-at : (i : ℕ) (s : List ℕ) → has i s ≡ true → (a : List ℕ) × (b : List ℕ) × (s ≡ a ++ i ∷ b)
@@ -94,7 +98,15 @@ pub record Parts (a : List ℕ) (i : ℕ) (b : List ℕ) : Type 0 where
   pub across : (j : ℕ) → has j a ≡ true → has j b ≡ false
 
 pub parts : (a : List ℕ) (i : ℕ) (b : List ℕ) → Distinct (a ++ i ∷ b) → Parts a i b
-parts [] i b d = record { left = tt; right = d .rest; joined = d .rest; notLeft = refl; notRight = d .first; across = λ j h. not-both false h refl }
+parts [] i b d =
+    record {
+      left = tt;
+      right = d .rest;
+      joined = d .rest;
+      notLeft = refl;
+      notRight = d .first;
+      across = λ j h. not-both false h refl;
+    }
 parts (k ∷ a) i b d =
     let P = parts a i b (d .rest) in
     let u = or-neither (has k a) (eqb k i || has k b) (sym (has-append k a (i ∷ b)) ∙ d .first) in
@@ -111,12 +123,14 @@ parts (k ∷ a) i b d =
 pub without-outside : (i : ℕ) (s : List ℕ) → has i s ≡ false → without i s ≡ s
 unfolding without choose
 without-outside i [] h = refl
-without-outside i (j ∷ s) h = let n = or-neither (eqb i j) (has i s) h in rw (n .0) (ap (λ (l : List ℕ). j ∷ l) (without-outside i s (n .1)))
+without-outside i (j ∷ s) h =
+    let n = or-neither (eqb i j) (has i s) h in rw (n .0) (ap (λ (l : List ℕ). j ∷ l) (without-outside i s (n .1)))
 
 pub without-parts : (i : ℕ) (a b : List ℕ) → has i a ≡ false → has i b ≡ false → without i (a ++ i ∷ b) ≡ a ++ b
 unfolding without choose
 without-parts i [] b h k = rw (eq-eqb i i refl) (without-outside i b k)
-without-parts i (j ∷ a) b h k = let n = or-neither (eqb i j) (has i a) h in rw (n .0) (ap (λ (l : List ℕ). j ∷ l) (without-parts i a b (n .1) k))
+without-parts i (j ∷ a) b h k =
+    let n = or-neither (eqb i j) (has i a) h in rw (n .0) (ap (λ (l : List ℕ). j ∷ l) (without-parts i a b (n .1) k))
 
 -- What is left has every other number that there was.
 pub has-without : (j i : ℕ) (s : List ℕ) → has j (without i s) ≡ choose (eqb j i) false (has j s)

@@ -4,7 +4,7 @@ use mathlib.Core.Path.{_≡_, refl}
 use mathlib.Core.Bool.{Bool, true, false}
 use mathlib.Core.List.{List}
 use lib.Dec.{eqb}
-use Rattle.refusal.specs.Answer.{Answer, value, refused}
+use Rattle.refusal.specs.Answer.{Answer, value, refused, damaged}
 use Rattle.refusal.specs.Cases.{never, choose, ifEqual}
 use Rattle.thread.specs.declared.QueueLinks.{QueueLinks}
 use Rattle.thread.specs.declared.QueueMembership.{QueueMembership}
@@ -28,20 +28,23 @@ module _ (t : List ThreadRecord) where
   unfolding onOut
   kept-stored (out s t₁) n e = never cc
 
-  kept-answer : (x : Answer ℕ) (f : ℕ → Out ThreadQueue) → KeptIfRefused t (onAnswer x (λ n. out (refused n) t) (λ n. onOut (f n) (λ s t₁. out (value s) t₁)))
+  kept-answer : (x : Answer ℕ) (f : ℕ → Out ThreadQueue)
+      → KeptIfRefused t (onAnswer x (λ n. out (refused n) t) (λ n. onOut (f n) (λ s t₁. out (value s) t₁)))
   unfolding onAnswer
   kept-answer (value n) f = kept-stored (f n)
   kept-answer (refused k) f = kept-refused k
 
-  kept-choice : (b : Bool) (x y : Out (Answer ThreadQueue)) → KeptIfRefused t x → KeptIfRefused t y → KeptIfRefused t (choose b x y)
+  kept-choice : (b : Bool) (x y : Out (Answer ThreadQueue)) → KeptIfRefused t x → KeptIfRefused t y
+      → KeptIfRefused t (choose b x y)
   unfolding choose
   kept-choice true x y p q = p
   kept-choice false x y p q = q
 
-  kept-read : (x : QueueLinksRead) (f : QueueLinks → Out (Answer ThreadQueue)) → ((l : QueueLinks) → KeptIfRefused t (f l)) → KeptIfRefused t (onQueueLinks x (out (refused 1) t) f)
+  kept-read : (x : QueueLinksRead) (f : QueueLinks → Out (Answer ThreadQueue))
+      → ((l : QueueLinks) → KeptIfRefused t (f l)) → KeptIfRefused t (onQueueLinks x (out (refused damaged) t) f)
   unfolding onQueueLinks
   kept-read (queueLinks.Got l) f h = h l
-  kept-read queueLinks.Damaged f h = kept-refused 1
+  kept-read queueLinks.Damaged f h = kept-refused damaged
 
   module _ (q : ThreadQueue) (id : ℕ) (m : QueueMembership) where
     pub push-refused : KeptIfRefused t (push t q id m)
@@ -57,16 +60,20 @@ module _ (t : List ThreadRecord) where
     remove-refused =
         kept-read (queueLinksAt t id)
         (λ l. choose (sameMembership (l .membership) m)
-        (choose (eqb (q .len) 0) (out (refused 1) t)
-        (choose (validateNeighbors t q l id) (onOut (unlink t q l id (q .len - 1)) (λ s t₁. out (value s) t₁)) (out (refused 1) t)))
-        (out (refused 1) t))
+        (choose (eqb (q .len) 0) (out (refused damaged) t)
+        (choose (validateNeighbors t q l id) (onOut (unlink t q l id (q .len - 1)) (λ s t₁. out (value s) t₁))
+        (out (refused damaged) t)))
+        (out (refused damaged) t))
         (λ l. kept-choice (sameMembership (l .membership) m)
-        (choose (eqb (q .len) 0) (out (refused 1) t)
-        (choose (validateNeighbors t q l id) (onOut (unlink t q l id (q .len - 1)) (λ s t₁. out (value s) t₁)) (out (refused 1) t)))
-        (out (refused 1) t)
-        (kept-choice (eqb (q .len) 0) (out (refused 1) t)
-        (choose (validateNeighbors t q l id) (onOut (unlink t q l id (q .len - 1)) (λ s t₁. out (value s) t₁)) (out (refused 1) t))
-        (kept-refused 1)
-        (kept-choice (validateNeighbors t q l id) (onOut (unlink t q l id (q .len - 1)) (λ s t₁. out (value s) t₁)) (out (refused 1) t)
-        (kept-stored (unlink t q l id (q .len - 1))) (kept-refused 1)))
-        (kept-refused 1))
+        (choose (eqb (q .len) 0) (out (refused damaged) t)
+        (choose (validateNeighbors t q l id) (onOut (unlink t q l id (q .len - 1)) (λ s t₁. out (value s) t₁))
+        (out (refused damaged) t)))
+        (out (refused damaged) t)
+        (kept-choice (eqb (q .len) 0) (out (refused damaged) t)
+        (choose (validateNeighbors t q l id) (onOut (unlink t q l id (q .len - 1)) (λ s t₁. out (value s) t₁))
+        (out (refused damaged) t))
+        (kept-refused damaged)
+        (kept-choice (validateNeighbors t q l id) (onOut (unlink t q l id (q .len - 1)) (λ s t₁. out (value s) t₁))
+        (out (refused damaged) t)
+        (kept-stored (unlink t q l id (q .len - 1))) (kept-refused damaged)))
+        (kept-refused damaged))

@@ -1,4 +1,5 @@
--- The theorems about sound queues: a new queue is sound, changes beside it keep it so, and enqueue at either end and remove do what they say.
+-- The theorems about sound queues: a new queue is sound, changes beside it keep it so, and enqueue at either end and
+-- remove do what they say.
 use mathlib.Core.Path.{_≡_, refl, sym, ap, _∙_, subst}
 use mathlib.Core.Bool.{Bool, true, false, _&&_}
 use mathlib.Core.Logic.{_≢_}
@@ -9,7 +10,7 @@ use native.Mathlib.Nat.{mod-lt}
 use lib.ListN.{length, List·getD-map}
 use lib.Dec.{eqb}
 use borrow.Author.Tests.{eqb-true, ne-eqb}
-use Rattle.refusal.specs.Answer.{value, refused}
+use Rattle.refusal.specs.Answer.{value, refused, already}
 use Rattle.refusal.specs.Cases.{never, choose, ifEqual}
 use Rattle.policy.specs.declared.SchedulingPolicy.the-variants as policy
 use Rattle.thread.specs.declared.CpuIndex.{CpuIndex}
@@ -18,17 +19,18 @@ use Rattle.thread.specs.Membership.{isUnqueued}
 use Rattle.thread.specs.Judgement.{isBadRecord}
 use Rattle.codec.specs.Codec.{policyFrom, parametersOf, decoded}
 use Rattle.thread.specs.MembershipLaws.{is-unqueued-true}
-use Rattle.rows.specs.Table.{Out, out, table, recordOf, recordAt, changed}
+use Rattle.rows.specs.Table.{Out, out, table, recordOf, recordAt, changed, maxRecords}
 use Rattle.rows.specs.TableLaws.{length-changed, reading-other}
 use Rattle.rows.specs.declared.RecordRead.the-variants as read
 use Rattle.lists.specs.Lists.{onAnswer}
-use Rattle.queue.specs.declared.CpuRunQueue.{CpuRunQueue}
+use Rattle.queue.specs.RunQueue.{CpuRunQueue}
 use Rattle.queue.specs.Queue.{Step, step, newQueue, judged, enqueueCall, removeCall}
 use Rattle.sound_queue.specs.Count.{count}
 use Rattle.sound_queue.specs.CountLaws.{count-same}
 use Rattle.sound_queue.specs.Lists.{listAt, listFor, rowOf}
 use Rattle.sound_queue.specs.ListsLaws.{list-counts}
-use Rattle.sound_queue.specs.Sound.{queuedOf, Sound, including, excluding, Kept, Accepted, Fine, unchanged, made, PriorityFits, MayEnqueue}
+use Rattle.sound_queue.specs.Sound.{queuedOf, Sound, including, excluding, Kept, Accepted, Fine, unchanged, made}
+use Rattle.sound_queue.specs.Sound.{PriorityFits, MayEnqueue}
 use Rattle.sound_queue.specs.PartsLaws.{in-a-list, listed-not-idle, filing}
 use Rattle.sound_queue.specs.SoundLaws.{queued-inside, queued-membership}
 use Rattle.sound_queue.specs.Enqueueing.{judged-passes, enqueued}
@@ -39,12 +41,13 @@ use Rattle.sound_queue.specs.Reached as reached
 use Rattle.sound_queue.specs.Outside as outside
 
 -- A new queue over any table of up to 4,096 records is sound, with nobody queued.
-pub new-sound : (cpu : CpuIndex) (t : List ThreadRecord) → length t ≤ 4096 → Sound cpu nobody newQueue t
+pub new-sound : (cpu : CpuIndex) (t : List ThreadRecord) → length t ≤ maxRecords → Sound cpu nobody newQueue t
 new-sound = outside.new-sound
 
 module _ {cpu : CpuIndex} {queued : ℕ → Bool} {q : CpuRunQueue} {t : List ThreadRecord} (S : Sound cpu queued q t) where
   -- Records that are not queued may change in any way, their links and membership too.
-  pub changes-sound : (s : List ThreadRecord) → length s ≡ length t → ((j : ℕ) → queued j ≡ true → recordAt s j ≡ recordAt t j) → Sound cpu queued q s
+  pub changes-sound : (s : List ThreadRecord) → length s ≡ length t
+      → ((j : ℕ) → queued j ≡ true → recordAt s j ≡ recordAt t j) → Sound cpu queued q s
   changes-sound = outside.changes-sound S
 
   -- The same of one record.
@@ -58,30 +61,44 @@ module _ {cpu : CpuIndex} {queued : ℕ → Bool} {q : CpuRunQueue} {t : List Th
   unfolding rowOf queuedOf choose
   row-tells n j b = go (queued j)
     where
-      go : (x : Bool) → eqb (choose x (listFor (recordOf t j .parameters .policy)) 257) n ≡ x && eqb (listFor (recordOf t j .parameters .policy)) n
+      go : (x : Bool) → eqb (choose x (listFor (recordOf t j .parameters .policy)) 257) n
+          ≡ x && eqb (listFor (recordOf t j .parameters .policy)) n
       go true = refl
       go false = ne-eqb 257 n (λ z. omega arith)
 
   -- Every list's length is the number of queued threads whose policy names that list.
   pub lengths-true : (n : ℕ) → n < 257 → listAt q n .len ≡ count (length t) (queuedOf (λ p. eqb (listFor p) n) queued t)
   lengths-true n b =
-      list-counts (S .lists) n b ∙ count-same (length t) (queuedOf (λ p. eqb (listFor p) n) queued t) (λ j. eqb (rowOf queued t j) n) (λ j l. row-tells n j b)
+      list-counts (S .lists) n b ∙ count-same (length t) (queuedOf (λ p. eqb (listFor p) n) queued t)
+      (λ j. eqb (rowOf queued t j) n) (λ j l. row-tells n j b)
 
   module _ (i : ℕ) where
-    -- An enqueue of a thread that no rule of document 01 refuses is accepted, at either end; then exactly the earlier threads and this one are queued.
-    pub enqueue-accepted : (front : Bool) → MayEnqueue cpu t i → Accepted cpu queued (including i queued) i t (enqueueCall front t q i cpu)
+    -- An enqueue of a thread that no rule of document 01 refuses is accepted, at either end; then exactly the earlier
+    -- threads and this one are queued.
+    pub enqueue-accepted : (front : Bool) → MayEnqueue cpu t i
+        → Accepted cpu queued (including i queued) i t (enqueueCall front t q i cpu)
     enqueue-accepted front M = enqueued S i M front
 
-    -- A removal of a queued thread is accepted, also where a budget thread stands in the partner tree; then exactly the other threads are queued.
+    -- A removal of a queued thread is accepted, also where a budget thread stands in the partner tree; then exactly the
+    -- other threads are queued.
     pub remove-accepted : queued i ≡ true → Accepted cpu queued (excluding i queued) i t (removeCall t q i cpu)
     remove-accepted e = removed S i e
 
-    judged-enqueue : (front : Bool) → PriorityFits (recordOf t i .parameters .policy) → i < length t → isBadRecord (recordOf t i) ≡ false → recordOf t i .parameters .policy ≢ policy.Idle
-        → (x : Bool) → isUnqueued (recordOf t i .«queue_links» .membership) ≡ x → (y : Bool) → eqb (recordOf t i .cpu .0) (cpu .0) ≡ y
+    judged-enqueue : (front : Bool) → PriorityFits (recordOf t i .parameters .policy) → i < length t
+        → isBadRecord (recordOf t i) ≡ false → recordOf t i .parameters .policy ≢ policy.Idle
+        → (x : Bool) → isUnqueued (recordOf t i .«queue_links» .membership) ≡ x → (y : Bool)
+        → eqb (recordOf t i .cpu .0) (cpu .0) ≡ y
         → Fine cpu queued (including i queued) i q t (enqueueCall front t q i cpu)
     unfolding enqueueCall choose ifEqual
     judged-enqueue front p l b d true e true g = made (enqueued S i
-        (record { below = l; judged = b; notIdle = d; unqueued = is-unqueued-true _ e; assigned = eqb-true (recordOf t i .cpu .0) (cpu .0) g; fits = p }) front)
+        (record {
+          below = l;
+          judged = b;
+          notIdle = d;
+          unqueued = is-unqueued-true _ e;
+          assigned = eqb-true (recordOf t i .cpu .0) (cpu .0) g;
+          fits = p;
+        }) front)
     judged-enqueue front p l b d true e false g =
         let F = filing (recordOf t i .parameters) (recordOf t i .runtime) d in
         unchanged 2 (judged-passes t q i (F .tree) _ (S .forest .small) (S .running) l b (F .is) ∙ rw (e, g))
@@ -89,21 +106,28 @@ module _ {cpu : CpuIndex} {queued : ℕ → Bool} {q : CpuRunQueue} {t : List Th
         let F = filing (recordOf t i .parameters) (recordOf t i .runtime) d in
         unchanged 3 (judged-passes t q i (F .tree) _ (S .forest .small) (S .running) l b (F .is) ∙ rw e)
 
-    enqueue-by : (front : Bool) → PriorityFits (recordOf t i .parameters .policy) → Verdict t q i → Fine cpu queued (including i queued) i q t (enqueueCall front t q i cpu)
+    enqueue-by : (front : Bool) → PriorityFits (recordOf t i .parameters .policy) → Verdict t q i
+        → Fine cpu queued (including i queued) i q t (enqueueCall front t q i cpu)
     unfolding enqueueCall
     enqueue-by front p (refuses n r) = unchanged n (r _)
-    enqueue-by front p (passes l b d) = judged-enqueue front p l b d (isUnqueued (recordOf t i .«queue_links» .membership)) refl (eqb (recordOf t i .cpu .0) (cpu .0)) refl
+    enqueue-by front p (passes l b d) =
+        judged-enqueue front p l b d (isUnqueued (recordOf t i .«queue_links» .membership)) refl
+        (eqb (recordOf t i .cpu .0) (cpu .0)) refl
 
-    -- An enqueue on a sound queue never halts: it is refused with nothing changed, or accepted with the queue sound after it.
-    pub enqueue-fine : (front : Bool) → PriorityFits (recordOf t i .parameters .policy) → Fine cpu queued (including i queued) i q t (enqueueCall front t q i cpu)
+    -- An enqueue on a sound queue never halts: it is refused with nothing changed, or accepted with the queue sound
+    -- after it.
+    pub enqueue-fine : (front : Bool) → PriorityFits (recordOf t i .parameters .policy)
+        → Fine cpu queued (including i queued) i q t (enqueueCall front t q i cpu)
     enqueue-fine front p = enqueue-by front p (verdict t q i (S .forest .small) (S .running))
 
     -- A thread that is queued is not enqueued again: Already, with nothing changed.
-    pub enqueue-again : (front : Bool) → queued i ≡ true → enqueueCall front t q i cpu ≡ out (step (refused 3) q) t
+    pub enqueue-again : (front : Bool) → queued i ≡ true
+        → enqueueCall front t q i cpu ≡ out (step (refused already) q) t
     unfolding enqueueCall choose
     enqueue-again front e =
         let Q = S .threads i e in
-        let F = filing (recordOf t i .parameters) (recordOf t i .runtime) (listed-not-idle (recordOf t i .parameters .policy) (Q .listed)) in
+        let F = filing (recordOf t i .parameters) (recordOf t i .runtime)
+        (listed-not-idle (recordOf t i .parameters .policy) (Q .listed)) in
         judged-passes t q i (F .tree) _ (S .forest .small) (S .running) (queued-inside S i e) (Q .judged) (F .is)
         ∙ rw (queued-membership S i e, in-a-list cpu (listFor (recordOf t i .parameters .policy)))
 
@@ -111,10 +135,14 @@ module _ {cpu : CpuIndex} {queued : ℕ → Bool} {q : CpuRunQueue} {t : List Th
     unfolding removeCall onAnswer
     absent-by e (refuses n r) = (n, r _)
     absent-by e (passes l b d) =
-        let F = filing (recordOf t i .parameters) (recordOf t i .runtime) d in
-        (1, judged-passes t q i (F .tree) _ (S .forest .small) (S .running) l b (F .is) ∙ rw (in-no-tree S i e l (F .tree) (F .is) (F .low)))
+        let F = filing (recordOf t i .parameters) (recordOf t i .runtime) d in (
+          1,
+          judged-passes t q i (F .tree) _ (S .forest .small) (S .running) l b (F .is)
+              ∙ rw (in-no-tree S i e l (F .tree) (F .is) (F .low)),
+        )
 
-    -- A thread that is not queued is not removed, whatever its links and membership say: a refusal, with nothing changed.
+    -- A thread that is not queued is not removed, whatever its links and membership say: a refusal, with nothing
+    -- changed.
     pub remove-absent : queued i ≡ false → (n : ℕ) × (removeCall t q i cpu ≡ out (step (refused n) q) t)
     remove-absent e = absent-by e (verdict t q i (S .forest .small) (S .running))
 
@@ -126,7 +154,8 @@ module _ {cpu : CpuIndex} {queued : ℕ → Bool} {q : CpuRunQueue} {t : List Th
         go true e = made (removed S i e)
         go false e = let r = remove-absent e in unchanged (r .0) (r .1)
 
-    left-by : {after : ℕ → Bool} (o : Out (Step (Unit {0}))) (r : CpuRunQueue) (s : List ThreadRecord) → Fine cpu queued after i q t o → o ≡ out (step (value tt) r) s
+    left-by : {after : ℕ → Bool} (o : Out (Step (Unit {0}))) (r : CpuRunQueue) (s : List ThreadRecord)
+        → Fine cpu queued after i q t o → o ≡ out (step (value tt) r) s
         → Kept cpu queued after i t r s
     left-by {after} o r s (unchanged n e) f =
         let z : out (step (refused n) q) t ≡ out (step (value tt) r) s = sym e ∙ f in
@@ -135,19 +164,25 @@ module _ {cpu : CpuIndex} {queued : ℕ → Bool} {q : CpuRunQueue} {t : List Th
         let z : out (step (value tt) (A .queue)) (A .table) ≡ out (step (value tt) r) s = sym (A .is) ∙ f in
         let x : A .queue ≡ r = cc in
         let y : A .table ≡ s = cc in
-        subst (λ (u : List ThreadRecord). Kept cpu queued after i t r u) y (subst (λ (p : CpuRunQueue). Kept cpu queued after i t p (A .table)) x (A .kept))
+        subst (λ (u : List ThreadRecord). Kept cpu queued after i t r u) y
+        (subst (λ (p : CpuRunQueue). Kept cpu queued after i t p (A .table)) x (A .kept))
 
-    -- Every accepted enqueue leaves a sound queue with exactly this thread more, and of every other record all but its links,
-    pub enqueue-sound : (front : Bool) (r : CpuRunQueue) (s : List ThreadRecord) → PriorityFits (recordOf t i .parameters .policy)
+    -- Every accepted enqueue leaves a sound queue with exactly this thread more, and of every other record all but its
+    -- links,
+    pub enqueue-sound : (front : Bool) (r : CpuRunQueue) (s : List ThreadRecord)
+        → PriorityFits (recordOf t i .parameters .policy)
         → enqueueCall front t q i cpu ≡ out (step (value tt) r) s → Kept cpu queued (including i queued) i t r s
     enqueue-sound front r s p e = left-by (enqueueCall front t q i cpu) r s (enqueue-fine front p) e
 
     -- and every accepted removal one with exactly this thread less.
-    pub remove-sound : (r : CpuRunQueue) (s : List ThreadRecord) → removeCall t q i cpu ≡ out (step (value tt) r) s → Kept cpu queued (excluding i queued) i t r s
+    pub remove-sound : (r : CpuRunQueue) (s : List ThreadRecord) → removeCall t q i cpu ≡ out (step (value tt) r) s
+        → Kept cpu queued (excluding i queued) i t r s
     remove-sound r s e = left-by (removeCall t q i cpu) r s remove-fine e
 
--- After any accepted calls from an empty queue, with changes of any kind to records that are not queued, the queue is sound.
-pub reached-sound : {cpu : CpuIndex} {queued : ℕ → Bool} {q : CpuRunQueue} {t : List ThreadRecord} → Reached cpu queued q t → Sound cpu queued q t
+-- After any accepted calls from an empty queue, with changes of any kind to records that are not queued, the queue is
+-- sound.
+pub reached-sound : {cpu : CpuIndex} {queued : ℕ → Bool} {q : CpuRunQueue} {t : List ThreadRecord}
+    → Reached cpu queued q t → Sound cpu queued q t
 reached-sound {cpu} (reached.new t n) = new-sound cpu t n
 reached-sound (reached.enqueued queued q r t s front i p b e) = enqueue-sound (reached-sound p) i front r s b e .sound
 reached-sound (reached.removed queued q r t s i p e) = remove-sound (reached-sound p) i r s e .sound
@@ -157,7 +192,9 @@ policy-fits : (tag priority : ℕ) → PriorityFits (policyFrom tag priority)
 unfolding policyFrom ifEqual choose
 policy-fits tag priority = go (eqb tag 0) (eqb tag 1) (eqb tag 2)
   where
-    go : (x y z : Bool) → PriorityFits (choose x (policy.Fifo (record { 0 = priority % 256 })) (choose y policy.Fair (choose z policy.Budget policy.Idle)))
+    go : (x y z : Bool) → PriorityFits
+        (choose x (policy.Fifo (record { 0 = priority % 256 }))
+        (choose y policy.Fair (choose z policy.Budget policy.Idle)))
     go true y z = mod-lt priority (omega arith)
     go false true z = tt
     go false false true = tt
@@ -166,4 +203,6 @@ policy-fits tag priority = go (eqb tag 0) (eqb tag 1) (eqb tag 2)
 -- In a table that rows stand for, every priority is a byte.
 pub rows-fit : (rows : List (List ℕ)) (i : ℕ) → PriorityFits (recordOf (table rows) i .parameters .policy)
 unfolding table recordOf decoded parametersOf
-rows-fit rows i = subst (λ (r : ThreadRecord). PriorityFits (r .parameters .policy)) (sym (List·getD-map decoded rows i [])) (policy-fits _ _)
+rows-fit rows i =
+    subst (λ (r : ThreadRecord). PriorityFits (r .parameters .policy)) (sym (List·getD-map decoded rows i []))
+    (policy-fits _ _)

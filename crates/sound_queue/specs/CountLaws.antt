@@ -36,7 +36,8 @@ count-none zero f h = refl
 count-none (suc n) f h = rw (h n (omega arith)) (count-none n f (λ j l. h j (omega arith)))
 
 -- One number that did not have the property, and now perhaps has it.
-pub count-one : (n i : ℕ) (f g : ℕ → Bool) → i < n → ((j : ℕ) → j ≢ i → g j ≡ f j) → f i ≡ false → count n g ≡ choose (g i) (suc (count n f)) (count n f)
+pub count-one : (n i : ℕ) (f g : ℕ → Bool) → i < n → ((j : ℕ) → j ≢ i → g j ≡ f j) → f i ≡ false
+    → count n g ≡ choose (g i) (suc (count n f)) (count n f)
 unfolding count choose
 count-one zero i f g l h e = absurd (omega arith)
 count-one (suc n) i f g l h e = same-or-not n i
@@ -44,19 +45,23 @@ count-one (suc n) i f g l h e = same-or-not n i
     (λ z. rw (h n z) (go (f n) (g i) (count-one n i f g (omega arith) h e)))
   where
     go : (x y : Bool) → count n g ≡ choose y (suc (count n f)) (count n f)
-        → choose x (suc (count n g)) (count n g) ≡ choose y (suc (choose x (suc (count n f)) (count n f))) (choose x (suc (count n f)) (count n f))
+        → choose x (suc (count n g)) (count n g) ≡ choose y (suc (choose x (suc (count n f)) (count n f)))
+        (choose x (suc (count n f)) (count n f))
     go true true q = ap suc q
     go true false q = ap suc q
     go false true q = q
     go false false q = q
 
 -- A sequence of different numbers below n is as long as its numbers are many.
-pub length-counts : (n : ℕ) (l : List ℕ) → Distinct l → ((j : ℕ) → has j l ≡ true → j < n) → length l ≡ count n (λ j. has j l)
+pub length-counts : (n : ℕ) (l : List ℕ) → Distinct l → ((j : ℕ) → has j l ≡ true → j < n)
+    → length l ≡ count n (λ j. has j l)
 unfolding choose
 length-counts n [] d h = sym (count-none n (λ j. false) (λ j l. refl))
 length-counts n (i ∷ l) d h =
-    let one = count-one n i (λ j. has j l) (λ j. has j (i ∷ l)) (h i (has-first i l)) (λ j z. rw (ne-eqb j i z)) (d .first) in
+    let one = count-one n i (λ j. has j l) (λ j. has j (i ∷ l)) (h i (has-first i l)) (λ j z. rw (ne-eqb j i z))
+    (d .first) in
     ap suc (length-counts n l (d .rest) (λ j z. h j (has-rest j i l z))) ∙ sym (more one)
   where
-    more : count n (λ j. has j (i ∷ l)) ≡ choose (has i (i ∷ l)) (suc (count n (λ j. has j l))) (count n (λ j. has j l)) → count n (λ j. has j (i ∷ l)) ≡ suc (count n (λ j. has j l))
+    more : count n (λ j. has j (i ∷ l)) ≡ choose (has i (i ∷ l)) (suc (count n (λ j. has j l))) (count n (λ j. has j l))
+        → count n (λ j. has j (i ∷ l)) ≡ suc (count n (λ j. has j l))
     more e = e ∙ rw (has-first i l)

@@ -20,7 +20,7 @@ use Rattle.thread.specs.declared.ThreadRecord.{ThreadRecord}
 use Rattle.thread.specs.Membership.{onMembership, isUnqueued}
 use Rattle.thread.specs.Judgement.{isBadRecord}
 use Rattle.thread.specs.Filing.{indexFor, onIndex}
-use Rattle.rows.specs.Table.{Out, out, answer, after, recordOf, recordAt}
+use Rattle.rows.specs.Table.{Out, out, answer, after, recordOf, recordAt, maxRecords}
 use Rattle.rows.specs.TableCases.{onRecord}
 use Rattle.rows.specs.TableLaws.{record-within}
 use Rattle.lists.specs.Checks.{maxLength}
@@ -30,7 +30,7 @@ use Rattle.sound_lists.specs.MembersLaws.{has-first}
 use Rattle.sound_lists.specs.Sound.{HoldsList, MayJoin}
 use Rattle.sound_lists.specs.Sound as list
 use Rattle.sound_lists.specs.Insertion.{push-holds, push-front-holds}
-use Rattle.queue.specs.declared.CpuRunQueue.{CpuRunQueue}
+use Rattle.queue.specs.RunQueue.{CpuRunQueue, treeCount}
 use Rattle.queue_work.specs.declared.Parts.{Parts}
 use Rattle.queue_work.specs.Work.{pushAt, insertWork}
 use Rattle.queue.specs.Queue.{Step, step, emptyRoot, partsOf, withParts, worked, isFifo, isBudget, judged, enqueueCall}
@@ -40,35 +40,57 @@ use Rattle.sound_queue.specs.ForestLaws.{forest-still, planted}
 use Rattle.sound_queue.specs.Count.{count}
 use Rattle.sound_queue.specs.CountLaws.{count-most}
 use Rattle.sound_queue.specs.Lists.{listAt, membershipAt, listFor, rowOf, Lists}
-use Rattle.sound_queue.specs.ListsLaws.{lists-still, lists-same, list-counts, list-joined, back-same, back-here, front-same}
+use Rattle.sound_queue.specs.ListsLaws.{lists-still, lists-same, list-counts, list-joined, back-same, back-here}
+use Rattle.sound_queue.specs.ListsLaws.{front-same}
 use Rattle.sound_queue.specs.Sound.{by-filing, Queued, queuedOf, Sound, including, Accepted, MayEnqueue}
-use Rattle.sound_queue.specs.LinksLaws.{besides-queue-links, list-stores-links, list-stores-key, list-stores-length, both-stores}
-use Rattle.sound_queue.specs.PartsLaws.{list-of, membership-for, list-for, assigned-to, in-a-list, list-stored, list-stored-other, priorities-stored, rest-stored, filing, total-in, counted-in, insert-work}
-use Rattle.sound_queue.specs.SoundLaws.{included, included-other, row-not-queued, row-included, counted, sound-by, not-queued-placed, queued-membership}
+use Rattle.sound_queue.specs.LinksLaws.{besides-queue-links, list-stores-links, list-stores-key}
+use Rattle.sound_queue.specs.LinksLaws.{list-stores-length, both-stores}
+use Rattle.sound_queue.specs.PartsLaws.{list-of, membership-for, list-for, assigned-to, in-a-list, list-stored}
+use Rattle.sound_queue.specs.PartsLaws.{list-stored-other, priorities-stored, rest-stored, filing, total-in}
+use Rattle.sound_queue.specs.PartsLaws.{counted-in, insert-work}
+use Rattle.sound_queue.specs.SoundLaws.{included, included-other, row-not-queued, row-included, counted}
+use Rattle.sound_queue.specs.SoundLaws.{sound-by, not-queued-placed, queued-membership}
 
 -- The checks before a call's work, where none of them refuses.
-pub judged-passes : {A : Type 0} (t : List ThreadRecord) (q : CpuRunQueue) (i k : ℕ) (f : ThreadRecord → ℕ → Out (Step A)) → length t ≤ 4096 → q .halted ≡ false → i < length t
-    → isBadRecord (recordOf t i) ≡ false → indexFor (recordOf t i .parameters) (recordOf t i .runtime) ≡ index.Index k → judged t q i f ≡ f (recordOf t i) k
+pub judged-passes : {A : Type 0} (t : List ThreadRecord) (q : CpuRunQueue) (i k : ℕ)
+    (f : ThreadRecord → ℕ → Out (Step A)) → length t ≤ maxRecords → q .halted ≡ false → i < length t
+    → isBadRecord (recordOf t i) ≡ false → indexFor (recordOf t i .parameters) (recordOf t i .runtime) ≡ index.Index k
+    → judged t q i f ≡ f (recordOf t i) k
 unfolding judged ifLess choose onRecord onIndex
-judged-passes t q i k f n h l b e = rw (le-ltb 4096 (length t) n, h, record-within t i l, b, e)
+judged-passes t q i k f n h l b e = rw (le-ltb maxRecords (length t) n, h, record-within t i l, b, e)
 
 -- An answer and the table beside it.
 pub out-is : {A : Type 0} (x : Out A) (a : A) → answer x ≡ a → x ≡ out a (after x)
 out-is (out b t) a e = ap (λ y. out y t) e
 
 -- A list with one thread more, at either end.
-pub record Joins (front : Bool) (t : List ThreadRecord) (q : ThreadQueue) (members : List ℕ) (i : ℕ) (m : QueueMembership) : Type 0 where
+pub record Joins (front : Bool) (t : List ThreadRecord) (q : ThreadQueue) (members : List ℕ) (i : ℕ)
+    (m : QueueMembership) : Type 0 where
   pub now : List ℕ
   pub accepted : list.Accepted t (pushAt front t q i m) members i now m
   pub here : has i now ≡ true
   pub same : (j : ℕ) → j ≢ i → has j now ≡ has j members
 
-joins : (front : Bool) (t : List ThreadRecord) (q : ThreadQueue) (members : List ℕ) (i : ℕ) (m : QueueMembership) → HoldsList t q members m → MayJoin t q members i m → Joins front t q members i m
+joins : (front : Bool) (t : List ThreadRecord) (q : ThreadQueue) (members : List ℕ) (i : ℕ) (m : QueueMembership)
+    → HoldsList t q members m → MayJoin t q members i m → Joins front t q members i m
 unfolding pushAt choose
-joins true t q members i m L J = record { now = i ∷ members; accepted = push-front-holds i L J; here = has-first i members; same = front-same i members }
-joins false t q members i m L J = record { now = members ++ i ∷ []; accepted = push-holds i L J; here = back-here i members; same = back-same i members }
+joins true t q members i m L J =
+    record {
+      now = i ∷ members;
+      accepted = push-front-holds i L J;
+      here = has-first i members;
+      same = front-same i members;
+    }
+joins false t q members i m L J =
+    record {
+      now = members ++ i ∷ [];
+      accepted = push-holds i L J;
+      here = back-here i members;
+      same = back-same i members;
+    }
 
-module _ {cpu : CpuIndex} {queued : ℕ → Bool} {q : CpuRunQueue} {t : List ThreadRecord} (S : Sound cpu queued q t) (i : ℕ) (M : MayEnqueue cpu t i) where
+module _ {cpu : CpuIndex} {queued : ℕ → Bool} {q : CpuRunQueue} {t : List ThreadRecord} (S : Sound cpu queued q t)
+    (i : ℕ) (M : MayEnqueue cpu t i) where
   -- A thread in no list is not queued.
   pub unqueued-not-queued : queued i ≡ false
   unfolding isUnqueued onMembership
@@ -101,7 +123,8 @@ module _ {cpu : CpuIndex} {queued : ℕ → Bool} {q : CpuRunQueue} {t : List Th
     room = few (λ j. eqb (rowOf queued t j) row) (listAt q row .len) (list-counts (S .lists) row row-low);
   }
 
-  module _ (front : Bool) (J : Joins front t (listAt q row) (S .lists .members row) i (membershipAt cpu row)) (k : ℕ) (low : k < 12)
+  module _ (front : Bool) (J : Joins front t (listAt q row) (S .lists .members row) i (membershipAt cpu row)) (k : ℕ)
+      (low : k < treeCount)
       (filed : indexFor (recordOf t i .parameters) (recordOf t i .runtime) ≡ index.Index k) where
     abbrev listed : List ThreadRecord
     listed = after (pushAt front t (listAt q row) i (membershipAt cpu row))
@@ -111,13 +134,18 @@ module _ {cpu : CpuIndex} {queued : ℕ → Bool} {q : CpuRunQueue} {t : List Th
 
     listed-forest : Forest (q .indices) listed (S .place)
     listed-forest = forest-still listed (omega (arith, S .forest .small, listed-length))
-        (λ j b. (list-stores-links t listed j (J .accepted .rest), list-stores-key t listed j (J .accepted .rest))) (S .forest)
+        (λ j b. (list-stores-links t listed j (J .accepted .rest), list-stores-key t listed j (J .accepted .rest)))
+        (S .forest)
 
     abbrev Planted : Type 0
-    Planted = Replanted (q .indices) listed k i (S .place) (placed i k (S .place)) (insert listed (getD (q .indices) k emptyRoot .root) i)
+    Planted =
+        Replanted (q .indices) listed k i (S .place) (placed i k (S .place))
+        (insert listed (getD (q .indices) k emptyRoot .root) i)
 
     is-planted : Planted
-    is-planted = planted listed-forest k low i (not-queued-placed S i unqueued-not-queued) (omega (arith, listed-length, M .below))
+    is-planted =
+        planted listed-forest k low i (not-queued-placed S i unqueued-not-queued)
+        (omega (arith, listed-length, M .below))
 
     abbrev total : ℕ
     total = count (length t) (queuedOf isFifo (including i queued) t)
@@ -127,7 +155,9 @@ module _ {cpu : CpuIndex} {queued : ℕ → Bool} {q : CpuRunQueue} {t : List Th
 
     total-is : (p : SchedulingPolicy → Bool) (n : ℕ) → n ≡ count (length t) (queuedOf p queued t)
         → count (length t) (queuedOf p (including i queued) t) ≡ choose (p (recordOf t i .parameters .policy)) (suc n) n
-    total-is p n e = rw e (counted p queued (including i queued) t i (M .below) (included-other i queued) unqueued-not-queued (included i queued))
+    total-is p n e =
+        rw e (counted p queued (including i queued) t i (M .below) (included-other i queued) unqueued-not-queued
+        (included i queued))
 
     module _ (R : Planted) where
       abbrev parts : Parts
@@ -140,13 +170,14 @@ module _ {cpu : CpuIndex} {queued : ℕ → Bool} {q : CpuRunQueue} {t : List Th
       new-lists =
           lists-same (rowOf (including i queued) t) (row-included i queued t)
           (lists-still (R .table) (λ j b. besides-queue-links listed (R .table) j (R .besides))
-          (list-joined (S .lists) row row-low i (J .accepted) (listAt queue) (list-stored q cpu k parts row row-low (S .priorities))
+          (list-joined (S .lists) row row-low i (J .accepted) (listAt queue)
+          (list-stored q cpu k parts row row-low (S .priorities))
           (λ m c d. list-stored-other q cpu k parts row m d)
           (omega (arith, row-not-queued queued t i unqueued-not-queued)) (J .here) (J .same)))
 
-      new-stands : (j : ℕ) → ltb (placed i k (S .place) j) 12 ≡ including i queued j
+      new-stands : (j : ℕ) → ltb (placed i k (S .place) j) treeCount ≡ including i queued j
       new-stands j = same-or-not j i
-          (λ e. rw (e, placed-same i k (S .place)) (lt-ltb k 12 low ∙ sym (included i queued)))
+          (λ e. rw (e, placed-same i k (S .place)) (lt-ltb k treeCount low ∙ sym (included i queued)))
           (λ e. rw (placed-other i k (S .place) j e) (S .stands j ∙ sym (included-other i queued j e)))
 
       new-threads : (j : ℕ) → including i queued j ≡ true → Queued cpu (recordOf t j) (placed i k (S .place) j)
@@ -158,8 +189,10 @@ module _ {cpu : CpuIndex} {queued : ℕ → Bool} {q : CpuRunQueue} {t : List Th
       new-sound : Sound cpu (including i queued) queue (R .table)
       new-sound =
           let s = rest-stored q cpu k parts row in
-          sound-by t (R .table) (both-stores t listed (R .table) (J .accepted .rest) (R .besides)) (including i queued) cpu queue (placed i k (S .place))
-          (rw (s .0) (R .forest)) new-stands new-threads (priorities-stored q cpu k parts row ∙ S .priorities) new-lists (s .1) (s .2) (s .3 ∙ S .running)
+          sound-by t (R .table) (both-stores t listed (R .table) (J .accepted .rest) (R .besides))
+          (including i queued) cpu queue (placed i k (S .place))
+          (rw (s .0) (R .forest)) new-stands new-threads (priorities-stored q cpu k parts row ∙ S .priorities) new-lists
+          (s .1) (s .2) (s .3 ∙ S .running)
 
       new-others : (j : ℕ) → queued j ≡ false → j ≢ i → recordAt (R .table) j ≡ recordAt t j
       new-others j e d =
@@ -167,34 +200,52 @@ module _ {cpu : CpuIndex} {queued : ℕ → Bool} {q : CpuRunQueue} {t : List Th
           ∙ J .accepted .others j (S .lists .exact j row row-low ∙ ne-eqb (rowOf queued t j) row
           (λ z. let a = row-not-queued queued t j e in let b = row-low in omega arith)) d .0
 
-      work-is : worked q (membershipAt cpu row) k (insertWork front (isFifo (recordOf t i .parameters .policy)) (isBudget (recordOf t i .parameters .policy)) t (partsOf q (membershipAt cpu row) k) i (membershipAt cpu row))
+      work-is : worked q (membershipAt cpu row) k
+          (insertWork front (isFifo (recordOf t i .parameters .policy)) (isBudget (recordOf t i .parameters .policy)) t
+          (partsOf q (membershipAt cpu row) k) i (membershipAt cpu row))
           ≡ out (step (value tt) queue) (R .table)
       unfolding worked partsOf
       work-is =
-          rw (insert-work (isFifo (recordOf t i .parameters .policy)) (isBudget (recordOf t i .parameters .policy)) t listed (R .table) (partsOf q (membershipAt cpu row) k) parts i
+          rw (insert-work (isFifo (recordOf t i .parameters .policy))
+          (isBudget (recordOf t i .parameters .policy)) t listed (R .table) (partsOf q (membershipAt cpu row) k) parts i
           (membershipAt cpu row) total (J .accepted .list) (R .link) front
-          (total-in (isFifo (recordOf t i .parameters .policy)) (q .«realtime_len») total (few (queuedOf isFifo queued t) (q .«realtime_len») (S .total)) (total-is isFifo (q .«realtime_len») (S .total)))
-          (rw (list-of q cpu row) (out-is (pushAt front t (listAt q row) i (membershipAt cpu row)) (value (J .accepted .list)) (J .accepted .accepted)))
+          (total-in (isFifo (recordOf t i .parameters .policy)) (q .«realtime_len») total
+          (few (queuedOf isFifo queued t) (q .«realtime_len») (S .total))
+          (total-is isFifo (q .«realtime_len») (S .total)))
+          (rw (list-of q cpu row) (out-is (pushAt front t (listAt q row) i (membershipAt cpu row))
+          (value (J .accepted .list)) (J .accepted .accepted)))
           (R .is)
-          (counted-in (isBudget (recordOf t i .parameters .policy)) _ budgets (few (queuedOf isBudget queued t) (q .«budget_threads») (S .budgets)) (total-is isBudget (q .«budget_threads») (S .budgets))))
+          (counted-in (isBudget (recordOf t i .parameters .policy)) _ budgets
+          (few (queuedOf isBudget queued t) (q .«budget_threads») (S .budgets))
+          (total-is isBudget (q .«budget_threads») (S .budgets))))
 
       call-is : enqueueCall front t q i cpu ≡ out (step (value tt) queue) (R .table)
       unfolding enqueueCall choose ifEqual given isUnqueued onMembership
       call-is =
           judged-passes t q i k _ (S .forest .small) (S .running) (M .below) (M .judged) filed
-          ∙ rw (M .unqueued, eq-eqb (recordOf t i .cpu .0) (cpu .0) (M .assigned), membership-for (recordOf t i .parameters .policy) cpu (M .notIdle)) work-is
+          ∙ rw (
+            M .unqueued,
+            eq-eqb (recordOf t i .cpu .0) (cpu .0) (M .assigned),
+            membership-for (recordOf t i .parameters .policy) cpu (M .notIdle),
+          ) work-is
 
       enqueued-by : Accepted cpu queued (including i queued) i t (enqueueCall front t q i cpu)
       enqueued-by = record {
         queue = queue;
         table = R .table;
         is = call-is;
-        kept = record { sound = new-sound; besides = both-stores t listed (R .table) (J .accepted .rest) (R .besides); others = new-others };
+        kept =
+            record {
+              sound = new-sound;
+              besides = both-stores t listed (R .table) (J .accepted .rest) (R .besides);
+              others = new-others;
+            };
       }
 
   -- An enqueue that no rule of document 01 refuses is accepted, at either end.
   pub enqueued : (front : Bool) → Accepted cpu queued (including i queued) i t (enqueueCall front t q i cpu)
   enqueued front =
-      let J = joins front t (listAt q row) (S .lists .members row) i (membershipAt cpu row) (S .lists .holds row row-low) may-join in
+      let J = joins front t (listAt q row) (S .lists .members row) i (membershipAt cpu row)
+      (S .lists .holds row row-low) may-join in
       let F = filing (recordOf t i .parameters) (recordOf t i .runtime) (M .notIdle) in
       enqueued-by front J (F .tree) (F .low) (F .is) (is-planted front J (F .tree) (F .low) (F .is))

@@ -9,34 +9,37 @@ use Rattle.refusal.specs.Cases.{choose}
 use Rattle.avl.specs.Tree.{Tree, inOrder, Balanced}
 use Rattle.thread.specs.declared.Link.{Link}
 use Rattle.thread.specs.declared.ThreadRecord.{ThreadRecord}
-use Rattle.rows.specs.Table.{Out, out, recordAt}
+use Rattle.rows.specs.Table.{Out, out, recordAt, maxRecords}
 use Rattle.ready_index.specs.declared.Rooted.{Rooted}
 use Rattle.ready_index.specs.declared.Rooted.the-variants as rooted
 use Rattle.sound_index.specs.Holds.{root, Holds, has, besidesLinks}
 use Rattle.queue.specs.declared.Root.{Root}
 use Rattle.queue.specs.Queue.{emptyRoot}
+use Rattle.queue.specs.RunQueue.{treeCount}
 
--- The table holds twelve balanced trees under these roots. `place` gives the tree in which a thread stands, 12 or more where it stands in none:
--- each tree has exactly the threads placed in it, so that no two have one in common.
+-- The table holds twelve balanced trees under these roots. `place` gives the tree in which a thread stands, 12 or more
+-- where it stands in none: each tree has exactly the threads placed in it, so that no two have one in common.
 pub record Forest (roots : List Root) (t : List ThreadRecord) (place : ℕ → ℕ) : Type 0 where
   pub trees : ℕ → Tree
-  pub small : length t ≤ 4096
-  pub twelve : length roots ≡ 12
-  pub rooted : (k : ℕ) → k < 12 → getD roots k emptyRoot .root ≡ root (trees k)
-  pub holds : (k : ℕ) → k < 12 → Holds t (trees k)
-  pub balanced : (k : ℕ) → k < 12 → Balanced (trees k)
-  pub exact : (j k : ℕ) → k < 12 → has j (inOrder (trees k)) ≡ eqb (place j) k
+  pub small : length t ≤ maxRecords
+  pub twelve : length roots ≡ treeCount
+  pub rooted : (k : ℕ) → k < treeCount → getD roots k emptyRoot .root ≡ root (trees k)
+  pub holds : (k : ℕ) → k < treeCount → Holds t (trees k)
+  pub balanced : (k : ℕ) → k < treeCount → Balanced (trees k)
+  pub exact : (j k : ℕ) → k < treeCount → has j (inOrder (trees k)) ≡ eqb (place j) k
 
 -- Thread i placed at k, every other as it was.
 unfoldable pub placed : ℕ → ℕ → (ℕ → ℕ) → ℕ → ℕ
 placed i k place j = choose (eqb j i) k (place j)
 
--- An accepted call for thread i on tree k: a root is answered, with which the twelve trees then stand as `after` places the threads.
--- Of every record only the tree links changed, and no record changed at all that is neither i nor in a tree.
-pub record Replanted (roots : List Root) (t : List ThreadRecord) (k i : ℕ) (place after : ℕ → ℕ) (o : Out Rooted) : Type 0 where
+-- An accepted call for thread i on tree k: a root is answered, with which the twelve trees then stand as `after` places
+-- the threads. Of every record only the tree links changed, and no record changed at all that is neither i nor in a
+-- tree.
+pub record Replanted (roots : List Root) (t : List ThreadRecord) (k i : ℕ) (place after : ℕ → ℕ)
+    (o : Out Rooted) : Type 0 where
   pub table : List ThreadRecord
   pub link : Link
   pub is : o ≡ out (rooted.Root link) table
   pub forest : Forest (set roots k (record { root = link })) table after
   pub besides : besidesLinks table ≡ besidesLinks t
-  pub others : (j : ℕ) → 12 ≤ place j → j ≢ i → recordAt table j ≡ recordAt t j
+  pub others : (j : ℕ) → treeCount ≤ place j → j ≢ i → recordAt table j ≡ recordAt t j

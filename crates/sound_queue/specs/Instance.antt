@@ -1,4 +1,5 @@
--- A small sound queue, by computation: the premises of the theorems can be met, and a budget thread does stand in a partner tree.
+-- A small sound queue, by computation: the premises of the theorems can be met, and a budget thread does stand in a
+-- partner tree.
 use Prim.Native.Nat.{ℕ}
 use mathlib.Core.Path.{_≡_, refl}
 use mathlib.Core.Bool.{true, false, Bool}
@@ -11,23 +12,29 @@ use Rattle.policy.specs.Budget.{soundBudget}
 use Rattle.algorithms.specs.Runtime.{onRuntime, sameKind, candidateKey}
 use Rattle.avl.specs.Rotation.{leanOf, onLean}
 use Rattle.thread.specs.declared.ThreadRecord.{ThreadRecord}
-use Rattle.thread.specs.Membership.{onLink, onMembership, onCpu, isNone, pointsTo, isUnqueued, isReadyRealTime, isReadyFair, isWaiting, isTerminated, sameMembership, readyCpu}
+use Rattle.thread.specs.Membership.{onLink, onMembership, onCpu, isNone, pointsTo, isUnqueued, isReadyRealTime}
+use Rattle.thread.specs.Membership.{isReadyFair, isWaiting, isTerminated, sameMembership, readyCpu}
 use Rattle.thread.specs.Judgement.{hasBudget, isBadBudget, isBadRecord}
 use Rattle.thread.specs.Filing.{budgetAvailable, roleIndex, indexFor, onIndex}
 use Rattle.thread.specs.Records.{withRuntime}
 use Rattle.thread.specs.TreeKey.{algorithmKey, treeKey, readyIndexKey, parts, compareTreeKeys}
-use Rattle.rows.specs.Table.{recordOf, changed, reading, storing, linksAt, keyAt, queueLinksAt, recordAt, setLinks, setQueueLinks}
+use Rattle.rows.specs.Table.{recordOf, changed, reading, storing, linksAt, keyAt, queueLinksAt, recordAt, setLinks}
+use Rattle.rows.specs.Table.{setQueueLinks}
 use Rattle.rows.specs.TableCases.{onLinks, onKey, onQueueLinks, onRecord, onMade}
-use Rattle.lists.specs.Checks.{assignedTo, headAgrees, tailAgrees, endsAgree, preflightInsert, previousValid, nextValid, validateNeighbors}
-use Rattle.lists.specs.Lists.{onAnswer, onOut, setNext, setPrevious, commitInsert, commitRemove, append, prepend, push, pushFront, updatePreviousLink, updateNextLink, unlink}
+use Rattle.lists.specs.Checks.{assignedTo, headAgrees, tailAgrees, endsAgree, preflightInsert, previousValid}
+use Rattle.lists.specs.Checks.{nextValid, validateNeighbors}
+use Rattle.lists.specs.Lists.{onAnswer, onOut, setNext, setPrevious, commitInsert, commitRemove, append, prepend, push}
+use Rattle.lists.specs.Lists.{pushFront, updatePreviousLink, updateNextLink, unlink}
 use Rattle.lists.specs.Lists as list
 use Rattle.rotations.specs.Cases.{onHeight, onTurned}
 use Rattle.ready_index.specs.Cases.{onRooted, onWay, onSought}
 use Rattle.rotations.specs.Balance.{height, larger, update, rotateLeft, rotateRight, balanceLeft, balanceRight, balance}
-use Rattle.ready_index.specs.Index.{wayAt, lookFor, contains, onWalk, walk, hung, rebuildStep, rebuild, insert, soughtAt, onSearch, search, onSuccessor, successor, replace}
+use Rattle.ready_index.specs.Index.{wayAt, lookFor, contains, onWalk, walk, hung, rebuildStep, rebuild, insert}
+use Rattle.ready_index.specs.Index.{soughtAt, onSearch, search, onSuccessor, successor, replace}
 use Rattle.ready_index.specs.Index as index
 use Rattle.queue_work.specs.Work.{countedIn, countedOut, totalIn, totalOut, pushAt, insertWork, removeWork}
-use Rattle.queue.specs.Queue.{newQueue, listOf, partsOf, withParts, worked, isFifo, isBudget, membershipFor, judged, enqueueCall, partner, onContained, treeWith, removeReady, removeFrom, removeCall}
+use Rattle.queue.specs.Queue.{newQueue, listOf, partsOf, withParts, worked, isFifo, isBudget, membershipFor, judged}
+use Rattle.queue.specs.Queue.{enqueueCall, partner, onContained, treeWith, removeReady, removeFrom, removeCall}
 use Rattle.queue.specs.Samples.{nine, enqueueAt, Left, made, andAfter, then, leftBy, budgetThread, cpu}
 use native.Mathlib.Omega.{arith}
 use Rattle.sound_queue.specs.Sound.{Sound, including, excluding, Accepted, MayEnqueue}
@@ -54,7 +61,8 @@ ranOut = changed (two .table) 2 (withRuntime (budgetThread 0 .runtime))
 -- What computation gives of the sample table and of these calls.
 pub record Computed : Type 0 where
   -- No rule refuses the FIFO thread of the sample table, nor the fair one, nor either budget thread.
-  pub mayEnqueue : (MayEnqueue (cpu 0) nine 0) × (MayEnqueue (cpu 0) nine 1) × (MayEnqueue (cpu 0) nine 2) × (MayEnqueue (cpu 0) nine 3)
+  pub mayEnqueue : (MayEnqueue (cpu 0) nine 0) × (MayEnqueue (cpu 0) nine 1) × (MayEnqueue (cpu 0) nine 2)
+      × (MayEnqueue (cpu 0) nine 3)
   -- Two accepted calls lead to the pair.
   pub reached : Reached (cpu 0) pair (two .queue) (two .table)
   -- The second is a queued budget thread, and its record is not bad when its time has run out.
@@ -63,16 +71,35 @@ pub record Computed : Type 0 where
   pub judged : isBadRecord (withRuntime (budgetThread 0 .runtime) (recordOf (two .table) 2)) ≡ false
 
 pub computed : Computed
-unfolding choose ifLess ifEqual given compareNumbers thenBy compareParts onOrdering onPolicy onRole onBackend onBudget soundBudget onRuntime sameKind candidateKey leanOf onLean onLink onMembership onCpu isNone pointsTo isUnqueued isReadyRealTime isReadyFair isWaiting isTerminated sameMembership readyCpu hasBudget isBadBudget isBadRecord budgetAvailable roleIndex indexFor onIndex algorithmKey treeKey readyIndexKey parts compareTreeKeys recordOf changed reading storing linksAt keyAt queueLinksAt recordAt setLinks setQueueLinks onLinks onKey onQueueLinks onRecord onMade assignedTo headAgrees tailAgrees endsAgree preflightInsert previousValid nextValid validateNeighbors onAnswer onOut setNext setPrevious commitInsert commitRemove append prepend push pushFront updatePreviousLink updateNextLink unlink list.remove onHeight onTurned onRooted onWay onSought height larger update rotateLeft rotateRight balanceLeft balanceRight balance wayAt lookFor contains onWalk walk hung rebuildStep rebuild insert soughtAt onSearch search onSuccessor successor replace index.remove countedIn countedOut totalIn totalOut pushAt insertWork removeWork listOf partsOf withParts worked isFifo isBudget membershipFor judged enqueueCall partner onContained treeWith removeReady removeFrom removeCall made andAfter then leftBy including
+unfolding choose ifLess ifEqual given compareNumbers thenBy compareParts onOrdering onPolicy onRole onBackend onBudget
+    soundBudget onRuntime sameKind candidateKey leanOf onLean onLink onMembership onCpu isNone pointsTo isUnqueued
+    isReadyRealTime isReadyFair isWaiting isTerminated sameMembership readyCpu hasBudget isBadBudget isBadRecord
+    budgetAvailable roleIndex indexFor onIndex algorithmKey treeKey readyIndexKey parts compareTreeKeys recordOf changed
+    reading storing linksAt keyAt queueLinksAt recordAt setLinks setQueueLinks onLinks onKey onQueueLinks onRecord
+    onMade assignedTo headAgrees tailAgrees endsAgree preflightInsert previousValid nextValid validateNeighbors onAnswer
+    onOut setNext setPrevious commitInsert commitRemove append prepend push pushFront updatePreviousLink updateNextLink
+    unlink list.remove onHeight onTurned onRooted onWay onSought height larger update rotateLeft rotateRight balanceLeft
+    balanceRight balance wayAt lookFor contains onWalk walk hung rebuildStep rebuild insert soughtAt onSearch
+    search onSuccessor successor replace index.remove countedIn countedOut totalIn totalOut pushAt insertWork removeWork
+    listOf partsOf withParts worked isFifo isBudget membershipFor judged enqueueCall partner onContained treeWith
+    removeReady removeFrom removeCall made andAfter then leftBy including
 computed = record {
   mayEnqueue = (
-    record { below = omega arith; judged = refl; notIdle = λ e. never cc; unqueued = refl; assigned = refl; fits = omega arith },
+    record {
+      below = omega arith;
+      judged = refl;
+      notIdle = λ e. never cc;
+      unqueued = refl;
+      assigned = refl;
+      fits = omega arith;
+    },
     record { below = omega arith; judged = refl; notIdle = λ e. never cc; unqueued = refl; assigned = refl; fits = tt },
     record { below = omega arith; judged = refl; notIdle = λ e. never cc; unqueued = refl; assigned = refl; fits = tt },
     record { below = omega arith; judged = refl; notIdle = λ e. never cc; unqueued = refl; assigned = refl; fits = tt },
   );
   reached = reached.enqueued (including 0 nobody) (one .queue) (two .queue) (one .table) (two .table) true 2
-      (reached.enqueued nobody newQueue (one .queue) nine (one .table) false 0 (reached.new nine (omega arith)) (omega arith) refl) tt refl;
+      (reached.enqueued nobody newQueue (one .queue) nine (one .table) false 0 (reached.new nine (omega arith))
+      (omega arith) refl) tt refl;
   queued = refl;
   budgeted = refl;
   judged = refl;
@@ -84,7 +111,8 @@ two-sound = reached-sound (computed .reached)
 
 -- also when the budget thread's time has run out, so that it stands in the partner of the tree of its filing;
 pub exhausted-sound : Sound (cpu 0) pair (two .queue) ranOut
-exhausted-sound = refresh-sound two-sound 2 (budgetThread 0 .runtime) (computed .queued) (computed .budgeted) (computed .judged)
+exhausted-sound =
+    refresh-sound two-sound 2 (budgetThread 0 .runtime) (computed .queued) (computed .budgeted) (computed .judged)
 
 -- from there it is removed, and the FIFO thread alone is queued.
 pub exhausted-removed : Accepted (cpu 0) pair (excluding 2 pair) 2 ranOut (removeCall ranOut (two .queue) 2 (cpu 0))

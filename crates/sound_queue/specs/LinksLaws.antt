@@ -23,32 +23,43 @@ pub alike-length : (f : ThreadRecord → ThreadRecord) (t s : List ThreadRecord)
 alike-length f t s e = sym (length-map s f) ∙ ap (length {A = ThreadRecord}) e ∙ length-map t f
 
 -- and at each number records that f makes alike.
-pub alike-record : (f : ThreadRecord → ThreadRecord) (t s : List ThreadRecord) (j : ℕ) → map f s ≡ map f t → f (recordOf s j) ≡ f (recordOf t j)
+pub alike-record : (f : ThreadRecord → ThreadRecord) (t s : List ThreadRecord) (j : ℕ) → map f s ≡ map f t
+    → f (recordOf s j) ≡ f (recordOf t j)
 unfolding recordOf
 alike-record f t s j e =
-    sym (List·getD-map f s j (decoded [])) ∙ ap (λ (l : List ThreadRecord). getD l j (f (decoded []))) e ∙ List·getD-map f t j (decoded [])
+    sym (List·getD-map f s j (decoded [])) ∙ ap (λ (l : List ThreadRecord). getD l j (f (decoded []))) e
+    ∙ List·getD-map f t j (decoded [])
 
 -- A read of what f leaves is the same.
-alike-reading : {A : Type 0} (f : ThreadRecord → ThreadRecord) (g : ThreadRecord → A) (d : A) (t s : List ThreadRecord) (j : ℕ) → ((r : ThreadRecord) → g (f r) ≡ g r)
+alike-reading : {A : Type 0} (f : ThreadRecord → ThreadRecord) (g : ThreadRecord → A) (d : A) (t s : List ThreadRecord)
+    (j : ℕ) → ((r : ThreadRecord) → g (f r) ≡ g r)
     → map f s ≡ map f t → reading s j g d ≡ reading t j g d
 unfolding reading
 alike-reading {A} f g d t s j h e =
-    let k : g (recordOf s j) ≡ g (recordOf t j) = sym (h (recordOf s j)) ∙ ap g (alike-record f t s j e) ∙ h (recordOf t j) in
+    let k : g (recordOf s j) ≡ g (recordOf t j) = sym (h (recordOf s j)) ∙ ap g (alike-record f t s j e)
+    ∙ h (recordOf t j) in
     rw (alike-length f t s e, k)
 
 -- Tree stores leave list links.
-pub besides-queue-links : (t s : List ThreadRecord) (j : ℕ) → besidesLinks s ≡ besidesLinks t → queueLinksAt s j ≡ queueLinksAt t j
+pub besides-queue-links : (t s : List ThreadRecord) (j : ℕ) → besidesLinks s ≡ besidesLinks t
+    → queueLinksAt s j ≡ queueLinksAt t j
 unfolding besidesLinks queueLinksAt
-besides-queue-links t s j e = alike-reading (withLinks emptyLinks) (λ (r : ThreadRecord). queueLinks.Got (r .«queue_links»)) queueLinks.Damaged t s j (λ r. refl) e
+besides-queue-links t s j e =
+    alike-reading (withLinks emptyLinks) (λ (r : ThreadRecord). queueLinks.Got (r .«queue_links»)) queueLinks.Damaged t
+    s j (λ r. refl) e
 
 -- List stores leave tree links and keys.
 pub list-stores-links : (t s : List ThreadRecord) (j : ℕ) → withoutLists s ≡ withoutLists t → linksAt s j ≡ linksAt t j
 unfolding withoutLists linksAt
-list-stores-links t s j e = alike-reading (withQueueLinks emptyQueueLinks) (λ (r : ThreadRecord). links.Got (r .«ready_tree»)) links.Damaged t s j (λ r. refl) e
+list-stores-links t s j e =
+    alike-reading (withQueueLinks emptyQueueLinks) (λ (r : ThreadRecord). links.Got (r .«ready_tree»)) links.Damaged t s
+    j (λ r. refl) e
 
 pub list-stores-key : (t s : List ThreadRecord) (j : ℕ) → withoutLists s ≡ withoutLists t → keyAt s j ≡ keyAt t j
 unfolding withoutLists keyAt readyIndexKey
-list-stores-key t s j e = alike-reading (withQueueLinks emptyQueueLinks) (λ (r : ThreadRecord). key.Got (readyIndexKey r j)) key.Damaged t s j (λ r. refl) e
+list-stores-key t s j e =
+    alike-reading (withQueueLinks emptyQueueLinks) (λ (r : ThreadRecord). key.Got (readyIndexKey r j)) key.Damaged t s j
+    (λ r. refl) e
 
 pub list-stores-length : (t s : List ThreadRecord) → withoutLists s ≡ withoutLists t → length s ≡ length t
 unfolding withoutLists
@@ -58,10 +69,12 @@ list-stores-length t s e = alike-length (withQueueLinks emptyQueueLinks) t s e
 swapped : (t : List ThreadRecord) → besidesLinks (withoutLists t) ≡ withoutLists (besidesLinks t)
 unfolding besidesLinks withoutLists
 swapped [] = refl
-swapped (r ∷ t) = ap (λ (l : List ThreadRecord). withLinks emptyLinks (withQueueLinks emptyQueueLinks r) ∷ l) (swapped t)
+swapped (r ∷ t) =
+    ap (λ (l : List ThreadRecord). withLinks emptyLinks (withQueueLinks emptyQueueLinks r) ∷ l) (swapped t)
 
 -- List stores, then tree stores.
-pub both-stores : (t s u : List ThreadRecord) → withoutLists s ≡ withoutLists t → besidesLinks u ≡ besidesLinks s → withoutLinks u ≡ withoutLinks t
+pub both-stores : (t s u : List ThreadRecord) → withoutLists s ≡ withoutLists t → besidesLinks u ≡ besidesLinks s
+    → withoutLinks u ≡ withoutLinks t
 both-stores t s u e f = swapped u ∙ ap withoutLists f ∙ sym (swapped s) ∙ ap besidesLinks e
 
 -- What is left of a record without links.
@@ -91,7 +104,8 @@ module _ (t s : List ThreadRecord) (e : withoutLinks s ≡ withoutLinks t) where
   same-cpu j = ap (λ (r : ThreadRecord). r .cpu) (alike-record bare t s j bare-table)
 
 -- What is asked of a queued record is asked of no links.
-pub queued-still : (cpu : CpuIndex) (r s : ThreadRecord) (k : ℕ) → s .parameters ≡ r .parameters → s .runtime ≡ r .runtime → s .cpu ≡ r .cpu → Queued cpu r k → Queued cpu s k
+pub queued-still : (cpu : CpuIndex) (r s : ThreadRecord) (k : ℕ) → s .parameters ≡ r .parameters
+    → s .runtime ≡ r .runtime → s .cpu ≡ r .cpu → Queued cpu r k → Queued cpu s k
 unfolding isBadRecord
 queued-still cpu r s k e f g h = record {
   judged = rw (e, f) (h .judged);

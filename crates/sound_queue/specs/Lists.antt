@@ -17,7 +17,7 @@ use Rattle.thread.specs.Membership.{emptyQueue}
 use Rattle.rows.specs.Table.{recordOf}
 use Rattle.sound_lists.specs.Members.{has}
 use Rattle.sound_lists.specs.Sound.{HoldsList}
-use Rattle.queue.specs.declared.CpuRunQueue.{CpuRunQueue}
+use Rattle.queue.specs.RunQueue.{CpuRunQueue}
 
 -- A list of a queue.
 unfoldable pub listAt : CpuRunQueue → ℕ → ThreadQueue

@@ -12,14 +12,14 @@ use Rattle.thread.specs.declared.CpuIndex.{CpuIndex}
 use Rattle.thread.specs.declared.ThreadRecord.{ThreadRecord}
 use Rattle.thread.specs.Membership.{emptyQueue}
 use Rattle.rows.specs.declared.RecordRead.the-variants as read
-use Rattle.rows.specs.Table.{recordOf, recordAt, queueLinksAt}
+use Rattle.rows.specs.Table.{recordOf, recordAt, queueLinksAt, maxRecords}
 use Rattle.rows.specs.TableLaws.{record-within, queue-links-within}
 use Rattle.avl.specs.Tree.{leaf, inOrder}
 use Rattle.sound_index.specs.TableLaws.{record-links, record-key}
 use Rattle.sound_index.specs.Soundness.{holds-empty}
 use Rattle.sound_lists.specs.Frame.{empty-holds}
 use Rattle.queue.specs.declared.Root.{Root}
-use Rattle.queue.specs.declared.CpuRunQueue.{CpuRunQueue}
+use Rattle.queue.specs.RunQueue.{CpuRunQueue, treeCount}
 use Rattle.queue.specs.Queue.{emptyRoot, newQueue, isFifo, isBudget}
 use Rattle.sound_queue.specs.ForestLaws.{forest-still, placed-inside}
 use Rattle.sound_queue.specs.CountLaws.{count-same, count-none}
@@ -36,18 +36,18 @@ new-list zero b = refl
 new-list (suc p) b = getD-replicate 256 p emptyQueue emptyQueue (omega arith)
 
 -- A new queue over any table of up to 4,096 records is sound, with nobody queued.
-pub new-sound : (cpu : CpuIndex) (t : List ThreadRecord) → length t ≤ 4096 → Sound cpu nobody newQueue t
+pub new-sound : (cpu : CpuIndex) (t : List ThreadRecord) → length t ≤ maxRecords → Sound cpu nobody newQueue t
 unfolding inOrder queuedOf
 new-sound cpu t n = record {
-  place = λ j. 12;
+  place = λ j. treeCount;
   forest = record {
     trees = λ k. leaf;
     small = n;
-    twelve = length-replicate 12 emptyRoot;
-    rooted = λ k b. ap (λ (r : Root). r .root) (getD-replicate 12 k emptyRoot emptyRoot b);
+    twelve = length-replicate treeCount emptyRoot;
+    rooted = λ k b. ap (λ (r : Root). r .root) (getD-replicate treeCount k emptyRoot emptyRoot b);
     holds = λ k b. holds-empty t;
     balanced = λ k b. tt;
-    exact = λ j k b. sym (ne-eqb 12 k (λ z. omega arith));
+    exact = λ j k b. sym (ne-eqb treeCount k (λ z. omega arith));
   };
   stands = λ j. refl;
   threads = λ j e. never cc;
@@ -63,16 +63,20 @@ new-sound cpu t n = record {
 }
 
 -- The records of the queued threads, where those threads' records are kept.
-module _ (t s : List ThreadRecord) (l : length s ≡ length t) (j : ℕ) (b : j < length t) (e : recordAt s j ≡ recordAt t j) where
+module _ (t s : List ThreadRecord) (l : length s ≡ length t) (j : ℕ) (b : j < length t)
+    (e : recordAt s j ≡ recordAt t j) where
   kept-record : recordOf s j ≡ recordOf t j
   kept-record =
-      let k : read.Got (recordOf s j) ≡ read.Got (recordOf t j) = sym (record-within s j (omega arith)) ∙ e ∙ record-within t j b in cc
+      let k : read.Got (recordOf s j) ≡ read.Got (recordOf t j) = sym (record-within s j (omega arith)) ∙ e
+      ∙ record-within t j b in cc
 
   kept-queue-links : queueLinksAt s j ≡ queueLinksAt t j
   kept-queue-links =
-      queue-links-within s j (omega arith) ∙ ap (λ (r : ThreadRecord). queueLinks.Got (r .«queue_links»)) kept-record ∙ sym (queue-links-within t j b)
+      queue-links-within s j (omega arith) ∙ ap (λ (r : ThreadRecord). queueLinks.Got (r .«queue_links»)) kept-record
+      ∙ sym (queue-links-within t j b)
 
-module _ {cpu : CpuIndex} {queued : ℕ → Bool} {q : CpuRunQueue} {t : List ThreadRecord} (S : Sound cpu queued q t) (s : List ThreadRecord)
+module _ {cpu : CpuIndex} {queued : ℕ → Bool} {q : CpuRunQueue} {t : List ThreadRecord} (S : Sound cpu queued q t)
+    (s : List ThreadRecord)
     (l : length s ≡ length t) (h : (j : ℕ) → queued j ≡ true → recordAt s j ≡ recordAt t j) where
   same-record : (j : ℕ) → queued j ≡ true → recordOf s j ≡ recordOf t j
   same-record j e = kept-record t s l j (queued-inside S j e) (h j e)
@@ -81,7 +85,9 @@ module _ {cpu : CpuIndex} {queued : ℕ → Bool} {q : CpuRunQueue} {t : List Th
   unfolding rowOf choose
   row-kept j = go (queued j) refl
     where
-      go : (x : Bool) → queued j ≡ x → choose x (listFor (recordOf t j .parameters .policy)) 257 ≡ choose x (listFor (recordOf s j .parameters .policy)) 257
+      go : (x : Bool) → queued j ≡ x
+          → choose x (listFor (recordOf t j .parameters .policy)) 257
+          ≡ choose x (listFor (recordOf s j .parameters .policy)) 257
       go true e = rw (same-record j e)
       go false e = refl
 
@@ -89,12 +95,13 @@ module _ {cpu : CpuIndex} {queued : ℕ → Bool} {q : CpuRunQueue} {t : List Th
   unfolding queuedOf
   of-kept p j = go (queued j) refl
     where
-      go : (x : Bool) → queued j ≡ x → x && p (recordOf t j .parameters .policy) ≡ x && p (recordOf s j .parameters .policy)
+      go : (x : Bool) → queued j ≡ x
+          → x && p (recordOf t j .parameters .policy) ≡ x && p (recordOf s j .parameters .policy)
       go true e = rw (same-record j e)
       go false e = refl
 
-  queued-if-placed : (j : ℕ) → S .place j < 12 → queued j ≡ true
-  queued-if-placed j b = sym (S .stands j) ∙ lt-ltb (S .place j) 12 b
+  queued-if-placed : (j : ℕ) → S .place j < treeCount → queued j ≡ true
+  queued-if-placed j b = sym (S .stands j) ∙ lt-ltb (S .place j) treeCount b
 
   queued-if-listed : (j : ℕ) → rowOf queued t j < 257 → queued j ≡ true
   queued-if-listed j b = go (queued j) refl
@@ -116,8 +123,13 @@ module _ {cpu : CpuIndex} {queued : ℕ → Bool} {q : CpuRunQueue} {t : List Th
     threads = λ j e. subst (λ (r : ThreadRecord). Queued cpu r (S .place j)) (sym (same-record j e)) (S .threads j e);
     priorities = S .priorities;
     lists = lists-same (rowOf queued s) row-kept
-        (lists-still s (λ j b. kept-queue-links t s l j (queued-inside S j (queued-if-listed j b)) (h j (queued-if-listed j b))) (S .lists));
-    total = S .total ∙ rw l (count-same (length t) (queuedOf isFifo queued s) (queuedOf isFifo queued t) (λ j m. of-kept isFifo j));
-    budgets = S .budgets ∙ rw l (count-same (length t) (queuedOf isBudget queued s) (queuedOf isBudget queued t) (λ j m. of-kept isBudget j));
+        (lists-still s (λ j b. kept-queue-links t s l j (queued-inside S j (queued-if-listed j b))
+        (h j (queued-if-listed j b))) (S .lists));
+    total =
+        S .total ∙ rw l (count-same (length t) (queuedOf isFifo queued s) (queuedOf isFifo queued t)
+        (λ j m. of-kept isFifo j));
+    budgets =
+        S .budgets ∙ rw l (count-same (length t) (queuedOf isBudget queued s) (queuedOf isBudget queued t)
+        (λ j m. of-kept isBudget j));
     running = S .running;
   }

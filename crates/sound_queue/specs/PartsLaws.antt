@@ -32,9 +32,10 @@ use Rattle.lists.specs.Lists as list
 use Rattle.ready_index.specs.declared.Rooted.the-variants as rooted
 use Rattle.ready_index.specs.Cases.{onRooted}
 use Rattle.ready_index.specs.Index as index·
-use Rattle.queue.specs.declared.CpuRunQueue.{CpuRunQueue}
+use Rattle.queue.specs.RunQueue.{CpuRunQueue, treeCount}
 use Rattle.queue_work.specs.declared.Parts.{Parts}
-use Rattle.queue_work.specs.Work.{done, withBudgetThreads, treeStored, countedIn, countedOut, totalIn, totalOut, pushAt, insertWork, removeWork}
+use Rattle.queue_work.specs.Work.{done, withBudgetThreads, treeStored, countedIn, countedOut, totalIn, totalOut}
+use Rattle.queue_work.specs.Work.{pushAt, insertWork, removeWork}
 use Rattle.queue.specs.Queue.{listOf, withParts, isFifo, isBudget, membershipFor, partner}
 use Rattle.sound_queue.specs.Lists.{listAt, membershipAt, listFor}
 use Rattle.sound_queue.specs.Sound.{PriorityFits}
@@ -46,7 +47,8 @@ list-of q cpu zero = refl
 list-of q cpu (suc p) = refl
 
 -- A policy's membership is that of its list.
-pub membership-for : (p : SchedulingPolicy) (cpu : CpuIndex) → p ≢ policy.Idle → membershipFor p cpu ≡ membershipAt cpu (listFor p)
+pub membership-for : (p : SchedulingPolicy) (cpu : CpuIndex) → p ≢ policy.Idle
+    → membershipFor p cpu ≡ membershipAt cpu (listFor p)
 unfolding membershipFor membershipAt listFor onPolicy
 membership-for (policy.Fifo priority) cpu h = refl
 membership-for policy.Fair cpu h = refl
@@ -88,7 +90,8 @@ list-fifo policy.Idle n e b = absurd (omega arith)
 
 -- The parts of a list's call stored back: that list, and no other.
 module _ (q : CpuRunQueue) (cpu : CpuIndex) (k : ℕ) (p : Parts) where
-  pub list-stored : (n : ℕ) → n < 257 → length (q .realtime) ≡ 256 → listAt (withParts q (membershipAt cpu n) k p) n ≡ p .list
+  pub list-stored : (n : ℕ) → n < 257 → length (q .realtime) ≡ 256
+      → listAt (withParts q (membershipAt cpu n) k p) n ≡ p .list
   unfolding withParts onMembership membershipAt listAt
   list-stored zero b e = refl
   list-stored (suc m) b e = getD-set-same (q .realtime) m (p .list) emptyQueue (omega arith)
@@ -106,7 +109,8 @@ module _ (q : CpuRunQueue) (cpu : CpuIndex) (k : ℕ) (p : Parts) where
   priorities-stored (suc m) = length-set (q .realtime) m (p .list)
 
   -- The rest of the queue.
-  pub rest-stored : (n : ℕ) → (withParts q (membershipAt cpu n) k p .indices ≡ set (q .indices) k (record { root = p .root }))
+  pub rest-stored : (n : ℕ) → (withParts q (membershipAt cpu n) k p .indices
+      ≡ set (q .indices) k (record { root = p .root }))
       × (withParts q (membershipAt cpu n) k p .«realtime_len» ≡ p .«realtime_len»)
       × (withParts q (membershipAt cpu n) k p .«budget_threads» ≡ p .«budget_threads»)
       × (withParts q (membershipAt cpu n) k p .halted ≡ q .halted)
@@ -118,9 +122,10 @@ module _ (q : CpuRunQueue) (cpu : CpuIndex) (k : ℕ) (p : Parts) where
 pub record Filing (p : SchedulingParameters) (r : PolicyRuntime) : Type 0 where
   pub tree : ℕ
   pub is : indexFor p r ≡ index.Index tree
-  pub low : tree < 12
+  pub low : tree < treeCount
 
-budget-filing : (n : ℕ) (x : Bool) → n ≤ 2 → (k : ℕ) × (choose x (index.Index (6 + n)) (index.Index (9 + n)) ≡ index.Index k) × (6 ≤ k) × (k < 12)
+budget-filing : (n : ℕ) (x : Bool) → n ≤ 2
+    → (k : ℕ) × (choose x (index.Index (6 + n)) (index.Index (9 + n)) ≡ index.Index k) × (6 ≤ k) × (k < treeCount)
 unfolding choose
 budget-filing n true h = (6 + n, refl, omega arith, omega arith)
 budget-filing n false h = (9 + n, refl, omega arith, omega arith)
@@ -131,10 +136,13 @@ unfolding indexFor given onPolicy
 filing p r h = go (p .policy) refl
   where
     go : (y : SchedulingPolicy) → p .policy ≡ y → Filing p r
-    go (policy.Fifo priority) e = record { tree = roleIndex (p .role); is = rw e; low = omega (arith, role-index-le (p .role)) }
-    go policy.Fair e = record { tree = 3 + roleIndex (p .role); is = rw e; low = omega (arith, role-index-le (p .role)) }
+    go (policy.Fifo priority) e =
+        record { tree = roleIndex (p .role); is = rw e; low = omega (arith, role-index-le (p .role)) }
+    go policy.Fair e =
+        record { tree = 3 + roleIndex (p .role); is = rw e; low = omega (arith, role-index-le (p .role)) }
     go policy.Budget e =
-        let b = budget-filing (roleIndex (p .role)) (budgetAvailable r) (role-index-le (p .role)) in record { tree = b .0; is = rw e (b .1); low = b .3 }
+        let b = budget-filing (roleIndex (p .role)) (budgetAvailable r) (role-index-le (p .role)) in
+        record { tree = b .0; is = rw e (b .1); low = b .3 }
     go policy.Idle e = absurd (h e)
 
 -- and Idle is not.
@@ -143,11 +151,12 @@ unfolding indexFor given onPolicy
 idle-filing p r e = rw e
 
 -- A budget is filed in one of the six trees of budgets.
-pub budget-tree : (p : SchedulingParameters) (r : PolicyRuntime) (f : ℕ) → isBudget (p .policy) ≡ true → indexFor p r ≡ index.Index f → (6 ≤ f) × (f < 12)
+pub budget-tree : (p : SchedulingParameters) (r : PolicyRuntime) (f : ℕ) → isBudget (p .policy) ≡ true
+    → indexFor p r ≡ index.Index f → (6 ≤ f) × (f < treeCount)
 unfolding indexFor given onPolicy isBudget
 budget-tree p r f b e = go (p .policy) refl
   where
-    go : (y : SchedulingPolicy) → p .policy ≡ y → (6 ≤ f) × (f < 12)
+    go : (y : SchedulingPolicy) → p .policy ≡ y → (6 ≤ f) × (f < treeCount)
     go (policy.Fifo priority) z = let w : false ≡ true = rw z at b in never cc
     go policy.Fair z = let w : false ≡ true = rw z at b in never cc
     go policy.Idle z = let w : false ≡ true = rw z at b in never cc
@@ -158,14 +167,17 @@ budget-tree p r f b e = go (p .policy) refl
         (omega (arith, m .2), omega (arith, m .3))
 
 -- The partner of a budget's tree is another of the six, and its own partner.
-pub partner-tree : (f : ℕ) → 6 ≤ f → f < 12 → (partner f < 12) × (partner f ≢ f) × (partner (partner f) ≡ f)
+pub partner-tree : (f : ℕ) → 6 ≤ f → f < treeCount → (partner f < treeCount) × (partner f ≢ f)
+    × (partner (partner f) ≡ f)
 unfolding partner ifLess choose
 partner-tree f a b = go (ltb f 9) refl
   where
-    go : (x : Bool) → ltb f 9 ≡ x → (choose x (f + 3) (f - 3) < 12) × (choose x (f + 3) (f - 3) ≢ f)
+    go : (x : Bool) → ltb f 9 ≡ x → (choose x (f + 3) (f - 3) < treeCount) × (choose x (f + 3) (f - 3) ≢ f)
         × (choose (ltb (choose x (f + 3) (f - 3)) 9) (choose x (f + 3) (f - 3) + 3) (choose x (f + 3) (f - 3) - 3) ≡ f)
-    go true e = let h = ltb-true f 9 e in (omega arith, (λ z. omega arith), rw (le-ltb (f + 3) 9 (omega arith)) (omega arith))
-    go false e = let h = ltb-false f 9 e in (omega arith, (λ z. omega arith), rw (lt-ltb (f - 3) 9 (omega arith)) (omega arith))
+    go true e =
+        let h = ltb-true f 9 e in (omega arith, (λ z. omega arith), rw (le-ltb (f + 3) 9 (omega arith)) (omega arith))
+    go false e =
+        let h = ltb-false f 9 e in (omega arith, (λ z. omega arith), rw (lt-ltb (f - 3) 9 (omega arith)) (omega arith))
 
 -- The counts: one more or one less where x holds.
 pub total-in : (x : Bool) (a b : ℕ) → a < maxLength → b ≡ choose x (suc a) a → totalIn x a ≡ value b
@@ -178,28 +190,35 @@ unfolding totalOut choose ifEqual
 total-out true a b e = rw (ne-eqb a 0 (λ z. omega arith)) (ap value (omega arith))
 total-out false a b e = ap value e
 
-pub counted-in : (x : Bool) (p : Parts) (b : ℕ) → p .«budget_threads» < maxLength → b ≡ choose x (suc (p .«budget_threads»)) (p .«budget_threads») → countedIn x p ≡ done (withBudgetThreads p b)
+pub counted-in : (x : Bool) (p : Parts) (b : ℕ) → p .«budget_threads» < maxLength
+    → b ≡ choose x (suc (p .«budget_threads»)) (p .«budget_threads») → countedIn x p ≡ done (withBudgetThreads p b)
 unfolding countedIn choose ifEqual
 counted-in true p b l e =
-    rw (ne-eqb (p .«budget_threads») maxLength (λ z. omega arith)) (ap (λ n. done (withBudgetThreads p n)) (omega arith))
+    rw (ne-eqb (p .«budget_threads») maxLength (λ z. omega arith))
+    (ap (λ n. done (withBudgetThreads p n)) (omega arith))
 counted-in false p b l e = ap (λ n. done (withBudgetThreads p n)) (sym e)
 
-pub counted-out : (x : Bool) (p : Parts) (b : ℕ) → p .«budget_threads» ≡ choose x (suc b) b → countedOut x p ≡ done (withBudgetThreads p b)
+pub counted-out : (x : Bool) (p : Parts) (b : ℕ) → p .«budget_threads» ≡ choose x (suc b) b
+    → countedOut x p ≡ done (withBudgetThreads p b)
 unfolding countedOut choose ifEqual
 counted-out true p b e =
     rw (ne-eqb (p .«budget_threads») 0 (λ z. omega arith)) (ap (λ n. done (withBudgetThreads p n)) (omega arith))
 counted-out false p b e = ap (λ n. done (withBudgetThreads p n)) e
 
 -- The work, where each of its calls is accepted.
-module _ (fifo budgeted : Bool) (t t₁ t₂ : List ThreadRecord) (p done′ : Parts) (id : ℕ) (m : QueueMembership) (len : ℕ) (queue : ThreadQueue) (link : Link) where
-  pub insert-work : (front : Bool) → totalIn fifo (p .«realtime_len») ≡ value len → pushAt front t (p .list) id m ≡ out (value queue) t₁
-      → index·.insert t₁ (p .root) id ≡ out (rooted.Root link) t₂ → countedIn budgeted (treeStored p queue len link) ≡ done done′
+module _ (fifo budgeted : Bool) (t t₁ t₂ : List ThreadRecord) (p done′ : Parts) (id : ℕ) (m : QueueMembership) (len : ℕ)
+    (queue : ThreadQueue) (link : Link) where
+  pub insert-work : (front : Bool) → totalIn fifo (p .«realtime_len») ≡ value len
+      → pushAt front t (p .list) id m ≡ out (value queue) t₁
+      → index·.insert t₁ (p .root) id ≡ out (rooted.Root link) t₂
+      → countedIn budgeted (treeStored p queue len link) ≡ done done′
       → insertWork front fifo budgeted t p id m ≡ out (done done′) t₂
   unfolding insertWork onAnswer onOut onRooted
   insert-work front a b c d = rw (a, b, c, d)
 
   pub remove-work : totalOut fifo (p .«realtime_len») ≡ value len → list.remove t (p .list) id m ≡ out (value queue) t₁
-      → index·.remove t₁ (p .root) id ≡ out (rooted.Root link) t₂ → countedOut budgeted (treeStored p queue len link) ≡ done done′
+      → index·.remove t₁ (p .root) id ≡ out (rooted.Root link) t₂
+      → countedOut budgeted (treeStored p queue len link) ≡ done done′
       → removeWork fifo budgeted t p id m ≡ out (done done′) t₂
   unfolding removeWork onAnswer onOut onRooted
   remove-work a b c d = rw (a, b, c, d)

@@ -1,4 +1,5 @@
--- Laws of placing a thread: in trees and lists alike, where those with a number below `limit` are there, and `limit` itself means none.
+-- Laws of placing a thread: in trees and lists alike, where those with a number below `limit` are there, and `limit`
+-- itself means none.
 use mathlib.Core.Path.{_≡_, refl, sym, ap, _∙_}
 use mathlib.Core.Bool.{Bool, true, false}
 use mathlib.Core.Logic.{_≢_}
@@ -28,7 +29,8 @@ same-or-not {A} j i f g = go (eqb j i) refl
     go false e = g (eqb-false j i e)
 
 -- f tells whom number k has before, g afterwards.
-module _ (limit i k : ℕ) (place : ℕ → ℕ) (b : k < limit) (f g : ℕ → Bool) (is : (j : ℕ) → f j ≡ eqb (place j) k) (same : (j : ℕ) → j ≢ i → g j ≡ f j) where
+module _ (limit i k : ℕ) (place : ℕ → ℕ) (b : k < limit) (f g : ℕ → Bool) (is : (j : ℕ) → f j ≡ eqb (place j) k)
+    (same : (j : ℕ) → j ≢ i → g j ≡ f j) where
   -- i joins k.
   pub joined-here : g i ≡ true → (j : ℕ) → g j ≡ eqb (placed i k place j) k
   joined-here h j = same-or-not j i
@@ -47,7 +49,8 @@ module _ (limit i k : ℕ) (place : ℕ → ℕ) (j m : ℕ) (b : m < limit) (d 
   joined-else n = same-or-not j i
       (λ e.
       let w : place j ≡ place i = ap place e in
-      rw (ap (placed i k place) e ∙ placed-same i k place) (ne-eqb (place j) m (λ z. omega arith) ∙ sym (ne-eqb k m (λ z. d (sym z)))))
+      rw (ap (placed i k place) e ∙ placed-same i k place)
+      (ne-eqb (place j) m (λ z. omega arith) ∙ sym (ne-eqb k m (λ z. d (sym z)))))
       (λ e. rw (placed-other i k place j e))
 
   pub left-else : place i ≡ k → eqb (place j) m ≡ eqb (placed i limit place j) m

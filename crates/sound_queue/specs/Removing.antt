@@ -8,7 +8,7 @@ use native.Mathlib.Omega.{arith}
 use lib.ListN.{length, getD}
 use lib.Dec.{ltb}
 use borrow.Author.Tests.{eq-eqb, ne-eqb, lt-ltb}
-use Rattle.refusal.specs.Answer.{value, refused}
+use Rattle.refusal.specs.Answer.{value, refused, damaged}
 use Rattle.refusal.specs.Cases.{never, choose, ifEqual, given}
 use Rattle.policy.specs.declared.SchedulingPolicy.{SchedulingPolicy}
 use Rattle.thread.specs.declared.CpuIndex.{CpuIndex}
@@ -24,10 +24,11 @@ use Rattle.ready_index.specs.Index.{contains, remove}
 use Rattle.sound_lists.specs.Members.{without}
 use Rattle.sound_lists.specs.Sound as list
 use Rattle.sound_lists.specs.Removal.{remove-holds}
-use Rattle.queue.specs.declared.CpuRunQueue.{CpuRunQueue}
+use Rattle.queue.specs.RunQueue.{CpuRunQueue, treeCount}
 use Rattle.queue_work.specs.declared.Parts.{Parts}
 use Rattle.queue_work.specs.Work.{removeWork}
-use Rattle.queue.specs.Queue.{step, emptyRoot, rootOf, partsOf, withParts, worked, isFifo, isBudget, partner, onContained, treeWith, removeReady, removeFrom, removeCall}
+use Rattle.queue.specs.Queue.{step, emptyRoot, rootOf, partsOf, withParts, worked, isFifo, isBudget, partner}
+use Rattle.queue.specs.Queue.{onContained, treeWith, removeReady, removeFrom, removeCall}
 use Rattle.sound_queue.specs.Forest.{Forest, placed, Replanted}
 use Rattle.sound_queue.specs.PlaceLaws.{placed-same, placed-other, same-or-not}
 use Rattle.sound_queue.specs.ForestLaws.{forest-still, contains-placed, uprooted}
@@ -35,14 +36,22 @@ use Rattle.sound_queue.specs.Count.{count}
 use Rattle.sound_queue.specs.Lists.{listAt, membershipAt, listFor, rowOf, Lists}
 use Rattle.sound_queue.specs.ListsLaws.{lists-still, lists-same, list-left, without-same, without-here}
 use Rattle.sound_queue.specs.Sound.{Filed, by-filing, in-partner, Queued, queuedOf, Sound, excluding, Accepted}
-use Rattle.sound_queue.specs.LinksLaws.{besides-queue-links, list-stores-links, list-stores-key, list-stores-length, both-stores}
-use Rattle.sound_queue.specs.PartsLaws.{list-of, list-fifo, list-stored, list-stored-other, priorities-stored, rest-stored, budget-tree, partner-tree, total-out, counted-out, remove-work}
-use Rattle.sound_queue.specs.SoundLaws.{excluded, excluded-other, row-queued, row-not-queued, row-excluded, counted, sound-by, queued-placed, not-queued-placed, queued-inside, queued-membership}
+use Rattle.sound_queue.specs.LinksLaws.{besides-queue-links, list-stores-links, list-stores-key}
+use Rattle.sound_queue.specs.LinksLaws.{list-stores-length, both-stores}
+use Rattle.sound_queue.specs.PartsLaws.{list-of, list-fifo, list-stored, list-stored-other, priorities-stored}
+use Rattle.sound_queue.specs.PartsLaws.{rest-stored, budget-tree, partner-tree, total-out, counted-out}
+use Rattle.sound_queue.specs.PartsLaws.{remove-work}
+use Rattle.sound_queue.specs.SoundLaws.{excluded, excluded-other, row-queued, row-not-queued, row-excluded}
+use Rattle.sound_queue.specs.SoundLaws.{counted, sound-by, queued-placed, not-queued-placed, queued-inside}
+use Rattle.sound_queue.specs.SoundLaws.{queued-membership}
 use Rattle.sound_queue.specs.Enqueueing.{judged-passes, out-is}
 
 -- From a list of this processor: what is left to be done once the tree is known.
-remove-ready : (t : List ThreadRecord) (q : CpuRunQueue) (i : ℕ) (cpu : CpuIndex) (r : ThreadRecord) (k n : ℕ) → r .«queue_links» .membership ≡ membershipAt cpu n
-    → removeFrom t q i cpu r k ≡ worked q (membershipAt cpu n) k (removeWork (ltb 0 n) (isBudget (r .parameters .policy)) t (partsOf q (membershipAt cpu n) k) i (membershipAt cpu n))
+remove-ready : (t : List ThreadRecord) (q : CpuRunQueue) (i : ℕ) (cpu : CpuIndex) (r : ThreadRecord) (k n : ℕ)
+    → r .«queue_links» .membership ≡ membershipAt cpu n
+    → removeFrom t q i cpu r k ≡ worked q (membershipAt cpu n) k
+    (removeWork (ltb 0 n) (isBudget (r .parameters .policy)) t (partsOf q (membershipAt cpu n) k) i
+    (membershipAt cpu n))
 unfolding removeFrom removeReady given onMembership membershipAt ifEqual choose
 remove-ready t q i cpu r k zero e = rw (e, eq-eqb (cpu .0) (cpu .0) refl)
 remove-ready t q i cpu r k (suc p) e = rw (e, eq-eqb (cpu .0) (cpu .0) refl, lt-ltb 0 (suc p) (omega arith))
@@ -53,24 +62,27 @@ module _ (t : List ThreadRecord) (q : CpuRunQueue) (i : ℕ) where
   unfolding treeWith onContained
   found-as-filed x f e = rw e
 
-  found-in-partner : (f : ℕ) → contains t (rootOf q f) i ≡ contained.No → contains t (rootOf q (partner f)) i ≡ contained.Yes → treeWith t q i true f ≡ value (partner f)
+  found-in-partner : (f : ℕ) → contains t (rootOf q f) i ≡ contained.No
+      → contains t (rootOf q (partner f)) i ≡ contained.Yes → treeWith t q i true f ≡ value (partner f)
   unfolding treeWith onContained choose
   found-in-partner f e g = rw (e, g)
 
-  found-nowhere : (f : ℕ) → contains t (rootOf q f) i ≡ contained.No → contains t (rootOf q (partner f)) i ≡ contained.No → treeWith t q i true f ≡ refused 1
+  found-nowhere : (f : ℕ) → contains t (rootOf q f) i ≡ contained.No
+      → contains t (rootOf q (partner f)) i ≡ contained.No → treeWith t q i true f ≡ refused damaged
   unfolding treeWith onContained choose
   found-nowhere f e g = rw (e, g)
 
-  found-not-as-filed : (f : ℕ) → contains t (rootOf q f) i ≡ contained.No → treeWith t q i false f ≡ refused 1
+  found-not-as-filed : (f : ℕ) → contains t (rootOf q f) i ≡ contained.No → treeWith t q i false f ≡ refused damaged
   unfolding treeWith onContained choose
   found-not-as-filed f e = rw e
 
-module _ {cpu : CpuIndex} {queued : ℕ → Bool} {q : CpuRunQueue} {t : List ThreadRecord} (S : Sound cpu queued q t) (i : ℕ) where
-  stands-in : (k : ℕ) → k < 12 → i < length t → S .place i ≡ k → contains t (rootOf q k) i ≡ contained.Yes
+module _ {cpu : CpuIndex} {queued : ℕ → Bool} {q : CpuRunQueue} {t : List ThreadRecord} (S : Sound cpu queued q t)
+    (i : ℕ) where
+  stands-in : (k : ℕ) → k < treeCount → i < length t → S .place i ≡ k → contains t (rootOf q k) i ≡ contained.Yes
   unfolding choose
   stands-in k b l e = contains-placed (S .forest) i k b l ∙ rw (eq-eqb (S .place i) k e)
 
-  stands-not-in : (k : ℕ) → k < 12 → i < length t → S .place i ≢ k → contains t (rootOf q k) i ≡ contained.No
+  stands-not-in : (k : ℕ) → k < treeCount → i < length t → S .place i ≢ k → contains t (rootOf q k) i ≡ contained.No
   unfolding choose
   stands-not-in k b l e = contains-placed (S .forest) i k b l ∙ rw (ne-eqb (S .place i) k e)
 
@@ -94,7 +106,8 @@ module _ {cpu : CpuIndex} {queued : ℕ → Bool} {q : CpuRunQueue} {t : List Th
     found-by (by-filing x) = record {
       filed = S .place i;
       is = x;
-      tree = found-as-filed t q i _ (S .place i) (stands-in (S .place i) (queued-placed S i e) (queued-inside S i e) refl);
+      tree =
+          found-as-filed t q i _ (S .place i) (stands-in (S .place i) (queued-placed S i e) (queued-inside S i e) refl);
     }
     found-by (in-partner f b x y) =
         let c = budget-tree (recordOf t i .parameters) (recordOf t i .runtime) f b x in
@@ -107,7 +120,8 @@ module _ {cpu : CpuIndex} {queued : ℕ → Bool} {q : CpuRunQueue} {t : List Th
         }
 
     abbrev Left : Type 0
-    Left = list.Accepted t (lists·.remove t (listAt q row) i (membershipAt cpu row)) (S .lists .members row) i (without i (S .lists .members row)) (membershipAt cpu row)
+    Left = list.Accepted t (lists·.remove t (listAt q row) i (membershipAt cpu row)) (S .lists .members row) i
+        (without i (S .lists .members row)) (membershipAt cpu row)
 
     module _ (A : Left) where
       abbrev listed : List ThreadRecord
@@ -118,7 +132,8 @@ module _ {cpu : CpuIndex} {queued : ℕ → Bool} {q : CpuRunQueue} {t : List Th
           (λ j b. (list-stores-links t listed j (A .rest), list-stores-key t listed j (A .rest))) (S .forest)
 
       abbrev Uprooted : Type 0
-      Uprooted = Replanted (q .indices) listed (S .place i) i (S .place) (placed i 12 (S .place)) (remove listed (getD (q .indices) (S .place i) emptyRoot .root) i)
+      Uprooted = Replanted (q .indices) listed (S .place i) i (S .place) (placed i treeCount (S .place))
+          (remove listed (getD (q .indices) (S .place i) emptyRoot .root) i)
 
       is-uprooted : Uprooted
       is-uprooted = uprooted listed-forest (S .place i) (queued-placed S i e) i refl
@@ -130,9 +145,12 @@ module _ {cpu : CpuIndex} {queued : ℕ → Bool} {q : CpuRunQueue} {t : List Th
       budgets = count (length t) (queuedOf isBudget (excluding i queued) t)
 
       total-was : (p : SchedulingPolicy → Bool) (n : ℕ) → n ≡ count (length t) (queuedOf p queued t)
-          → n ≡ choose (p (recordOf t i .parameters .policy)) (suc (count (length t) (queuedOf p (excluding i queued) t))) (count (length t) (queuedOf p (excluding i queued) t))
+          → n ≡ choose (p (recordOf t i .parameters .policy))
+          (suc (count (length t) (queuedOf p (excluding i queued) t)))
+          (count (length t) (queuedOf p (excluding i queued) t))
       total-was p n h =
-          h ∙ counted p (excluding i queued) queued t i (queued-inside S i e) (λ j d. sym (excluded-other i queued j d)) (excluded i queued) e
+          h ∙ counted p (excluding i queued) queued t i (queued-inside S i e) (λ j d. sym (excluded-other i queued j d))
+          (excluded i queued) e
 
       module _ (R : Uprooted) where
         abbrev parts : Parts
@@ -145,27 +163,31 @@ module _ {cpu : CpuIndex} {queued : ℕ → Bool} {q : CpuRunQueue} {t : List Th
         new-lists =
             lists-same (rowOf (excluding i queued) t) (row-excluded i queued t)
             (lists-still (R .table) (λ j b. besides-queue-links listed (R .table) j (R .besides))
-            (list-left (S .lists) row row-low i A (listAt queue) (list-stored q cpu (S .place i) parts row row-low (S .priorities))
+            (list-left (S .lists) row row-low i A (listAt queue)
+            (list-stored q cpu (S .place i) parts row row-low (S .priorities))
             (λ m c d. list-stored-other q cpu (S .place i) parts row m d) row-is
             (without-here i (S .lists .members row)) (without-same i (S .lists .members row))))
 
-        new-stands : (j : ℕ) → ltb (placed i 12 (S .place) j) 12 ≡ excluding i queued j
+        new-stands : (j : ℕ) → ltb (placed i treeCount (S .place) j) treeCount ≡ excluding i queued j
         new-stands j = same-or-not j i
-            (λ z. rw (z, placed-same i 12 (S .place)) (sym (excluded i queued)))
-            (λ z. rw (placed-other i 12 (S .place) j z) (S .stands j ∙ sym (excluded-other i queued j z)))
+            (λ z. rw (z, placed-same i treeCount (S .place)) (sym (excluded i queued)))
+            (λ z. rw (placed-other i treeCount (S .place) j z) (S .stands j ∙ sym (excluded-other i queued j z)))
 
-        new-threads : (j : ℕ) → excluding i queued j ≡ true → Queued cpu (recordOf t j) (placed i 12 (S .place) j)
+        new-threads : (j : ℕ) → excluding i queued j ≡ true
+            → Queued cpu (recordOf t j) (placed i treeCount (S .place) j)
         new-threads j h = same-or-not j i
             (λ z.
             let y : false ≡ true = sym (excluded i queued) ∙ ap (excluding i queued) (sym z) ∙ h in
             never cc)
-            (λ z. rw (placed-other i 12 (S .place) j z) (S .threads j (sym (excluded-other i queued j z) ∙ h)))
+            (λ z. rw (placed-other i treeCount (S .place) j z) (S .threads j (sym (excluded-other i queued j z) ∙ h)))
 
         new-sound : Sound cpu (excluding i queued) queue (R .table)
         new-sound =
             let s = rest-stored q cpu (S .place i) parts row in
-            sound-by t (R .table) (both-stores t listed (R .table) (A .rest) (R .besides)) (excluding i queued) cpu queue (placed i 12 (S .place))
-            (rw (s .0) (R .forest)) new-stands new-threads (priorities-stored q cpu (S .place i) parts row ∙ S .priorities) new-lists (s .1) (s .2) (s .3 ∙ S .running)
+            sound-by t (R .table) (both-stores t listed (R .table) (A .rest) (R .besides))
+            (excluding i queued) cpu queue (placed i treeCount (S .place))
+            (rw (s .0) (R .forest)) new-stands new-threads
+            (priorities-stored q cpu (S .place i) parts row ∙ S .priorities) new-lists (s .1) (s .2) (s .3 ∙ S .running)
 
         new-others : (j : ℕ) → queued j ≡ false → j ≢ i → recordAt (R .table) j ≡ recordAt t j
         new-others j h d =
@@ -174,22 +196,28 @@ module _ {cpu : CpuIndex} {queued : ℕ → Bool} {q : CpuRunQueue} {t : List Th
             (λ z. let a = row-not-queued queued t j h in let b = row-low in omega arith)) d .0
 
         work-is : worked q (membershipAt cpu row) (S .place i)
-            (removeWork (ltb 0 row) (isBudget (recordOf t i .parameters .policy)) t (partsOf q (membershipAt cpu row) (S .place i)) i (membershipAt cpu row))
+            (removeWork (ltb 0 row) (isBudget (recordOf t i .parameters .policy)) t
+            (partsOf q (membershipAt cpu row) (S .place i)) i (membershipAt cpu row))
             ≡ out (step (value tt) queue) (R .table)
         unfolding worked partsOf
         work-is =
-            rw (remove-work (ltb 0 row) (isBudget (recordOf t i .parameters .policy)) t listed (R .table) (partsOf q (membershipAt cpu row) (S .place i)) parts i
+            rw (remove-work (ltb 0 row) (isBudget (recordOf t i .parameters .policy)) t listed (R .table)
+            (partsOf q (membershipAt cpu row) (S .place i)) parts i
             (membershipAt cpu row) total (A .list) (R .link)
             (total-out (ltb 0 row) (q .«realtime_len») total
-            (rw (list-fifo (recordOf t i .parameters .policy) row refl row-low) at (total-was isFifo (q .«realtime_len») (S .total))))
-            (rw (list-of q cpu row) (out-is (lists·.remove t (listAt q row) i (membershipAt cpu row)) (value (A .list)) (A .accepted)))
+            (rw (list-fifo (recordOf t i .parameters .policy) row refl row-low) at
+            (total-was isFifo (q .«realtime_len») (S .total))))
+            (rw (list-of q cpu row) (out-is (lists·.remove t (listAt q row) i (membershipAt cpu row)) (value (A .list))
+            (A .accepted)))
             (R .is)
-            (counted-out (isBudget (recordOf t i .parameters .policy)) _ budgets (total-was isBudget (q .«budget_threads») (S .budgets))))
+            (counted-out (isBudget (recordOf t i .parameters .policy)) _ budgets
+            (total-was isBudget (q .«budget_threads») (S .budgets))))
 
         call-is : Found → removeCall t q i cpu ≡ out (step (value tt) queue) (R .table)
         unfolding removeCall onAnswer
         call-is G =
-            judged-passes t q i (G .filed) _ (S .forest .small) (S .running) (queued-inside S i e) (S .threads i e .judged) (G .is)
+            judged-passes t q i (G .filed) _ (S .forest .small) (S .running) (queued-inside S i e)
+            (S .threads i e .judged) (G .is)
             ∙ rw (G .tree) (remove-ready t q i cpu (recordOf t i) (S .place i) row (queued-membership S i e) ∙ work-is)
 
         removed-by : Found → Accepted cpu queued (excluding i queued) i t (removeCall t q i cpu)
@@ -197,24 +225,31 @@ module _ {cpu : CpuIndex} {queued : ℕ → Bool} {q : CpuRunQueue} {t : List Th
           queue = queue;
           table = R .table;
           is = call-is G;
-          kept = record { sound = new-sound; besides = both-stores t listed (R .table) (A .rest) (R .besides); others = new-others };
+          kept =
+              record {
+                sound = new-sound;
+                besides = both-stores t listed (R .table) (A .rest) (R .besides);
+                others = new-others;
+              };
         }
 
     -- The removal of a queued thread is accepted, also where a budget thread stands in the partner tree.
     pub removed : Accepted cpu queued (excluding i queued) i t (removeCall t q i cpu)
     removed =
-        let A = remove-holds i (S .lists .holds row row-low) (S .lists .exact i row row-low ∙ eq-eqb (rowOf queued t i) row row-is) .0 in
+        let A = remove-holds i (S .lists .holds row row-low)
+        (S .lists .exact i row row-low ∙ eq-eqb (rowOf queued t i) row row-is) .0 in
         removed-by A (is-uprooted A) (found-by (S .threads i e .filed))
 
   -- A thread of the table that is not queued is in no tree.
-  pub in-no-tree : queued i ≡ false → i < length t → (f : ℕ) → indexFor (recordOf t i .parameters) (recordOf t i .runtime) ≡ index.Index f → f < 12
-      → treeWith t q i (isBudget (recordOf t i .parameters .policy)) f ≡ refused 1
+  pub in-no-tree : queued i ≡ false → i < length t → (f : ℕ)
+      → indexFor (recordOf t i .parameters) (recordOf t i .runtime) ≡ index.Index f → f < treeCount
+      → treeWith t q i (isBudget (recordOf t i .parameters .policy)) f ≡ refused damaged
   in-no-tree e l f x b = go (isBudget (recordOf t i .parameters .policy)) refl
     where
-      absent : (k : ℕ) → k < 12 → contains t (rootOf q k) i ≡ contained.No
+      absent : (k : ℕ) → k < treeCount → contains t (rootOf q k) i ≡ contained.No
       absent k c = stands-not-in k c l (λ z. let a = not-queued-placed S i e in omega arith)
 
-      go : (y : Bool) → isBudget (recordOf t i .parameters .policy) ≡ y → treeWith t q i y f ≡ refused 1
+      go : (y : Bool) → isBudget (recordOf t i .parameters .policy) ≡ y → treeWith t q i y f ≡ refused damaged
       go true z =
           let c = budget-tree (recordOf t i .parameters) (recordOf t i .runtime) f z x in
           found-nowhere t q i f (absent f b) (absent (partner f) (partner-tree f (c .0) (c .1) .0))

@@ -23,8 +23,9 @@ use Rattle.thread.specs.Judgement.{isBadRecord}
 use Rattle.thread.specs.Filing.{budgetAvailable, roleIndex, indexFor}
 use Rattle.thread.specs.FilingLaws.{role-index-le}
 use Rattle.rows.specs.Table.{recordOf, changed, queueLinksAt}
-use Rattle.rows.specs.TableLaws.{length-changed, record-same, record-other, after-set-runtime, links-set-runtime, key-set-runtime, queue-links-set-runtime, budget-key-kept}
-use Rattle.queue.specs.declared.CpuRunQueue.{CpuRunQueue}
+use Rattle.rows.specs.TableLaws.{length-changed, record-same, record-other, after-set-runtime, links-set-runtime}
+use Rattle.rows.specs.TableLaws.{key-set-runtime, queue-links-set-runtime, budget-key-kept}
+use Rattle.queue.specs.RunQueue.{CpuRunQueue, treeCount}
 use Rattle.queue.specs.Queue.{isFifo, isBudget, partner}
 use Rattle.sound_queue.specs.PlaceLaws.{same-or-not}
 use Rattle.sound_queue.specs.Forest.{Forest}
@@ -41,19 +42,25 @@ unfolding listAt
 list-at-by r q zero a b = b
 list-at-by r q (suc p) a b = ap (λ (l : List ThreadQueue). getD l p emptyQueue) a
 
--- Trees and runtimes may change, roots and the queue's epoch too: the queue is sound if the twelve trees stand and each queued record is filed in its tree.
-module _ {cpu : CpuIndex} {queued : ℕ → Bool} {q : CpuRunQueue} {t : List ThreadRecord} (S : Sound cpu queued q t) (s : List ThreadRecord) (l : length s ≡ length t)
-    (same : (j : ℕ) → recordOf s j .parameters ≡ recordOf t j .parameters) (links : (j : ℕ) → queueLinksAt s j ≡ queueLinksAt t j) where
+-- Trees and runtimes may change, roots and the queue's epoch too: the queue is sound if the twelve trees stand and each
+-- queued record is filed in its tree.
+module _ {cpu : CpuIndex} {queued : ℕ → Bool} {q : CpuRunQueue} {t : List ThreadRecord} (S : Sound cpu queued q t)
+    (s : List ThreadRecord) (l : length s ≡ length t)
+    (same : (j : ℕ) → recordOf s j .parameters ≡ recordOf t j .parameters)
+    (links : (j : ℕ) → queueLinksAt s j ≡ queueLinksAt t j) where
   pub row-kept : (j : ℕ) → rowOf queued t j ≡ rowOf queued s j
   unfolding rowOf
   row-kept j = rw (same j)
 
-  pub count-kept : (p : SchedulingPolicy → Bool) → count (length t) (queuedOf p queued t) ≡ count (length s) (queuedOf p queued s)
+  pub count-kept : (p : SchedulingPolicy → Bool)
+      → count (length t) (queuedOf p queued t) ≡ count (length s) (queuedOf p queued s)
   unfolding queuedOf
   count-kept p = rw l (count-same (length t) (queuedOf p queued s) (queuedOf p queued t) (λ j m. rw (same j)))
 
-  unfoldable pub trees-sound : (r : CpuRunQueue) (place : ℕ → ℕ) → r .realtime ≡ q .realtime → r .fair ≡ q .fair → r .«realtime_len» ≡ q .«realtime_len» → r .«budget_threads» ≡ q .«budget_threads»
-      → r .halted ≡ q .halted → Forest (r .indices) s place → ((j : ℕ) → ltb (place j) 12 ≡ queued j) → ((j : ℕ) → queued j ≡ true → Queued cpu (recordOf s j) (place j))
+  unfoldable pub trees-sound : (r : CpuRunQueue) (place : ℕ → ℕ) → r .realtime ≡ q .realtime → r .fair ≡ q .fair
+      → r .«realtime_len» ≡ q .«realtime_len» → r .«budget_threads» ≡ q .«budget_threads»
+      → r .halted ≡ q .halted → Forest (r .indices) s place → ((j : ℕ) → ltb (place j) treeCount ≡ queued j)
+      → ((j : ℕ) → queued j ≡ true → Queued cpu (recordOf s j) (place j))
       → Sound cpu queued r s
   trees-sound r place a b c d e F stands threads = record {
     place = place;
@@ -79,7 +86,9 @@ pub data BudgetTree (role k : ℕ) : Type 0 where
   exhausted : k ≡ 9 + role → BudgetTree role k
 
 budget-filed : (r : ThreadRecord) → r .parameters .policy ≡ policy.Budget
-    → indexFor (r .parameters) (r .runtime) ≡ choose (budgetAvailable (r .runtime)) (index.Index (6 + roleIndex (r .parameters .role))) (index.Index (9 + roleIndex (r .parameters .role)))
+    → indexFor (r .parameters) (r .runtime)
+    ≡ choose (budgetAvailable (r .runtime)) (index.Index (6 + roleIndex (r .parameters .role)))
+    (index.Index (9 + roleIndex (r .parameters .role)))
 unfolding indexFor given onPolicy
 budget-filed r e = rw e
 
@@ -91,7 +100,8 @@ partner-of-exhausted : (n : ℕ) → partner (9 + n) ≡ 6 + n
 unfolding partner ifLess choose
 partner-of-exhausted n = rw (le-ltb (9 + n) 9 (omega arith)) (omega arith)
 
-tree-by : (n k f : ℕ) → n ≤ 2 → (x : Bool) → choose x (index.Index (6 + n)) (index.Index (9 + n)) ≡ index.Index f → (f ≡ k → BudgetTree n k) × (partner f ≡ k → BudgetTree n k)
+tree-by : (n k f : ℕ) → n ≤ 2 → (x : Bool) → choose x (index.Index (6 + n)) (index.Index (9 + n)) ≡ index.Index f
+    → (f ≡ k → BudgetTree n k) × (partner f ≡ k → BudgetTree n k)
 unfolding choose
 tree-by n k f h true z =
     let y : 6 + n ≡ f = cc in
@@ -101,14 +111,18 @@ tree-by n k f h false z =
     ((λ w. exhausted (omega arith)), (λ w. with-time (sym w ∙ ap partner (sym y) ∙ partner-of-exhausted n)))
 
 -- A budget thread stands in one of the two trees of its role,
-pub filed-in : (r : ThreadRecord) (k : ℕ) → r .parameters .policy ≡ policy.Budget → Filed r k → BudgetTree (roleIndex (r .parameters .role)) k
+pub filed-in : (r : ThreadRecord) (k : ℕ) → r .parameters .policy ≡ policy.Budget → Filed r k
+    → BudgetTree (roleIndex (r .parameters .role)) k
 filed-in r k e (by-filing x) =
-    tree-by (roleIndex (r .parameters .role)) k k (role-index-le (r .parameters .role)) (budgetAvailable (r .runtime)) (sym (budget-filed r e) ∙ x) .0 refl
+    tree-by (roleIndex (r .parameters .role)) k k (role-index-le (r .parameters .role)) (budgetAvailable (r .runtime))
+    (sym (budget-filed r e) ∙ x) .0 refl
 filed-in r k e (in-partner f b x y) =
-    tree-by (roleIndex (r .parameters .role)) k f (role-index-le (r .parameters .role)) (budgetAvailable (r .runtime)) (sym (budget-filed r e) ∙ x) .1 y
+    tree-by (roleIndex (r .parameters .role)) k f (role-index-le (r .parameters .role)) (budgetAvailable (r .runtime))
+    (sym (budget-filed r e) ∙ x) .1 y
 
 file-by : (r : ThreadRecord) (k n : ℕ) → n ≤ 2 → isBudget (r .parameters .policy) ≡ true → (x : Bool)
-    → indexFor (r .parameters) (r .runtime) ≡ choose x (index.Index (6 + n)) (index.Index (9 + n)) → BudgetTree n k → Filed r k
+    → indexFor (r .parameters) (r .runtime) ≡ choose x (index.Index (6 + n)) (index.Index (9 + n)) → BudgetTree n k
+    → Filed r k
 unfolding choose
 file-by r k n h b true z (with-time w) = by-filing (z ∙ ap (λ m. index.Index m) (sym w))
 file-by r k n h b true z (exhausted w) = in-partner (6 + n) b z (partner-of-ready n h ∙ sym w)
@@ -116,13 +130,19 @@ file-by r k n h b false z (with-time w) = in-partner (9 + n) b z (partner-of-exh
 file-by r k n h b false z (exhausted w) = by-filing (z ∙ ap (λ m. index.Index m) (sym w))
 
 -- and may stand in either.
-pub file-in : (r : ThreadRecord) (k : ℕ) → r .parameters .policy ≡ policy.Budget → BudgetTree (roleIndex (r .parameters .role)) k → Filed r k
+pub file-in : (r : ThreadRecord) (k : ℕ) → r .parameters .policy ≡ policy.Budget
+    → BudgetTree (roleIndex (r .parameters .role)) k → Filed r k
 unfolding isBudget onPolicy
-file-in r k e b = file-by r k (roleIndex (r .parameters .role)) (role-index-le (r .parameters .role)) (rw e) (budgetAvailable (r .runtime)) (budget-filed r e) b
+file-in r k e b =
+    file-by r k (roleIndex (r .parameters .role)) (role-index-le (r .parameters .role)) (rw e)
+    (budgetAvailable (r .runtime)) (budget-filed r e) b
 
--- A queued budget thread may get another runtime, as a refresh gives it: it stands where it stood, by its filing or in the partner.
-module _ {cpu : CpuIndex} {queued : ℕ → Bool} {q : CpuRunQueue} {t : List ThreadRecord} (S : Sound cpu queued q t) (i : ℕ) (x : PolicyRuntime)
-    (e : queued i ≡ true) (b : recordOf t i .parameters .policy ≡ policy.Budget) (g : isBadRecord (withRuntime x (recordOf t i)) ≡ false) where
+-- A queued budget thread may get another runtime, as a refresh gives it: it stands where it stood, by its filing or in
+-- the partner.
+module _ {cpu : CpuIndex} {queued : ℕ → Bool} {q : CpuRunQueue} {t : List ThreadRecord} (S : Sound cpu queued q t)
+    (i : ℕ) (x : PolicyRuntime)
+    (e : queued i ≡ true) (b : recordOf t i .parameters .policy ≡ policy.Budget)
+    (g : isBadRecord (withRuntime x (recordOf t i)) ≡ false) where
   abbrev refreshed : List ThreadRecord
   refreshed = changed t i (withRuntime x)
 
@@ -140,7 +160,9 @@ module _ {cpu : CpuIndex} {queued : ℕ → Bool} {q : CpuRunQueue} {t : List Th
         judged = g;
         assigned = S .threads i e .assigned;
         listed = S .threads i e .listed;
-        filed = file-in (withRuntime x (recordOf t i)) (S .place i) b (filed-in (recordOf t i) (S .place i) b (S .threads i e .filed));
+        filed =
+            file-in (withRuntime x (recordOf t i)) (S .place i) b
+            (filed-in (recordOf t i) (S .place i) b (S .threads i e .filed));
       }))
       (λ z. rw (other-record j z) (S .threads j h))
 
@@ -153,7 +175,9 @@ module _ {cpu : CpuIndex} {queued : ℕ → Bool} {q : CpuRunQueue} {t : List Th
       (forest-still refreshed (omega (arith, S .forest .small, length-changed t i (withRuntime x)))
       (λ j m. (
         rw (after-set-runtime t i x) at (links-set-runtime t i x j),
-        rw (after-set-runtime t i x) at (key-set-runtime t i x j (budget-key-kept (recordOf t i .parameters) x (recordOf t i .runtime) (recordOf t i .«ready_turn») b)),
+        rw (after-set-runtime t i x) at
+            (key-set-runtime t i x j (budget-key-kept (recordOf t i .parameters) x (recordOf t i .runtime)
+            (recordOf t i .«ready_turn») b)),
       )) (S .forest))
       (S .stands) refreshed-queued
 

@@ -1,5 +1,6 @@
--- A sound queue of one processor, over queue, table and the set of queued threads; and what a call on it is to leave.
--- A thread is queued from its accepted enqueue to its accepted removal. Of a record that is not queued nothing is asked: neither its links nor its membership.
+-- A sound queue of one processor, over queue, table and the set of queued threads; and what a call on it is to leave. A
+-- thread is queued from its accepted enqueue to its accepted removal. Of a record that is not queued nothing is asked:
+-- neither its links nor its membership.
 use mathlib.Core.Path.{_≡_}
 use mathlib.Core.Bool.{Bool, true, false, _&&_}
 use mathlib.Core.Logic.{_≢_}
@@ -20,18 +21,21 @@ use Rattle.thread.specs.Filing.{indexFor}
 use Rattle.rows.specs.Table.{Out, out, recordOf, recordAt}
 use Rattle.sound_index.specs.Holds.{besidesLinks}
 use Rattle.sound_lists.specs.Sound.{withoutLists}
-use Rattle.queue.specs.declared.CpuRunQueue.{CpuRunQueue}
+use Rattle.queue.specs.RunQueue.{CpuRunQueue, treeCount}
 use Rattle.queue.specs.Queue.{Step, step, isFifo, isBudget, partner}
 use Rattle.sound_queue.specs.Forest.{Forest}
 use Rattle.sound_queue.specs.Lists.{listAt, listFor, rowOf, Lists}
 use Rattle.sound_queue.specs.Count.{count}
 
--- The tree in which a record may stand: that of its filing; of a budget also the partner, since its time may have run out or come back while it was queued.
+-- The tree in which a record may stand: that of its filing; of a budget also the partner, since its time may have run
+-- out or come back while it was queued.
 pub data Filed (r : ThreadRecord) (k : ℕ) : Type 0 where
   by-filing : indexFor (r .parameters) (r .runtime) ≡ index.Index k → Filed r k
-  in-partner : (f : ℕ) → isBudget (r .parameters .policy) ≡ true → indexFor (r .parameters) (r .runtime) ≡ index.Index f → partner f ≡ k → Filed r k
+  in-partner : (f : ℕ) → isBudget (r .parameters .policy) ≡ true → indexFor (r .parameters) (r .runtime) ≡ index.Index f
+      → partner f ≡ k → Filed r k
 
--- What is asked of the record of a queued thread that stands in tree k. Its list is one of the 257: a FIFO priority is below 256.
+-- What is asked of the record of a queued thread that stands in tree k. Its list is one of the 257: a FIFO priority is
+-- below 256.
 pub record Queued (cpu : CpuIndex) (r : ThreadRecord) (k : ℕ) : Type 0 where
   pub judged : isBadRecord r ≡ false
   pub assigned : r .cpu .0 ≡ cpu .0
@@ -42,12 +46,13 @@ pub record Queued (cpu : CpuIndex) (r : ThreadRecord) (k : ℕ) : Type 0 where
 unfoldable pub queuedOf : (SchedulingPolicy → Bool) → (ℕ → Bool) → List ThreadRecord → ℕ → Bool
 queuedOf p queued t j = queued j && p (recordOf t j .parameters .policy)
 
--- The twelve trees together and the lists together hold exactly the queued threads, each in one place and filed by its record; trees are in key order and
--- balanced with right heights, lists are linked both ways, lengths and budget count are true, and the queue is not halted.
+-- The twelve trees together and the lists together hold exactly the queued threads, each in one place and filed by its
+-- record; trees are in key order and balanced with right heights, lists are linked both ways, lengths and budget count
+-- are true, and the queue is not halted.
 pub record Sound (cpu : CpuIndex) (queued : ℕ → Bool) (q : CpuRunQueue) (t : List ThreadRecord) : Type 0 where
   pub place : ℕ → ℕ
   pub forest : Forest (q .indices) t place
-  pub stands : (j : ℕ) → ltb (place j) 12 ≡ queued j
+  pub stands : (j : ℕ) → ltb (place j) treeCount ≡ queued j
   pub threads : (j : ℕ) → queued j ≡ true → Queued cpu (recordOf t j) (place j)
   pub priorities : length (q .realtime) ≡ 256
   pub lists : Lists (listAt q) cpu t (rowOf queued t)
@@ -67,22 +72,25 @@ excluding i queued j = choose (eqb j i) false (queued j)
 abbrev pub withoutLinks : List ThreadRecord → List ThreadRecord
 withoutLinks t = besidesLinks (withoutLists t)
 
--- A call that names thread i left queue q and table s: the queue is sound, and now `after` are queued. Of every record only links changed, and a record that is
--- neither queued nor i did not change at all.
-pub record Kept (cpu : CpuIndex) (queued after : ℕ → Bool) (i : ℕ) (t : List ThreadRecord) (q : CpuRunQueue) (s : List ThreadRecord) : Type 0 where
+-- A call that names thread i left queue q and table s: the queue is sound, and now `after` are queued. Of every record
+-- only links changed, and a record that is neither queued nor i did not change at all.
+pub record Kept (cpu : CpuIndex) (queued after : ℕ → Bool) (i : ℕ) (t : List ThreadRecord) (q : CpuRunQueue)
+    (s : List ThreadRecord) : Type 0 where
   pub sound : Sound cpu after q s
   pub besides : withoutLinks s ≡ withoutLinks t
   pub others : (j : ℕ) → queued j ≡ false → j ≢ i → recordAt s j ≡ recordAt t j
 
 -- The call was accepted, and that is what it left.
-pub record Accepted (cpu : CpuIndex) (queued after : ℕ → Bool) (i : ℕ) (t : List ThreadRecord) (o : Out (Step (Unit {0}))) : Type 0 where
+pub record Accepted (cpu : CpuIndex) (queued after : ℕ → Bool) (i : ℕ) (t : List ThreadRecord)
+    (o : Out (Step (Unit {0}))) : Type 0 where
   pub queue : CpuRunQueue
   pub table : List ThreadRecord
   pub is : o ≡ out (step (value tt) queue) table
   pub kept : Kept cpu queued after i t queue table
 
 -- Refused with queue and table as they were, or accepted: what every call on a sound queue comes to.
-pub data Fine (cpu : CpuIndex) (queued after : ℕ → Bool) (i : ℕ) (q : CpuRunQueue) (t : List ThreadRecord) (o : Out (Step (Unit {0}))) : Type 0 where
+pub data Fine (cpu : CpuIndex) (queued after : ℕ → Bool) (i : ℕ) (q : CpuRunQueue) (t : List ThreadRecord)
+    (o : Out (Step (Unit {0}))) : Type 0 where
   unchanged : (n : ℕ) → o ≡ out (step (refused n) q) t → Fine cpu queued after i q t o
   made : Accepted cpu queued after i t o → Fine cpu queued after i q t o
 

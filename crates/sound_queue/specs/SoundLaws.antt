@@ -16,7 +16,7 @@ use Rattle.rows.specs.declared.QueueLinksRead.the-variants as queueLinks
 use Rattle.rows.specs.Table.{recordOf}
 use Rattle.rows.specs.TableLaws.{queue-links-within}
 use Rattle.sound_lists.specs.Frame.{member-of}
-use Rattle.queue.specs.declared.CpuRunQueue.{CpuRunQueue}
+use Rattle.queue.specs.RunQueue.{CpuRunQueue, treeCount}
 use Rattle.queue.specs.Queue.{isFifo, isBudget}
 use Rattle.sound_queue.specs.Forest.{Forest, placed}
 use Rattle.sound_queue.specs.PlaceLaws.{placed-same, placed-other, same-or-not}
@@ -62,15 +62,21 @@ unfolding rowOf
 row-by f g t j e = rw e
 
 -- The rows once a thread is queued, and once it is no more.
-pub row-included : (i : ℕ) (queued : ℕ → Bool) (t : List ThreadRecord) (j : ℕ) → placed i (listFor (recordOf t i .parameters .policy)) (rowOf queued t) j ≡ rowOf (including i queued) t j
+pub row-included : (i : ℕ) (queued : ℕ → Bool) (t : List ThreadRecord) (j : ℕ)
+    → placed i (listFor (recordOf t i .parameters .policy)) (rowOf queued t) j ≡ rowOf (including i queued) t j
 row-included i queued t j = same-or-not j i
-    (λ e. rw (e, placed-same i (listFor (recordOf t i .parameters .policy)) (rowOf queued t)) (sym (row-queued (including i queued) t i (included i queued))))
-    (λ e. placed-other i (listFor (recordOf t i .parameters .policy)) (rowOf queued t) j e ∙ row-by queued (including i queued) t j (sym (included-other i queued j e)))
+    (λ e. rw (e, placed-same i (listFor (recordOf t i .parameters .policy)) (rowOf queued t))
+    (sym (row-queued (including i queued) t i (included i queued))))
+    (λ e. placed-other i (listFor (recordOf t i .parameters .policy)) (rowOf queued t) j e
+    ∙ row-by queued (including i queued) t j (sym (included-other i queued j e)))
 
-pub row-excluded : (i : ℕ) (queued : ℕ → Bool) (t : List ThreadRecord) (j : ℕ) → placed i 257 (rowOf queued t) j ≡ rowOf (excluding i queued) t j
+pub row-excluded : (i : ℕ) (queued : ℕ → Bool) (t : List ThreadRecord) (j : ℕ)
+    → placed i 257 (rowOf queued t) j ≡ rowOf (excluding i queued) t j
 row-excluded i queued t j = same-or-not j i
-    (λ e. rw (e, placed-same i 257 (rowOf queued t)) (sym (row-not-queued (excluding i queued) t i (excluded i queued))))
-    (λ e. placed-other i 257 (rowOf queued t) j e ∙ row-by queued (excluding i queued) t j (sym (excluded-other i queued j e)))
+    (λ e. rw (e, placed-same i 257 (rowOf queued t))
+    (sym (row-not-queued (excluding i queued) t i (excluded i queued))))
+    (λ e. placed-other i 257 (rowOf queued t) j e
+    ∙ row-by queued (excluding i queued) t j (sym (excluded-other i queued j e)))
 
 -- The counts, with a thread that is queued in g and not in f, all others alike.
 module _ (p : SchedulingPolicy → Bool) (f g : ℕ → Bool) (t : List ThreadRecord) where
@@ -88,7 +94,8 @@ module _ (p : SchedulingPolicy → Bool) (f g : ℕ → Bool) (t : List ThreadRe
 
   pub counted : (i : ℕ) → i < length t → ((j : ℕ) → j ≢ i → g j ≡ f j) → f i ≡ false → g i ≡ true
       → count (length t) (queuedOf p g t)
-      ≡ choose (p (recordOf t i .parameters .policy)) (suc (count (length t) (queuedOf p f t))) (count (length t) (queuedOf p f t))
+      ≡ choose (p (recordOf t i .parameters .policy)) (suc (count (length t) (queuedOf p f t)))
+      (count (length t) (queuedOf p f t))
   counted i l h e k =
       count-one (length t) i (queuedOf p f t) (queuedOf p g t) l (λ j z. of-same j (h j z)) (of-none i e)
       ∙ ap (λ x. choose x (suc (count (length t) (queuedOf p f t))) (count (length t) (queuedOf p f t))) (of-one i k)
@@ -99,20 +106,28 @@ module _ (t s : List ThreadRecord) (e : withoutLinks s ≡ withoutLinks t) (queu
   unfolding rowOf
   row-still j = rw (same-parameters t s e j)
 
-  count-still : (p : SchedulingPolicy → Bool) → count (length s) (queuedOf p queued s) ≡ count (length t) (queuedOf p queued t)
+  count-still : (p : SchedulingPolicy → Bool)
+      → count (length s) (queuedOf p queued s) ≡ count (length t) (queuedOf p queued t)
   unfolding queuedOf
-  count-still p = rw (same-length t s e) (count-same (length t) (queuedOf p queued t) (queuedOf p queued s) (λ j l. rw (same-parameters t s e j)))
+  count-still p =
+      rw (same-length t s e) (count-same (length t) (queuedOf p queued t) (queuedOf p queued s)
+      (λ j l. rw (same-parameters t s e j)))
 
   -- So soundness may be shown by the earlier table, but for trees and lists.
-  pub sound-by : (cpu : CpuIndex) (q : CpuRunQueue) (place : ℕ → ℕ) → Forest (q .indices) s place → ((j : ℕ) → ltb (place j) 12 ≡ queued j)
-      → ((j : ℕ) → queued j ≡ true → Queued cpu (recordOf t j) (place j)) → length (q .realtime) ≡ 256 → Lists (listAt q) cpu s (rowOf queued t)
-      → q .«realtime_len» ≡ count (length t) (queuedOf isFifo queued t) → q .«budget_threads» ≡ count (length t) (queuedOf isBudget queued t) → q .halted ≡ false
+  pub sound-by : (cpu : CpuIndex) (q : CpuRunQueue) (place : ℕ → ℕ) → Forest (q .indices) s place
+      → ((j : ℕ) → ltb (place j) treeCount ≡ queued j)
+      → ((j : ℕ) → queued j ≡ true → Queued cpu (recordOf t j) (place j)) → length (q .realtime) ≡ 256
+      → Lists (listAt q) cpu s (rowOf queued t)
+      → q .«realtime_len» ≡ count (length t) (queuedOf isFifo queued t)
+      → q .«budget_threads» ≡ count (length t) (queuedOf isBudget queued t) → q .halted ≡ false
       → Sound cpu queued q s
   sound-by cpu q place F stands threads priorities L total budgets running = record {
     place = place;
     forest = F;
     stands = stands;
-    threads = λ j h. queued-still cpu (recordOf t j) (recordOf s j) (place j) (same-parameters t s e j) (same-runtime t s e j) (same-cpu t s e j) (threads j h);
+    threads =
+        λ j h. queued-still cpu (recordOf t j) (recordOf s j) (place j) (same-parameters t s e j) (same-runtime t s e j)
+        (same-cpu t s e j) (threads j h);
     priorities = priorities;
     lists = lists-same (rowOf queued s) (λ j. sym (row-still j)) L;
     total = total ∙ sym (count-still isFifo);
@@ -120,26 +135,30 @@ module _ (t s : List ThreadRecord) (e : withoutLinks s ≡ withoutLinks t) (queu
     running = running;
   }
 
-module _ {cpu : CpuIndex} {queued : ℕ → Bool} {q : CpuRunQueue} {t : List ThreadRecord} (S : Sound cpu queued q t) (j : ℕ) where
+module _ {cpu : CpuIndex} {queued : ℕ → Bool} {q : CpuRunQueue} {t : List ThreadRecord} (S : Sound cpu queued q t)
+    (j : ℕ) where
   -- Where a thread stands.
-  pub queued-placed : queued j ≡ true → S .place j < 12
-  queued-placed e = ltb-true (S .place j) 12 (S .stands j ∙ e)
+  pub queued-placed : queued j ≡ true → S .place j < treeCount
+  queued-placed e = ltb-true (S .place j) treeCount (S .stands j ∙ e)
 
-  pub not-queued-placed : queued j ≡ false → 12 ≤ S .place j
-  not-queued-placed e = ltb-false (S .place j) 12 (S .stands j ∙ e)
+  pub not-queued-placed : queued j ≡ false → treeCount ≤ S .place j
+  not-queued-placed e = ltb-false (S .place j) treeCount (S .stands j ∙ e)
 
   -- A queued thread is in the table,
   pub queued-inside : queued j ≡ true → j < length t
   queued-inside e = placed-inside (S .forest) j (queued-placed e)
 
   -- and its membership is that of its list.
-  pub queued-membership : queued j ≡ true → recordOf t j .«queue_links» .membership ≡ membershipAt cpu (listFor (recordOf t j .parameters .policy))
+  pub queued-membership : queued j ≡ true
+      → recordOf t j .«queue_links» .membership ≡ membershipAt cpu (listFor (recordOf t j .parameters .policy))
   queued-membership e =
       let n = listFor (recordOf t j .parameters .policy) in
       let r = row-queued queued t j e in
       let b = S .threads j e .listed in
       let m = member-of (S .lists .holds n b) j (S .lists .exact j n b ∙ eq-eqb (rowOf queued t j) n r) in
-      let z : queueLinks.Got (recordOf t j .«queue_links») ≡ queueLinks.Got (record { previous = m .0; next = m .1; membership = membershipAt cpu n }) =
+      let z : queueLinks.Got (recordOf t j .«queue_links»)
+      ≡ queueLinks.Got (record { previous = m .0; next = m .1; membership = membershipAt cpu n }) =
       sym (queue-links-within t j (queued-inside e)) ∙ m .2 in
-      let y : recordOf t j .«queue_links» ≡ record { previous = m .0; next = m .1; membership = membershipAt cpu n } = cc in
+      let y : recordOf t j .«queue_links»
+      ≡ record { previous = m .0; next = m .1; membership = membershipAt cpu n } = cc in
       ap (λ (l : QueueLinks). l .membership) y

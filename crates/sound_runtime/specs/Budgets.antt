@@ -17,8 +17,18 @@ use Rattle.arbitration.specs.Window as window
 module _ (r : BudgetRuntime) (now : ℕ) (p : BudgetParameters) where
   -- By whether the epoch rises.
   abbrev renewed : Bool → BudgetRuntime
-  renewed true = record { epoch = epoch.Some (now / p .«period_ns»); «remaining_ns» = p .«budget_ns»; «burst_remaining_ns» = r .«burst_remaining_ns» }
-  renewed false = record { epoch = r .epoch; «remaining_ns» = min (r .«remaining_ns») (p .«budget_ns»); «burst_remaining_ns» = r .«burst_remaining_ns» }
+  renewed true =
+      record {
+        epoch = epoch.Some (now / p .«period_ns»);
+        «remaining_ns» = p .«budget_ns»;
+        «burst_remaining_ns» = r .«burst_remaining_ns»;
+      }
+  renewed false =
+      record {
+        epoch = r .epoch;
+        «remaining_ns» = min (r .«remaining_ns») (p .«budget_ns»);
+        «burst_remaining_ns» = r .«burst_remaining_ns»;
+      }
 
   refreshed-is : budget.refreshed r now p ≡ renewed (rises (r .epoch) (now / p .«period_ns»))
   unfolding budget.refreshed given choose
@@ -44,13 +54,15 @@ module _ (r : BudgetRuntime) (now : ℕ) (p : BudgetParameters) where
       go true = refl
       go false = refl
 
--- A charge leaves no more of a budget than its refresh gave, and so no more than the budget; and no more of the burst than there was.
+-- A charge leaves no more of a budget than its refresh gave, and so no more than the budget; and no more of the burst
+-- than there was.
 pub record Charged (r s : BudgetRuntime) (end : ℕ) (p : BudgetParameters) : Type 0 where
   pub remaining : s .«remaining_ns» ≤ budget.refreshed r end p .«remaining_ns»
   pub within : s .«remaining_ns» ≤ p .«budget_ns»
   pub burst : s .«burst_remaining_ns» ≤ r .«burst_remaining_ns»
 
-pub charged-less : (r : BudgetRuntime) (start end : ℕ) (p : BudgetParameters) → Charged r (budget.charged r start end p) end p
+pub charged-less : (r : BudgetRuntime) (start end : ℕ) (p : BudgetParameters)
+    → Charged r (budget.charged r start end p) end p
 unfolding budget.charged
 charged-less r start end p =
     let limit : budget.refreshed r end p .«remaining_ns» ≤ p .«budget_ns» = refreshed-within r end p in
@@ -62,6 +74,7 @@ pub record WindowCharged (w v : CpuWindow) (end : ℕ) : Type 0 where
   pub allowance : v .«priority_remaining_ns» ≤ window.refreshed w end .«priority_remaining_ns»
   pub floor : v .«protected_remaining_ns» ≤ window.refreshed w end .«protected_remaining_ns»
 
-pub window-charged-less : (w : CpuWindow) (start end : ℕ) (p : SchedulingParameters) (m : DispatchMode) → WindowCharged w (window.charged w start end p m) end
+pub window-charged-less : (w : CpuWindow) (start end : ℕ) (p : SchedulingParameters) (m : DispatchMode)
+    → WindowCharged w (window.charged w start end p m) end
 unfolding window.charged
 window-charged-less w start end p m = record { allowance = omega arith; floor = omega arith }

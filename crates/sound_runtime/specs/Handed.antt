@@ -11,7 +11,8 @@ use Rattle.rows.specs.Table.{Out, out, after, recordOf}
 use Rattle.decisions.specs.declared.Turns.{Turns}
 use Rattle.runtime.specs.Prepare.{Counted, counted, prepareEnqueue}
 
--- A call: table, number, front flag, reading. Between two calls the table may change in any way, so each call brings its own.
+-- A call: table, number, front flag, reading. Between two calls the table may change in any way, so each call brings
+-- its own.
 pub data Call : Type 0 where
   prepare : List ThreadRecord → ℕ → Bool → ℕ → Call
 
@@ -38,7 +39,8 @@ abbrev pub turnOf : Handed → ℕ
 turnOf (atFront n) = n
 turnOf (atBack n) = n
 
--- A call handed out a turn where it moved a counter: the named record's turn afterwards. A turn that is kept is handed out by no call.
+-- A call handed out a turn where it moved a counter: the named record's turn afterwards. A turn that is kept is handed
+-- out by no call.
 unfoldable pub handed : Out Counted → ℕ → Turns → Option Handed
 handed x id c =
     ifEqual (countersAfter x .back) (c .back)
@@ -59,7 +61,8 @@ unfoldable pub countersOf : List Call → Turns → Turns
 countersOf [] c = c
 countersOf (call ∷ rest) c = countersOf rest (countersAfter (made call c))
 
--- What it means that x was handed out before y: back turns rise, front turns fall, and every front turn is less than every back turn.
+-- What it means that x was handed out before y: back turns rise, front turns fall, and every front turn is less than
+-- every back turn.
 abbrev pub Before : Handed → Handed → Type 0
 Before (atBack n) (atBack m) = n < m
 Before (atFront n) (atFront m) = m < n

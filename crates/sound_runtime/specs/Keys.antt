@@ -1,4 +1,5 @@
--- A FIFO thread with a lesser turn comes before every other of its priority, band and role: by its tree key, and by its dispatch key under any window and demand.
+-- A FIFO thread with a lesser turn comes before every other of its priority, band and role: by its tree key, and by its
+-- dispatch key under any window and demand.
 use Prim.Native.Nat.{ℕ, _<_}
 use mathlib.Core.Path.{_≡_, refl, sym, ap, _∙_}
 use mathlib.Core.Bool.{Bool, true, false}
@@ -25,7 +26,8 @@ use Rattle.dispatch_keys.specs.declared.DispatchKey.{DispatchKey}
 use Rattle.arbitration.specs.declared.DispatchMode.{DispatchMode}
 use Rattle.arbitration.specs.declared.KeyOption.the-variants as option
 use Rattle.window_config.specs.Config.{acceptsBudget}
-use Rattle.arbitration.specs.Key.{exhaustedOf, shutOut, strictFifo, favoured, algorithmOf, onAlgorithm, ordinaryRank, tierOf, keyOf, compareKeys}
+use Rattle.arbitration.specs.Key.{exhaustedOf, shutOut, strictFifo, favoured, algorithmOf, onAlgorithm, ordinaryRank}
+use Rattle.arbitration.specs.Key.{tierOf, keyOf, compareKeys}
 
 -- Two threads of one FIFO priority and band; r has the lesser turn.
 pub record Alike (p q : SchedulingParameters) : Type 0 where
@@ -34,11 +36,13 @@ pub record Alike (p q : SchedulingParameters) : Type 0 where
   pub second : q .policy ≡ policy.Fifo priority
   pub band : p .band .0 ≡ q .band .0
 
-fifo-algorithm : (p : SchedulingParameters) (r : ThreadRecord) (n : ℕ) (x : ThreadPriority) → p .policy ≡ policy.Fifo x → algorithmKey p (r .runtime) n ≡ record { high = 0; low = x .0 }
+fifo-algorithm : (p : SchedulingParameters) (r : ThreadRecord) (n : ℕ) (x : ThreadPriority) → p .policy ≡ policy.Fifo x
+    → algorithmKey p (r .runtime) n ≡ record { high = 0; low = x .0 }
 unfolding algorithmKey onPolicy
 fifo-algorithm p r n x e = rw e
 
-pub tree-key-less : (r s : ThreadRecord) (i j : ℕ) → Alike (r .parameters) (s .parameters) → r .«ready_turn» < s .«ready_turn»
+pub tree-key-less : (r s : ThreadRecord) (i j : ℕ) → Alike (r .parameters) (s .parameters)
+    → r .«ready_turn» < s .«ready_turn»
     → compareTreeKeys (readyIndexKey r i) (readyIndexKey s j) ≡ Less
 unfolding compareTreeKeys parts readyIndexKey treeKey compareParts thenBy
 tree-key-less r s i j a h =
@@ -53,7 +57,15 @@ tree-key-less r s i j a h =
 
 -- The key of a FIFO candidate without a budget, of this urgency and rank.
 abbrev fifoKey : ℕ → ℕ → Candidate → ThreadPriority → DispatchKey
-fifoKey urgency rank a x = record { urgency = urgency; rank = rank; «algorithm_rank» = 0; algorithm = record { high = 0; low = x .0 }; band = a .parameters .band .0; turn = a .turn }
+fifoKey urgency rank a x =
+    record {
+      urgency = urgency;
+      rank = rank;
+      «algorithm_rank» = 0;
+      algorithm = record { high = 0; low = x .0 };
+      band = a .parameters .band .0;
+      turn = a .turn;
+    }
 
 fifo-exhausted : (a : Candidate) (x : ThreadPriority) → a .parameters .policy ≡ policy.Fifo x → exhaustedOf a ≡ false
 unfolding exhaustedOf onPolicy
@@ -63,8 +75,11 @@ accepted : (c : ArbitrationConfig) (p : SchedulingParameters) → p .budget ≡ 
 unfolding acceptsBudget onBudget
 accepted c p e = rw e
 
-fifo-key : (w : CpuWindow) (now : ℕ) (d : Demand) (a : Candidate) (x : ThreadPriority) → a .parameters .policy ≡ policy.Fifo x → a .parameters .budget ≡ budget.None
-    → keyOf w now a d ≡ option.Some (fifoKey (tierOf w now (a .parameters) false d .urgency) (tierOf w now (a .parameters) false d .rank) a x) (tierOf w now (a .parameters) false d .mode)
+fifo-key : (w : CpuWindow) (now : ℕ) (d : Demand) (a : Candidate) (x : ThreadPriority)
+    → a .parameters .policy ≡ policy.Fifo x → a .parameters .budget ≡ budget.None
+    → keyOf w now a d ≡ option.Some
+    (fifoKey (tierOf w now (a .parameters) false d .urgency) (tierOf w now (a .parameters) false d .rank) a x)
+    (tierOf w now (a .parameters) false d .mode)
 unfolding keyOf choose given shutOut algorithmOf onAlgorithm onPolicy
 fifo-key w now d a x e n = rw (accepted (w .config) (a .parameters) n, fifo-exhausted a x e, e)
 
@@ -73,11 +88,13 @@ strict-same : (p q : SchedulingParameters) → p .policy ≡ q .policy → p .ro
 unfolding strictFifo
 strict-same p q e f = rw (e, f)
 
-favoured-same : (w : CpuWindow) (p q : SchedulingParameters) → p .policy ≡ q .policy → p .role ≡ q .role → favoured w p ≡ favoured w q
+favoured-same : (w : CpuWindow) (p q : SchedulingParameters) → p .policy ≡ q .policy → p .role ≡ q .role
+    → favoured w p ≡ favoured w q
 unfolding favoured
 favoured-same w p q e f = rw (e, f)
 
-tier-same : (w : CpuWindow) (now : ℕ) (d : Demand) (p q : SchedulingParameters) → p .policy ≡ q .policy → p .role ≡ q .role → tierOf w now p false d ≡ tierOf w now q false d
+tier-same : (w : CpuWindow) (now : ℕ) (d : Demand) (p q : SchedulingParameters) → p .policy ≡ q .policy
+    → p .role ≡ q .role → tierOf w now p false d ≡ tierOf w now q false d
 unfolding tierOf
 tier-same w now d p q e f = rw (strict-same p q e f, favoured-same w p q e f, e, f)
 
@@ -90,7 +107,8 @@ pub record Ahead (w : CpuWindow) (now : ℕ) (d : Demand) (a b : Candidate) : Ty
   pub other-has : keyOf w now b d ≡ option.Some other mode
   pub less : compareKeys key other ≡ Less
 
-fifo-less : (urgency rank : ℕ) (a b : Candidate) (x : ThreadPriority) → a .parameters .band .0 ≡ b .parameters .band .0 → a .turn < b .turn
+fifo-less : (urgency rank : ℕ) (a b : Candidate) (x : ThreadPriority) → a .parameters .band .0 ≡ b .parameters .band .0
+    → a .turn < b .turn
     → compareKeys (fifoKey urgency rank a x) (fifoKey urgency rank b x) ≡ Less
 unfolding compareKeys compareParts thenBy
 fifo-less urgency rank a b x e h =
@@ -103,14 +121,23 @@ fifo-less urgency rank a b x e h =
       compare-less (a .turn) (b .turn) h,
     )
 
-pub dispatch-key-less : (w : CpuWindow) (now : ℕ) (d : Demand) (a b : Candidate) → Alike (a .parameters) (b .parameters) → a .parameters .role ≡ b .parameters .role
+pub dispatch-key-less : (w : CpuWindow) (now : ℕ) (d : Demand) (a b : Candidate) → Alike (a .parameters) (b .parameters)
+    → a .parameters .role ≡ b .parameters .role
     → a .parameters .budget ≡ budget.None → b .parameters .budget ≡ budget.None → a .turn < b .turn → Ahead w now d a b
 dispatch-key-less w now d a b x r m n h =
     record {
-      key = fifoKey (tierOf w now (a .parameters) false d .urgency) (tierOf w now (a .parameters) false d .rank) a (x .priority);
-      other = fifoKey (tierOf w now (a .parameters) false d .urgency) (tierOf w now (a .parameters) false d .rank) b (x .priority);
+      key =
+          fifoKey (tierOf w now (a .parameters) false d .urgency) (tierOf w now (a .parameters) false d .rank) a
+          (x .priority);
+      other =
+          fifoKey (tierOf w now (a .parameters) false d .urgency) (tierOf w now (a .parameters) false d .rank) b
+          (x .priority);
       mode = tierOf w now (a .parameters) false d .mode;
       has = fifo-key w now d a (x .priority) (x .first) m;
-      other-has = rw (tier-same w now d (a .parameters) (b .parameters) (x .first ∙ sym (x .second)) r) (fifo-key w now d b (x .priority) (x .second) n);
-      less = fifo-less (tierOf w now (a .parameters) false d .urgency) (tierOf w now (a .parameters) false d .rank) a b (x .priority) (x .band) h;
+      other-has =
+          rw (tier-same w now d (a .parameters) (b .parameters) (x .first ∙ sym (x .second)) r)
+          (fifo-key w now d b (x .priority) (x .second) n);
+      less =
+          fifo-less (tierOf w now (a .parameters) false d .urgency) (tierOf w now (a .parameters) false d .rank) a b
+          (x .priority) (x .band) h;
     }

@@ -18,7 +18,8 @@ module _ (queued : ℕ → Bool) (t : List ThreadRecord) (now : ℕ) (current : 
   abbrev below : ℕ → Gathered
   below n = gatheredBelow n queued t now current
 
-  one-queued : (n : ℕ) → queued n ≡ true → gatheredBelow (suc n) queued t now current ≡ gathered (below n) (candidateNow t now n)
+  one-queued : (n : ℕ) → queued n ≡ true
+      → gatheredBelow (suc n) queued t now current ≡ gathered (below n) (candidateNow t now n)
   unfolding gatheredBelow choose
   one-queued n e = rw e
 
@@ -26,7 +27,8 @@ module _ (queued : ℕ → Bool) (t : List ThreadRecord) (now : ℕ) (current : 
   unfolding gatheredBelow choose
   one-not n e = rw e
 
-  by-queued : (n : ℕ) (P : Gathered → Type 0) → (queued n ≡ true → P (gathered (below n) (candidateNow t now n))) → (queued n ≡ false → P (below n)) → P (below (suc n))
+  by-queued : (n : ℕ) (P : Gathered → Type 0) → (queued n ≡ true → P (gathered (below n) (candidateNow t now n)))
+      → (queued n ≡ false → P (below n)) → P (below (suc n))
   by-queued n P f g = go (queued n) refl
     where
       go : (x : Bool) → queued n ≡ x → P (gatheredBelow (suc n) queued t now current)
@@ -34,7 +36,8 @@ module _ (queued : ℕ → Bool) (t : List ThreadRecord) (now : ℕ) (current : 
       go false e = subst P (sym (one-not n e)) (g e)
 
   wider : (n : ℕ) → Within (below n) (below (suc n))
-  wider n = by-queued n (Within (below n)) (λ e. gathered-old (below n) (candidateNow t now n)) (λ e. within-refl (below n))
+  wider n =
+      by-queued n (Within (below n)) (λ e. gathered-old (below n) (candidateNow t now n)) (λ e. within-refl (below n))
 
   pub below-current : (n : ℕ) → Within (ofCurrent current) (gatheredBelow n queued t now current)
   unfolding gatheredBelow
@@ -42,17 +45,23 @@ module _ (queued : ℕ → Bool) (t : List ThreadRecord) (now : ℕ) (current : 
   below-current (suc n) = within-trans (below-current n) (wider n)
 
   here : (n : ℕ) → queued n ≡ true → Within (alone (candidateNow t now n)) (below (suc n))
-  here n e = subst (Within (alone (candidateNow t now n))) (sym (one-queued n e)) (gathered-new (below n) (candidateNow t now n))
+  here n e =
+      subst (Within (alone (candidateNow t now n))) (sym (one-queued n e))
+      (gathered-new (below n) (candidateNow t now n))
 
-  pub below-each : (n j : ℕ) → j < n → queued j ≡ true → Within (alone (candidateNow t now j)) (gatheredBelow n queued t now current)
+  pub below-each : (n j : ℕ) → j < n → queued j ≡ true
+      → Within (alone (candidateNow t now j)) (gatheredBelow n queued t now current)
   below-each zero j l e = absurd (omega arith)
   below-each (suc n) j l e = same-or-not j n
       (λ z. subst (λ m. Within (alone (candidateNow t now m)) (below (suc n))) (sym z) (here n (ap queued (sym z) ∙ e)))
       (λ z. within-trans (below-each n j (omega arith) e) (wider n))
 
-  pub below-most : (n : ℕ) (z : Gathered) → Within (ofCurrent current) z → ((j : ℕ) → j < n → queued j ≡ true → Within (alone (candidateNow t now j)) z) → Within (gatheredBelow n queued t now current) z
+  pub below-most : (n : ℕ) (z : Gathered) → Within (ofCurrent current) z
+      → ((j : ℕ) → j < n → queued j ≡ true → Within (alone (candidateNow t now j)) z)
+      → Within (gatheredBelow n queued t now current) z
   unfolding gatheredBelow
   below-most zero z p f = p
   below-most (suc n) z p f =
       let q = below-most n z p (λ j l e. f j (omega arith) e) in
-      by-queued n (λ g. Within g z) (λ e. gathered-most (below n) (candidateNow t now n) z q (f n (omega arith) e)) (λ e. q)
+      by-queued n (λ g. Within g z) (λ e. gathered-most (below n) (candidateNow t now n) z q (f n (omega arith) e))
+      (λ e. q)

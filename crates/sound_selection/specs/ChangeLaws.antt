@@ -36,7 +36,9 @@ use Rattle.sound_queue.specs.Sound.{Filed, by-filing, in-partner}
 use Rattle.sound_queue.specs.Runtimes.{filed-in}
 use Rattle.sound_selection.specs.Claim.{refreshedTo}
 use Rattle.sound_selection.specs.RefreshLaws.{refreshed-again, refreshed-parameters, refreshed-key}
-use Rattle.sound_selection.specs.Changes.{bareAt, Fresher, kept, fresh, Shift, stays, shifts, Head, nobody-there, first-of, Standing, in-fifo, in-fair, in-budget}
+use Rattle.sound_selection.specs.Changes.{bareAt, Fresher, kept, fresh, Shift, stays, shifts, Head, nobody-there}
+use Rattle.sound_selection.specs.Changes.{first-of, Standing, in-fifo, in-fair, in-budget}
+use Rattle.queue.specs.RunQueue.{treeCount}
 
 -- Refreshed to now, both come to the same.
 pub fresher-now : {now : ℕ} {a b : ThreadRecord} → Fresher now a b → refreshedTo now b ≡ refreshedTo now a
@@ -49,9 +51,11 @@ fresher-trans {now} (kept e) (fresh f) = fresh (f ∙ ap (refreshedTo now) e)
 fresher-trans {now} (fresh e) (kept f) = fresh (f ∙ e)
 fresher-trans {now} {a} (fresh e) (fresh f) = fresh (f ∙ ap (refreshedTo now) e ∙ refreshed-again now a)
 
-pub shift-trans : {now p : ℕ} {a : ThreadRecord} {p′ : ℕ} {b : ThreadRecord} {p″ : ℕ} {c : ThreadRecord} → Shift now p a p′ b → Shift now p′ b p″ c → Shift now p a p″ c
+pub shift-trans : {now p : ℕ} {a : ThreadRecord} {p′ : ℕ} {b : ThreadRecord} {p″ : ℕ} {c : ThreadRecord}
+    → Shift now p a p′ b → Shift now p′ b p″ c → Shift now p a p″ c
 shift-trans (stays e f) (stays g h) = stays (g ∙ e) (h ∙ f)
-shift-trans {now} (stays e f) (shifts a c g h) = shifts (omega arith) (omega arith) (omega arith) (h ∙ ap (refreshedTo now) f)
+shift-trans {now} (stays e f) (shifts a c g h) =
+    shifts (omega arith) (omega arith) (omega arith) (h ∙ ap (refreshedTo now) f)
 shift-trans (shifts a c e f) (stays g h) = shifts a c (omega arith) (h ∙ f)
 shift-trans (shifts a c e f) (shifts x y g h) = absurd (omega arith)
 
@@ -78,17 +82,21 @@ fresher-parameters (kept e) = ap (λ (r : ThreadRecord). r .parameters) e
 fresher-parameters {now} {a} (fresh e) = ap (λ (r : ThreadRecord). r .parameters) e ∙ refreshed-parameters now a
 
 -- A record that is not bad keeps its key.
-pub fresher-key : {now : ℕ} {a b : ThreadRecord} (j : ℕ) → isBadRecord a ≡ false → Fresher now a b → readyIndexKey b j ≡ readyIndexKey a j
+pub fresher-key : {now : ℕ} {a b : ThreadRecord} (j : ℕ) → isBadRecord a ≡ false → Fresher now a b
+    → readyIndexKey b j ≡ readyIndexKey a j
 fresher-key j h (kept e) = ap (λ (r : ThreadRecord). readyIndexKey r j) e
 fresher-key {now} {a} j h (fresh e) = ap (λ (r : ThreadRecord). readyIndexKey r j) e ∙ refreshed-key now a h j
 
-precedes-each : (t : List ThreadRecord) (i : ℕ) (l : List ℕ) (j : ℕ) → PrecedesAll t i l → has j l ≡ true → Precedes t i j
+precedes-each : (t : List ThreadRecord) (i : ℕ) (l : List ℕ) (j : ℕ) → PrecedesAll t i l → has j l ≡ true
+    → Precedes t i j
 precedes-each t i [] j p e = never cc
 precedes-each t i (k ∷ l) j p e =
-    or-cases (eqb j k) (has j l) e (λ z. subst (Precedes t i) (sym (eqb-true j k z)) (p .here)) (λ z. precedes-each t i l j (p .rest) z)
+    or-cases (eqb j k) (has j l) e (λ z. subst (Precedes t i) (sym (eqb-true j k z)) (p .here))
+    (λ z. precedes-each t i l j (p .rest) z)
 
 -- The head of a list of threads in key order, whose threads are those of tree k.
-head-by : (t : List ThreadRecord) (place : ℕ → ℕ) (k : ℕ) (l : List ℕ) → Rising t l → ((j : ℕ) → has j l ≡ eqb (place j) k)
+head-by : (t : List ThreadRecord) (place : ℕ → ℕ) (k : ℕ) (l : List ℕ) → Rising t l
+    → ((j : ℕ) → has j l ≡ eqb (place j) k)
     → (x : Link) × (leastLink (leastOf l) ≡ value x) × Head t place k x
 unfolding leastLink
 head-by t place k [] p x = (link.None, refl, nobody-there (λ j. eqb-false (place j) k (sym (x j))))
@@ -104,12 +112,17 @@ head-by t place k (i ∷ l) p x = (
     go j d e = rw (ne-eqb j i d) at e
 
 -- The first of a tree in a forest is its head.
-pub head-is : {roots : List Root} {t : List ThreadRecord} {place : ℕ → ℕ} → Forest roots t place → (k : ℕ) → k < 12
+pub head-is : {roots : List Root} {t : List ThreadRecord} {place : ℕ → ℕ} → Forest roots t place → (k : ℕ)
+    → k < treeCount
     → (x : Link) × (headOf t (rootAt roots k) ≡ value x) × Head t place k x
 unfolding headOf
 head-is {roots} {t} {place} F k b =
-    let h = head-by t place k (inOrder (F .trees k)) (F .holds k b .rising) (λ j. F .exact j k b) in
-    (h .0, rw (F .rooted k b, first-names-least t (F .trees k) (F .holds k b) (F .balanced k b) (F .small)) (h .1), h .2)
+    let h = head-by t place k (inOrder (F .trees k)) (F .holds k b .rising) (λ j. F .exact j k b) in (
+      h .0,
+      rw (F .rooted k b, first-names-least t (F .trees k) (F .holds k b) (F .balanced k b) (F .small))
+          (h .1),
+      h .2,
+    )
 
 -- Where a thread stands tells its policy and role.
 pub standing : (r : ThreadRecord) (k : ℕ) → Filed r k → Standing r k
@@ -117,9 +130,11 @@ unfolding isBudget onPolicy indexFor given
 standing r k f = go (r .parameters .policy) refl f
   where
     go : (p : SchedulingPolicy) → r .parameters .policy ≡ p → Filed r k → Standing r k
-    go (policy.Fifo p) e (by-filing x) = in-fifo p e (let z : index.Index (roleIndex (r .parameters .role)) ≡ index.Index k = rw e at x in cc)
+    go (policy.Fifo p) e (by-filing x) =
+        in-fifo p e (let z : index.Index (roleIndex (r .parameters .role)) ≡ index.Index k = rw e at x in cc)
     go (policy.Fifo p) e (in-partner m b x y) = never (let z : false ≡ true = rw e at b in cc)
-    go policy.Fair e (by-filing x) = in-fair e (let z : index.Index (3 + roleIndex (r .parameters .role)) ≡ index.Index k = rw e at x in cc)
+    go policy.Fair e (by-filing x) =
+        in-fair e (let z : index.Index (3 + roleIndex (r .parameters .role)) ≡ index.Index k = rw e at x in cc)
     go policy.Fair e (in-partner m b x y) = never (let z : false ≡ true = rw e at b in cc)
     go policy.Budget e f = in-budget e (filed-in r k e f)
     go policy.Idle e (by-filing x) = never (let z : index.None ≡ index.Index k = rw e at x in cc)

@@ -20,7 +20,7 @@ use Rattle.rows.specs.Table.{Out, out, recordOf, recordAt, keyAt}
 use Rattle.selection.specs.declared.Selection.{Selection}
 use Rattle.selection.specs.Peek.{Peeked, peeked}
 use Rattle.sound_index.specs.Holds.{Precedes}
-use Rattle.queue.specs.declared.CpuRunQueue.{CpuRunQueue}
+use Rattle.queue.specs.RunQueue.{CpuRunQueue, treeCount}
 use Rattle.sound_queue.specs.Sound.{Sound}
 use Rattle.sound_queue.specs.Runtimes.{BudgetTree}
 use Rattle.sound_selection.specs.Claim.{refreshedTo}
@@ -34,10 +34,11 @@ pub data Fresher (now : ℕ) (a b : ThreadRecord) : Type 0 where
   kept : b ≡ a → Fresher now a b
   fresh : b ≡ refreshedTo now a → Fresher now a b
 
--- A change of period: a thread stays where and as it is; or, out of an exhausted tree, it goes to the tree of those with time left and is refreshed.
+-- A change of period: a thread stays where and as it is; or, out of an exhausted tree, it goes to the tree of those
+-- with time left and is refreshed.
 pub data Shift (now p : ℕ) (a : ThreadRecord) (p′ : ℕ) (b : ThreadRecord) : Type 0 where
   stays : p′ ≡ p → b ≡ a → Shift now p a p′ b
-  shifts : 9 ≤ p → p < 12 → p′ + 3 ≡ p → b ≡ refreshedTo now a → Shift now p a p′ b
+  shifts : 9 ≤ p → p < treeCount → p′ + 3 ≡ p → b ≡ refreshedTo now a → Shift now p a p′ b
 
 -- The head of tree k: none, and nobody stands there; or a thread that stands there and precedes every other that does.
 pub data Head (t : List ThreadRecord) (place : ℕ → ℕ) (k : ℕ) : Link → Type 0 where
@@ -46,7 +47,8 @@ pub data Head (t : List ThreadRecord) (place : ℕ → ℕ) (k : ℕ) : Link →
 
 -- What the tree says of a queued record: policy and role, and of a budget one of the two trees of its role.
 pub data Standing (r : ThreadRecord) (k : ℕ) : Type 0 where
-  in-fifo : (p : ThreadPriority) → r .parameters .policy ≡ policy.Fifo p → k ≡ roleIndex (r .parameters .role) → Standing r k
+  in-fifo : (p : ThreadPriority) → r .parameters .policy ≡ policy.Fifo p → k ≡ roleIndex (r .parameters .role)
+      → Standing r k
   in-fair : r .parameters .policy ≡ policy.Fair → k ≡ 3 + roleIndex (r .parameters .role) → Standing r k
   in-budget : r .parameters .policy ≡ policy.Budget → BudgetTree (roleIndex (r .parameters .role)) k → Standing r k
 
@@ -59,16 +61,20 @@ pub record Beside (q r : CpuRunQueue) : Type 0 where
   pub budgets : r .«budget_threads» ≡ q .«budget_threads»
   pub halted : r .halted ≡ q .halted
 
--- From a sound queue to a sound queue with the same threads queued: threads stay or shift, and a record that is not queued does not change at all.
-pub record Renewed {cpu : CpuIndex} {queued : ℕ → Bool} {q : CpuRunQueue} {t : List ThreadRecord} (S : Sound cpu queued q t) (now : ℕ) (r : CpuRunQueue) (s : List ThreadRecord) : Type 0 where
+-- From a sound queue to a sound queue with the same threads queued: threads stay or shift, and a record that is not
+-- queued does not change at all.
+pub record Renewed {cpu : CpuIndex} {queued : ℕ → Bool} {q : CpuRunQueue} {t : List ThreadRecord}
+    (S : Sound cpu queued q t) (now : ℕ) (r : CpuRunQueue) (s : List ThreadRecord) : Type 0 where
   pub sound : Sound cpu queued r s
   pub beside : Beside q r
   pub len : length s ≡ length t
   pub shift : (j : ℕ) → Shift now (S .place j) (bareAt t j) (sound .place j) (bareAt s j)
   pub others : (j : ℕ) → queued j ≡ false → recordAt s j ≡ recordAt t j
 
--- From a sound queue to a sound queue with the same roots and every thread where it stood: records are kept or refreshed, and a record that is not queued does not change at all.
-pub record Passed {cpu : CpuIndex} {queued : ℕ → Bool} {q : CpuRunQueue} {t : List ThreadRecord} (S : Sound cpu queued q t) (now : ℕ) (s : List ThreadRecord) : Type 0 where
+-- From a sound queue to a sound queue with the same roots and every thread where it stood: records are kept or
+-- refreshed, and a record that is not queued does not change at all.
+pub record Passed {cpu : CpuIndex} {queued : ℕ → Bool} {q : CpuRunQueue} {t : List ThreadRecord}
+    (S : Sound cpu queued q t) (now : ℕ) (s : List ThreadRecord) : Type 0 where
   pub sound : Sound cpu queued q s
   pub places : (j : ℕ) → sound .place j ≡ S .place j
   pub len : length s ≡ length t
@@ -76,15 +82,18 @@ pub record Passed {cpu : CpuIndex} {queued : ℕ → Bool} {q : CpuRunQueue} {t 
   pub keys : (j : ℕ) → keyAt s j ≡ keyAt t j
   pub others : (j : ℕ) → queued j ≡ false → recordAt s j ≡ recordAt t j
 
--- What a selection leaves of a sound queue: it is sound with the same threads queued, every record is kept or refreshed but for its tree links, and a record that is not
--- queued does not change at all.
-pub record Left (cpu : CpuIndex) (queued : ℕ → Bool) (t : List ThreadRecord) (now : ℕ) (r : CpuRunQueue) (s : List ThreadRecord) : Type 0 where
+-- What a selection leaves of a sound queue: it is sound with the same threads queued, every record is kept or refreshed
+-- but for its tree links, and a record that is not queued does not change at all.
+pub record Left (cpu : CpuIndex) (queued : ℕ → Bool) (t : List ThreadRecord) (now : ℕ) (r : CpuRunQueue)
+    (s : List ThreadRecord) : Type 0 where
   pub sound : Sound cpu queued r s
   pub len : length s ≡ length t
   pub fresher : (j : ℕ) → Fresher now (bareAt t j) (bareAt s j)
   pub others : (j : ℕ) → queued j ≡ false → recordAt s j ≡ recordAt t j
 
 -- Refused with queue, window and table as they were, or answered: what every selection on a sound queue comes to.
-pub data FineSelection (cpu : CpuIndex) (queued : ℕ → Bool) (q : CpuRunQueue) (t : List ThreadRecord) (now : ℕ) (w : CpuWindow) (o : Out (Peeked CpuRunQueue)) : Type 0 where
+pub data FineSelection (cpu : CpuIndex) (queued : ℕ → Bool) (q : CpuRunQueue) (t : List ThreadRecord) (now : ℕ)
+    (w : CpuWindow) (o : Out (Peeked CpuRunQueue)) : Type 0 where
   unchanged : (n : ℕ) → o ≡ out (peeked (refused n) w q) t → FineSelection cpu queued q t now w o
-  answered : (a : Selection) (v : CpuWindow) (r : CpuRunQueue) (s : List ThreadRecord) → o ≡ out (peeked (value a) v r) s → Left cpu queued t now r s → FineSelection cpu queued q t now w o
+  answered : (a : Selection) (v : CpuWindow) (r : CpuRunQueue) (s : List ThreadRecord)
+      → o ≡ out (peeked (value a) v r) s → Left cpu queued t now r s → FineSelection cpu queued q t now w o

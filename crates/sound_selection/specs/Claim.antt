@@ -27,7 +27,7 @@ use Rattle.thread.specs.Records.{withRuntime}
 use Rattle.rows.specs.Table.{Out, out, recordOf, recordAt}
 use Rattle.lists.specs.Lists.{onAnswer}
 use Rattle.ready_index.specs.Index.{contains}
-use Rattle.queue.specs.declared.CpuRunQueue.{CpuRunQueue}
+use Rattle.queue.specs.RunQueue.{CpuRunQueue}
 use Rattle.queue.specs.Queue.{Step, step, newQueue, rootOf, isBudget, onContained, enqueueCall, removeCall}
 use Rattle.demands.specs.declared.CandidateOption.{CandidateOption}
 use Rattle.demands.specs.declared.Gathered.{Gathered}
@@ -48,27 +48,34 @@ refreshedTo now r = onAnswer (epochRefreshed (r .runtime) now (r .parameters)) (
 unfoldable pub candidateNow : List ThreadRecord → ℕ → ℕ → Candidate
 candidateNow t now j = candidateOf (refreshedTo now (recordOf t j))
 
--- The source's demand, and the lowest fair pass, of the current thread, if given, and of every queued thread below n, refreshed to now.
+-- The source's demand, and the lowest fair pass, of the current thread, if given, and of every queued thread below n,
+-- refreshed to now.
 unfoldable pub gatheredBelow : ℕ → (ℕ → Bool) → List ThreadRecord → ℕ → CandidateOption → Gathered
 gatheredBelow zero queued t now current = ofCurrent current
 gatheredBelow (suc n) queued t now current =
-    choose (queued n) (gathered (gatheredBelow n queued t now current) (candidateNow t now n)) (gatheredBelow n queued t now current)
+    choose (queued n) (gathered (gatheredBelow n queued t now current) (candidateNow t now n))
+    (gatheredBelow n queued t now current)
 
 -- Of every queued thread.
 abbrev pub gatheredNow : (ℕ → Bool) → List ThreadRecord → ℕ → CandidateOption → Gathered
 gatheredNow queued t now current = gatheredBelow (length t) queued t now current
 
--- What the source gives the refreshed record under a demand and the window refreshed to now: a key with its mode, or none.
+-- What the source gives the refreshed record under a demand and the window refreshed to now: a key with its mode, or
+-- none.
 unfoldable pub keyNow : List ThreadRecord → CpuWindow → ℕ → Demand → ℕ → KeyOption
 keyNow t w now d j = keyOf (refreshed w now) now (candidateNow t now j) d
 
--- A queued budget thread is filed as having time left if it stands in such a tree, or in an exhausted one while the queue's epoch is not e.
+-- A queued budget thread is filed as having time left if it stands in such a tree, or in an exhausted one while the
+-- queue's epoch is not e.
 unfoldable pub filedReady : CpuRunQueue → List ThreadRecord → ℕ → ℕ → Bool
 filedReady q t e j =
-    onContained (contains t (rootOf q (6 + roleIndex (recordOf t j .parameters .role))) j) true (not (isEpoch (q .«budget_epoch») e)) (not (isEpoch (q .«budget_epoch») e))
+    onContained (contains t (rootOf q (6 + roleIndex (recordOf t j .parameters .role))) j) true
+    (not (isEpoch (q .«budget_epoch») e)) (not (isEpoch (q .«budget_epoch») e))
 
--- The premises on a selection: a sound window that admits every queued thread, one fair backend among them, and budget threads filed by whether they have time left.
-pub record Premises (queued : ℕ → Bool) (q : CpuRunQueue) (t : List ThreadRecord) (now : ℕ) (w : CpuWindow) : Type 0 where
+-- The premises on a selection: a sound window that admits every queued thread, one fair backend among them, and budget
+-- threads filed by whether they have time left.
+pub record Premises (queued : ℕ → Bool) (q : CpuRunQueue) (t : List ThreadRecord) (now : ℕ)
+    (w : CpuWindow) : Type 0 where
   pub window : soundConfig (w .config) ≡ true
   pub backend : FairBackend
   pub admits : (j : ℕ) → queued j ≡ true → admitted (w .config) (recordOf t j .parameters) backend ≡ true
@@ -80,19 +87,23 @@ pub data Later (k : DispatchKey) (i : ℕ) (l : DispatchKey) (j : ℕ) : Type 0 
   greater-key : compareKeys k l ≡ Less → Later k i l j
   higher-number : compareKeys k l ≡ Equal → i < j → Later k i l j
 
--- None: no queued thread has a key. A thread: it is queued, has that key, and every other queued thread that has one comes later.
+-- None: no queued thread has a key. A thread: it is queued, has that key, and every other queued thread that has one
+-- comes later.
 abbrev pub Names : (ℕ → Bool) → List ThreadRecord → CpuWindow → ℕ → Demand → ReadyOption → Type 0
 Names queued t w now d ready.None = (j : ℕ) → queued j ≡ true → keyNow t w now d j ≡ key.None
 Names queued t w now d (ready.Some r) = record {
   is-queued : queued (r .id .0) ≡ true;
   its-policy : r .policy ≡ recordOf t (r .id .0) .parameters .policy;
   its-key : (m : DispatchMode) × (keyNow t w now d (r .id .0) ≡ key.Some (r .key) m);
-  least : (j : ℕ) (k : DispatchKey) (m : DispatchMode) → queued j ≡ true → j ≢ r .id .0 → keyNow t w now d j ≡ key.Some k m → Later (r .key) (r .id .0) k j;
+  least : (j : ℕ) (k : DispatchKey) (m : DispatchMode) → queued j ≡ true → j ≢ r .id .0
+      → keyNow t w now d j ≡ key.Some k m → Later (r .key) (r .id .0) k j;
 }
 
--- A selection is answered, not refused: with the demand of all queued threads and the current one, their lowest fair pass, and of all queued threads the one with the least
--- key under that demand. The window is refreshed to now, unless nobody is queued.
-pub record Answered (queued : ℕ → Bool) (t : List ThreadRecord) (now : ℕ) (w : CpuWindow) (current : CandidateOption) (o : Out (Peeked CpuRunQueue)) : Type 0 where
+-- A selection is answered, not refused: with the demand of all queued threads and the current one, their lowest fair
+-- pass, and of all queued threads the one with the least key under that demand. The window is refreshed to now, unless
+-- nobody is queued.
+pub record Answered (queued : ℕ → Bool) (t : List ThreadRecord) (now : ℕ) (w : CpuWindow) (current : CandidateOption)
+    (o : Out (Peeked CpuRunQueue)) : Type 0 where
   pub selection : Selection
   pub window : CpuWindow
   pub queue : CpuRunQueue
@@ -104,7 +115,8 @@ pub record Answered (queued : ℕ → Bool) (t : List ThreadRecord) (now : ℕ) 
   pub window-fresh : (j : ℕ) → queued j ≡ true → window ≡ refreshed w now
   pub window-kept : ((j : ℕ) → queued j ≡ false) → window ≡ w
 
--- A queue call for one processor, or a change of records beside the queue. Each selection brings its own reading, window and, if any, current thread.
+-- A queue call for one processor, or a change of records beside the queue. Each selection brings its own reading,
+-- window and, if any, current thread.
 pub data Call : Type 0 where
   enqueueAt : Bool → ℕ → Call
   removeAt : ℕ → Call
@@ -128,7 +140,8 @@ leftBySelection (out (peeked a w q) t) queued = record { queue = q; table = t; q
 
 -- What a call, accepted or refused, or a change leaves.
 unfoldable pub after : CpuIndex → Call → State → State
-after cpu (enqueueAt front i) s = leftBy (enqueueCall front (s .table) (s .queue) i cpu) (s .queued) (including i (s .queued))
+after cpu (enqueueAt front i) s =
+    leftBy (enqueueCall front (s .table) (s .queue) i cpu) (s .queued) (including i (s .queued))
 after cpu (removeAt i) s = leftBy (removeCall (s .table) (s .queue) i cpu) (s .queued) (excluding i (s .queued))
 after cpu (selectAt now w current) s = leftBySelection (peekNext (s .table) (s .queue) cpu now w current) (s .queued)
 after cpu (changeTo t) s = record { queue = s .queue; table = t; queued = s .queued }
@@ -142,7 +155,8 @@ abbrev pub Allowed : Call → State → Type 0
 Allowed (enqueueAt front i) s = Unit {0}
 Allowed (removeAt i) s = Unit {0}
 Allowed (selectAt now w current) s = Unit {0}
-Allowed (changeTo t) s = (length t ≡ length (s .table)) × ((j : ℕ) → s .queued j ≡ true → recordAt t j ≡ recordAt (s .table) j) × Bytes t
+Allowed (changeTo t) s =
+    (length t ≡ length (s .table)) × ((j : ℕ) → s .queued j ≡ true → recordAt t j ≡ recordAt (s .table) j) × Bytes t
 
 -- One call after the other, each on what the one before left.
 unfoldable pub afterAll : CpuIndex → List Call → State → State
@@ -155,10 +169,14 @@ AllAllowed cpu (c ∷ l) s = record { this : Allowed c s; rest : AllAllowed cpu 
 
 -- The call is accepted; a change always is.
 abbrev pub Accepted : CpuIndex → Call → State → Type 0
-Accepted cpu (enqueueAt front i) s = (q : CpuRunQueue) × (t : List ThreadRecord) × (enqueueCall front (s .table) (s .queue) i cpu ≡ out (step (value tt) q) t)
-Accepted cpu (removeAt i) s = (q : CpuRunQueue) × (t : List ThreadRecord) × (removeCall (s .table) (s .queue) i cpu ≡ out (step (value tt) q) t)
+Accepted cpu (enqueueAt front i) s =
+    (q : CpuRunQueue) × (t : List ThreadRecord)
+    × (enqueueCall front (s .table) (s .queue) i cpu ≡ out (step (value tt) q) t)
+Accepted cpu (removeAt i) s =
+    (q : CpuRunQueue) × (t : List ThreadRecord) × (removeCall (s .table) (s .queue) i cpu ≡ out (step (value tt) q) t)
 Accepted cpu (selectAt now w current) s =
-    (a : Selection) × (v : CpuWindow) × (q : CpuRunQueue) × (t : List ThreadRecord) × (peekNext (s .table) (s .queue) cpu now w current ≡ out (peeked (value a) v q) t)
+    (a : Selection) × (v : CpuWindow) × (q : CpuRunQueue) × (t : List ThreadRecord)
+    × (peekNext (s .table) (s .queue) cpu now w current ≡ out (peeked (value a) v q) t)
 Accepted cpu (changeTo t) s = Unit {0}
 
 -- Accepted, or refused with queue and records as they were.
@@ -180,4 +198,5 @@ abbrev pub PremisesIn : State → ℕ → CpuWindow → Type 0
 PremisesIn s now w = Premises (s .queued) (s .queue) (s .table) now w
 
 abbrev pub AnsweredIn : CpuIndex → State → ℕ → CpuWindow → CandidateOption → Type 0
-AnsweredIn cpu s now w current = Answered (s .queued) (s .table) now w current (peekNext (s .table) (s .queue) cpu now w current)
+AnsweredIn cpu s now w current =
+    Answered (s .queued) (s .table) now w current (peekNext (s .table) (s .queue) cpu now w current)

@@ -1,4 +1,5 @@
--- Records of one class ask for the same, have keys of one tier, and the order of their tree keys is that of their dispatch keys.
+-- Records of one class ask for the same, have keys of one tier, and the order of their tree keys is that of their
+-- dispatch keys.
 use Prim.Native.Nat.{ℕ, _≤_}
 use mathlib.Core.Path.{_≡_, refl, sym, ap, _∙_, subst}
 use mathlib.Core.Bool.{Bool, true, false, not}
@@ -24,7 +25,8 @@ use Rattle.arbitration.specs.declared.DispatchMode.{DispatchMode}
 use Rattle.arbitration.specs.declared.KeyOption.{KeyOption}
 use Rattle.arbitration.specs.declared.KeyOption.the-variants as key
 use Rattle.window_config.specs.Config.{acceptsBudget}
-use Rattle.arbitration.specs.Key.{exhaustedOf, shutOut, strictFifo, favoured, algorithmOf, onAlgorithm, ordinaryRank, tierOf, keyOf}
+use Rattle.arbitration.specs.Key.{exhaustedOf, shutOut, strictFifo, favoured, algorithmOf, onAlgorithm, ordinaryRank}
+use Rattle.arbitration.specs.Key.{tierOf, keyOf}
 use Rattle.thread.specs.declared.ThreadRecord.{ThreadRecord}
 use Rattle.thread.specs.Filing.{budgetAvailable, roleIndex}
 use Rattle.thread.specs.FilingLaws.{role-index-le}
@@ -34,7 +36,8 @@ use Rattle.demands.specs.declared.PassOption.{PassOption}
 use Rattle.demands.specs.declared.PassOption.the-variants as pass
 use Rattle.sound_selection.specs.Within.{AtMost, less, same, passParts, PassWithin, Within, alone, pairParts}
 use Rattle.sound_selection.specs.PairLaws.{first-parts, same-first}
-use Rattle.sound_selection.specs.Classes.{Class, fifo-class, fair-class, ready-class, exhausted-class, Alike, both-fifo, both-fair, both-budget}
+use Rattle.sound_selection.specs.Classes.{Class, fifo-class, fair-class, ready-class, exhausted-class, Alike}
+use Rattle.sound_selection.specs.Classes.{both-fifo, both-fair, both-budget}
 
 role-same : (r s : SchedulingRole) → roleIndex r ≡ roleIndex s → r ≡ s
 unfolding roleIndex onRole
@@ -103,24 +106,29 @@ dispatch urgency rank n r =
     }
 
 -- The order of tree keys is that of dispatch keys with numbers.
-tree-order : (urgency rank n i j : ℕ) (a b : ThreadRecord) → compareTreeKeys (readyIndexKey a i) (readyIndexKey b j) ≡ Less
+tree-order : (urgency rank n i j : ℕ) (a b : ThreadRecord)
+    → compareTreeKeys (readyIndexKey a i) (readyIndexKey b j) ≡ Less
     → AtMost (pairParts (dispatch urgency rank n a) i) (pairParts (dispatch urgency rank n b) j)
 unfolding compareTreeKeys parts readyIndexKey treeKey
 tree-order urgency rank n i j a b h = less (same-first urgency _ _ ∙ same-first rank _ _ ∙ same-first n _ _ ∙ h)
 
 module _ (w : CpuWindow) (now : ℕ) (d : Demand) where
-  -- The key that a window gives a record: none where it is shut out, else over its tree key's parts. x: it is exhausted; n: the algorithm's rank.
+  -- The key that a window gives a record: none where it is shut out, else over its tree key's parts. x: it is
+  -- exhausted; n: the algorithm's rank.
   abbrev formed : Bool → ℕ → ThreadRecord → KeyOption
   formed x n r =
       choose (shutOut x d) key.None
-      (key.Some (dispatch (tierOf w now (r .parameters) x d .urgency) (tierOf w now (r .parameters) x d .rank) n r) (tierOf w now (r .parameters) x d .mode))
+      (key.Some (dispatch (tierOf w now (r .parameters) x d .urgency) (tierOf w now (r .parameters) x d .rank) n r)
+      (tierOf w now (r .parameters) x d .mode))
 
   module _ (r : ThreadRecord) (acc : acceptsBudget (w .config) (r .parameters) ≡ true) where
-    fifo-key : (p : ThreadPriority) → r .parameters .policy ≡ policy.Fifo p → keyOf w now (candidateOf r) d ≡ formed false 0 r
+    fifo-key : (p : ThreadPriority) → r .parameters .policy ≡ policy.Fifo p
+        → keyOf w now (candidateOf r) d ≡ formed false 0 r
     unfolding keyOf candidateOf given exhaustedOf algorithmOf onAlgorithm algorithmKey onPolicy choose
     fifo-key p e = rw (acc, e)
 
-    budget-key : r .parameters .policy ≡ policy.Budget → keyOf w now (candidateOf r) d ≡ formed (not (budgetAvailable (r .runtime))) 2 r
+    budget-key : r .parameters .policy ≡ policy.Budget
+        → keyOf w now (candidateOf r) d ≡ formed (not (budgetAvailable (r .runtime))) 2 r
     unfolding keyOf candidateOf given exhaustedOf algorithmOf onAlgorithm algorithmKey onPolicy choose
     budget-key e = rw (acc, e)
 
@@ -133,7 +141,8 @@ module _ (w : CpuWindow) (now : ℕ) (d : Demand) where
         go backend.RoundRobin f = rw (acc, e, f)
 
   -- One tier.
-  tier-same : (a b : ThreadRecord) (x : Bool) → Alike a b → tierOf w now (a .parameters) x d ≡ tierOf w now (b .parameters) x d
+  tier-same : (a b : ThreadRecord) (x : Bool) → Alike a b
+      → tierOf w now (a .parameters) x d ≡ tierOf w now (b .parameters) x d
   unfolding tierOf strictFifo favoured ordinaryRank onPolicy given
   tier-same a b x (both-fifo p q e f r) = rw (e, f, r)
   tier-same a b x (both-fair e f r) = rw (e, f, r)
@@ -146,8 +155,10 @@ module _ (w : CpuWindow) (now : ℕ) (d : Demand) where
     pub has-key : keyOf w now (candidateOf a) d ≡ key.Some first mode
     pub at-most : AtMost (pairParts first i) (pairParts k j)
 
-  before-by : (i j : ℕ) (a b : ThreadRecord) (x : Bool) (n : ℕ) (k : DispatchKey) (m : DispatchMode) → compareTreeKeys (readyIndexKey a i) (readyIndexKey b j) ≡ Less
-      → tierOf w now (a .parameters) x d ≡ tierOf w now (b .parameters) x d → keyOf w now (candidateOf a) d ≡ formed x n a → keyOf w now (candidateOf b) d ≡ formed x n b
+  before-by : (i j : ℕ) (a b : ThreadRecord) (x : Bool) (n : ℕ) (k : DispatchKey) (m : DispatchMode)
+      → compareTreeKeys (readyIndexKey a i) (readyIndexKey b j) ≡ Less
+      → tierOf w now (a .parameters) x d ≡ tierOf w now (b .parameters) x d
+      → keyOf w now (candidateOf a) d ≡ formed x n a → keyOf w now (candidateOf b) d ≡ formed x n b
       → keyOf w now (candidateOf b) d ≡ key.Some k m → Before i j a k
   unfolding choose
   before-by i j a b x n k m h t e f g = go (shutOut x d) refl
@@ -155,29 +166,40 @@ module _ (w : CpuWindow) (now : ℕ) (d : Demand) where
       go : (y : Bool) → shutOut x d ≡ y → Before i j a k
       go true z = let q : key.None ≡ key.Some k m = sym (f ∙ rw z) ∙ g in never cc
       go false z =
-          let q : key.Some (dispatch (tierOf w now (b .parameters) x d .urgency) (tierOf w now (b .parameters) x d .rank) n b) (tierOf w now (b .parameters) x d .mode) ≡ key.Some k m = sym (f ∙ rw z) ∙ g in
-          let p : dispatch (tierOf w now (b .parameters) x d .urgency) (tierOf w now (b .parameters) x d .rank) n b ≡ k = cc in
+          let q : key.Some (dispatch (tierOf w now (b .parameters) x d .urgency)
+          (tierOf w now (b .parameters) x d .rank) n b) (tierOf w now (b .parameters) x d .mode)
+          ≡ key.Some k m = sym (f ∙ rw z) ∙ g in
+          let p : dispatch (tierOf w now (b .parameters) x d .urgency) (tierOf w now (b .parameters) x d .rank) n b
+          ≡ k = cc in
           record {
             first = dispatch (tierOf w now (b .parameters) x d .urgency) (tierOf w now (b .parameters) x d .rank) n a;
             mode = tierOf w now (b .parameters) x d .mode;
             has-key = e ∙ rw (z, t);
-            at-most = subst (λ (y : DispatchKey). AtMost (pairParts (dispatch (tierOf w now (b .parameters) x d .urgency) (tierOf w now (b .parameters) x d .rank) n a) i) (pairParts y j)) p
-                (tree-order (tierOf w now (b .parameters) x d .urgency) (tierOf w now (b .parameters) x d .rank) n i j a b h);
+            at-most = subst (λ (y : DispatchKey). AtMost
+                (pairParts (dispatch (tierOf w now (b .parameters) x d .urgency)
+                (tierOf w now (b .parameters) x d .rank) n a) i) (pairParts y j)) p
+                (tree-order (tierOf w now (b .parameters) x d .urgency)
+                (tierOf w now (b .parameters) x d .rank) n i j a b h);
           }
 
   -- The head of a tree comes before every other thread of it.
-  pub alike-before : (i j : ℕ) (a b : ThreadRecord) (k : DispatchKey) (m : DispatchMode) → Alike a b → acceptsBudget (w .config) (a .parameters) ≡ true → acceptsBudget (w .config) (b .parameters) ≡ true
-      → compareTreeKeys (readyIndexKey a i) (readyIndexKey b j) ≡ Less → keyOf w now (candidateOf b) d ≡ key.Some k m → Before i j a k
+  pub alike-before : (i j : ℕ) (a b : ThreadRecord) (k : DispatchKey) (m : DispatchMode) → Alike a b
+      → acceptsBudget (w .config) (a .parameters) ≡ true → acceptsBudget (w .config) (b .parameters) ≡ true
+      → compareTreeKeys (readyIndexKey a i) (readyIndexKey b j) ≡ Less → keyOf w now (candidateOf b) d ≡ key.Some k m
+      → Before i j a k
   alike-before i j a b k m (both-fifo p q e f r) u v h g =
-      before-by i j a b false 0 k m h (tier-same a b false (both-fifo p q e f r)) (fifo-key a u p e) (fifo-key b v q f) g
+      before-by i j a b false 0 k m h (tier-same a b false (both-fifo p q e f r)) (fifo-key a u p e)
+      (fifo-key b v q f) g
   alike-before i j a b k m (both-fair e f r) u v h g =
       before-by i j a b false 1 k m h (tier-same a b false (both-fair e f r)) (fair-key a u e) (fair-key b v f) g
   alike-before i j a b k m (both-budget e f r l) u v h g =
-      before-by i j a b (not (budgetAvailable (b .runtime))) 2 k m h (tier-same a b (not (budgetAvailable (b .runtime))) (both-budget e f r l))
+      before-by i j a b (not (budgetAvailable (b .runtime))) 2 k m h
+      (tier-same a b (not (budgetAvailable (b .runtime))) (both-budget e f r l))
       (subst (λ y. keyOf w now (candidateOf a) d ≡ formed (not y) 2 a) l (budget-key a u e)) (budget-key b v f) g
 
 -- A round-robin thread counts as pass 0.
-round-robin-pass : (x : PolicyRuntime) (p : SchedulingParameters) (turn : ℕ) → p .«fair_backend» ≡ backend.RoundRobin → candidateKey x p turn .pass ≡ zeroPass
+round-robin-pass : (x : PolicyRuntime) (p : SchedulingParameters) (turn : ℕ) → p .«fair_backend» ≡ backend.RoundRobin
+    → candidateKey x p turn .pass ≡ zeroPass
 unfolding candidateKey onRuntime onBackend
 round-robin-pass runtime.Fifo p turn e = refl
 round-robin-pass (runtime.Fair f) p turn e = rw e
@@ -185,49 +207,64 @@ round-robin-pass (runtime.Budget b) p turn e = refl
 round-robin-pass runtime.Idle p turn e = refl
 
 stride-pass : (r : ThreadRecord) → r .parameters .policy ≡ policy.Fair → r .parameters .«fair_backend» ≡ backend.Stride
-    → algorithmKey (r .parameters) (r .runtime) (r .«ready_turn») ≡ candidateKey (r .runtime) (r .parameters) (r .«ready_turn») .pass
+    → algorithmKey (r .parameters) (r .runtime) (r .«ready_turn») ≡ candidateKey (r .runtime) (r .parameters)
+    (r .«ready_turn») .pass
 unfolding algorithmKey onPolicy onBackend given
 stride-pass r e f = rw (e, f)
 
 module _ (i j : ℕ) (a b : ThreadRecord) where
   -- In key order, the first one's pass is at most the other's, where both are of one backend.
-  pass-order : (f : FairBackend) → a .parameters .policy ≡ policy.Fair → b .parameters .policy ≡ policy.Fair → a .parameters .«fair_backend» ≡ f → b .parameters .«fair_backend» ≡ f
+  pass-order : (f : FairBackend) → a .parameters .policy ≡ policy.Fair → b .parameters .policy ≡ policy.Fair
+      → a .parameters .«fair_backend» ≡ f → b .parameters .«fair_backend» ≡ f
       → compareTreeKeys (readyIndexKey a i) (readyIndexKey b j) ≡ Less
-      → AtMost (passParts (candidateKey (a .runtime) (a .parameters) (a .«ready_turn») .pass)) (passParts (candidateKey (b .runtime) (b .parameters) (b .«ready_turn») .pass))
+      → AtMost (passParts (candidateKey (a .runtime) (a .parameters) (a .«ready_turn») .pass))
+      (passParts (candidateKey (b .runtime) (b .parameters) (b .«ready_turn») .pass))
   unfolding compareTreeKeys parts readyIndexKey treeKey
   pass-order backend.Stride p q e f h =
-      subst (λ x. AtMost (passParts x) (passParts (candidateKey (b .runtime) (b .parameters) (b .«ready_turn») .pass))) (stride-pass a p e)
-      (subst (λ x. AtMost (passParts (algorithmKey (a .parameters) (a .runtime) (a .«ready_turn»))) (passParts x)) (stride-pass b q f)
-      (first-parts (passParts (algorithmKey (a .parameters) (a .runtime) (a .«ready_turn»))) (passParts (algorithmKey (b .parameters) (b .runtime) (b .«ready_turn»))) _ _ refl h))
+      subst (λ x. AtMost (passParts x) (passParts (candidateKey (b .runtime) (b .parameters) (b .«ready_turn») .pass)))
+      (stride-pass a p e)
+      (subst (λ x. AtMost (passParts (algorithmKey (a .parameters) (a .runtime) (a .«ready_turn»))) (passParts x))
+      (stride-pass b q f)
+      (first-parts (passParts (algorithmKey (a .parameters) (a .runtime) (a .«ready_turn»)))
+      (passParts (algorithmKey (b .parameters) (b .runtime) (b .«ready_turn»))) _ _ refl h))
   pass-order backend.RoundRobin p q e f h =
-      same (ap passParts (round-robin-pass (a .runtime) (a .parameters) (a .«ready_turn») e ∙ sym (round-robin-pass (b .runtime) (b .parameters) (b .«ready_turn») f)))
+      same (ap passParts (round-robin-pass (a .runtime) (a .parameters) (a .«ready_turn») e
+      ∙ sym (round-robin-pass (b .runtime) (b .parameters) (b .«ready_turn») f)))
 
   abbrev lowest-of : ThreadRecord → PassOption
   lowest-of r = lowestPass pass.None (candidateOf r)
 
-  no-pass : (r : ThreadRecord) (p : SchedulingPolicy) → r .parameters .policy ≡ p → (p ≡ policy.Fair → ⊥) → lowest-of r ≡ pass.None
+  no-pass : (r : ThreadRecord) (p : SchedulingPolicy) → r .parameters .policy ≡ p → (p ≡ policy.Fair → ⊥)
+      → lowest-of r ≡ pass.None
   unfolding lowestPass candidateOf given onPolicy
   no-pass r (policy.Fifo q) e n = rw e
   no-pass r policy.Fair e n = absurd (n refl)
   no-pass r policy.Budget e n = rw e
   no-pass r policy.Idle e n = rw e
 
-  fair-pass : (r : ThreadRecord) → r .parameters .policy ≡ policy.Fair → lowest-of r ≡ pass.Some (candidateKey (r .runtime) (r .parameters) (r .«ready_turn») .pass)
+  fair-pass : (r : ThreadRecord) → r .parameters .policy ≡ policy.Fair
+      → lowest-of r ≡ pass.Some (candidateKey (r .runtime) (r .parameters) (r .«ready_turn») .pass)
   unfolding lowestPass candidateOf given onPolicy onPass
   fair-pass r e = rw e
 
-  alike-pass : Alike a b → ((e : b .parameters .policy ≡ policy.Fair) → (f : FairBackend) × (a .parameters .«fair_backend» ≡ f) × (b .parameters .«fair_backend» ≡ f))
+  alike-pass : Alike a b → ((e : b .parameters .policy ≡ policy.Fair)
+      → (f : FairBackend) × (a .parameters .«fair_backend» ≡ f) × (b .parameters .«fair_backend» ≡ f))
       → compareTreeKeys (readyIndexKey a i) (readyIndexKey b j) ≡ Less → PassWithin (lowest-of b) (lowest-of a)
-  alike-pass (both-fifo p q e f r) g h = subst (λ x. PassWithin x (lowest-of a)) (sym (no-pass b (policy.Fifo q) f (λ z. never cc))) tt
+  alike-pass (both-fifo p q e f r) g h =
+      subst (λ x. PassWithin x (lowest-of a)) (sym (no-pass b (policy.Fifo q) f (λ z. never cc))) tt
   alike-pass (both-fair e f r) g h =
       let c = g f in
       subst (λ x. PassWithin x (lowest-of a)) (sym (fair-pass b f))
-      (subst (λ x. PassWithin (pass.Some (candidateKey (b .runtime) (b .parameters) (b .«ready_turn») .pass)) x) (sym (fair-pass a e)) (pass-order (c .0) e f (c .1) (c .2) h))
-  alike-pass (both-budget e f r l) g h = subst (λ x. PassWithin x (lowest-of a)) (sym (no-pass b policy.Budget f (λ z. never cc))) tt
+      (subst (λ x. PassWithin (pass.Some (candidateKey (b .runtime) (b .parameters) (b .«ready_turn») .pass)) x)
+      (sym (fair-pass a e)) (pass-order (c .0) e f (c .1) (c .2) h))
+  alike-pass (both-budget e f r l) g h =
+      subst (λ x. PassWithin x (lowest-of a)) (sym (no-pass b policy.Budget f (λ z. never cc))) tt
 
   -- The head of a tree asks for what every other thread of it asks for.
-  pub alike-within : Alike a b → ((e : b .parameters .policy ≡ policy.Fair) → (f : FairBackend) × (a .parameters .«fair_backend» ≡ f) × (b .parameters .«fair_backend» ≡ f))
-      → compareTreeKeys (readyIndexKey a i) (readyIndexKey b j) ≡ Less → Within (alone (candidateOf b)) (alone (candidateOf a))
+  pub alike-within : Alike a b → ((e : b .parameters .policy ≡ policy.Fair)
+      → (f : FairBackend) × (a .parameters .«fair_backend» ≡ f) × (b .parameters .«fair_backend» ≡ f))
+      → compareTreeKeys (readyIndexKey a i) (readyIndexKey b j) ≡ Less
+      → Within (alone (candidateOf b)) (alone (candidateOf a))
   unfolding gathered given addDemand joined either choose
   alike-within l g h =
       let e = alike-demand a b l in

@@ -12,8 +12,8 @@ use Rattle.arbitration.specs.declared.CpuWindow.{CpuWindow}
 use Rattle.thread.specs.declared.CpuIndex.{CpuIndex}
 use Rattle.thread.specs.declared.ThreadRecord.{ThreadRecord}
 use Rattle.codec.specs.Codec.{decoded}
-use Rattle.rows.specs.Table.{Out, table, recordOf}
-use Rattle.queue.specs.declared.CpuRunQueue.{CpuRunQueue}
+use Rattle.rows.specs.Table.{Out, table, recordOf, maxRecords}
+use Rattle.queue.specs.RunQueue.{CpuRunQueue}
 use Rattle.queue.specs.Queue.{Step, enqueueCall, removeCall}
 use Rattle.demands.specs.declared.CandidateOption.{CandidateOption}
 use Rattle.selection.specs.Peek.{Peeked, peekNext}
@@ -21,7 +21,9 @@ use Rattle.sound_queue.specs.Sound.{Sound, including, excluding, Fine, Priority
 use Rattle.sound_queue.specs.LinksLaws.{same-length, same-parameters}
 use Rattle.sound_queue.specs.Sound as sound
 use Rattle.sound_queue.specs.Calls.{new-sound, changes-sound, enqueue-fine, remove-fine, rows-fit}
-use Rattle.sound_selection.specs.Claim.{Call, enqueueAt, removeAt, selectAt, changeTo, State, Bytes, leftBy, leftBySelection, after, Allowed, afterAll, AllAllowed, Stands, accepted, unchanged, AllStand, fresh, PremisesIn, AnsweredIn}
+use Rattle.sound_selection.specs.Claim.{Call, enqueueAt, removeAt, selectAt, changeTo, State, Bytes, leftBy}
+use Rattle.sound_selection.specs.Claim.{leftBySelection, after, Allowed, afterAll, AllAllowed, Stands, accepted}
+use Rattle.sound_selection.specs.Claim.{unchanged, AllStand, fresh, PremisesIn, AnsweredIn}
 use Rattle.sound_selection.specs.Changes.{bareAt, FineSelection}
 use Rattle.sound_selection.specs.Changes as changes
 use Rattle.sound_selection.specs.ChangeLaws.{fresher-parameters}
@@ -34,8 +36,10 @@ pub record SoundIn (cpu : CpuIndex) (s : State) : Type 0 where
   pub bytes : Bytes (s .table)
 
 -- Calls change no parameters.
-same-bytes : (t s : List ThreadRecord) → length s ≡ length t → ((j : ℕ) → recordOf s j .parameters ≡ recordOf t j .parameters) → Bytes t → Bytes s
-same-bytes t s e h b i l = subst (λ (p : SchedulingParameters). PriorityFits (p .policy)) (sym (h i)) (b i (omega arith))
+same-bytes : (t s : List ThreadRecord) → length s ≡ length t
+    → ((j : ℕ) → recordOf s j .parameters ≡ recordOf t j .parameters) → Bytes t → Bytes s
+same-bytes t s e h b i l =
+    subst (λ (p : SchedulingParameters). PriorityFits (p .policy)) (sym (h i)) (b i (omega arith))
 
 -- Outside of the table too.
 any-byte : (t : List ThreadRecord) → Bytes t → (i : ℕ) → PriorityFits (recordOf t i .parameters .policy)
@@ -44,72 +48,112 @@ any-byte t b i = go (ltb i (length t)) refl
   where
     go : (x : Bool) → ltb i (length t) ≡ x → PriorityFits (recordOf t i .parameters .policy)
     go true e = b i (ltb-true i (length t) e)
-    go false e = subst (λ (r : ThreadRecord). PriorityFits (r .parameters .policy)) (sym (List·getD-eq-default t (decoded []) (ltb-false i (length t) e))) (rows-fit [] 0)
+    go false e = subst (λ (r : ThreadRecord). PriorityFits (r .parameters .policy))
+        (sym (List·getD-eq-default t (decoded []) (ltb-false i (length t) e))) (rows-fit [] 0)
 
 module _ (cpu : CpuIndex) (s : State) where
   -- What a call leaves that is fine, and that it stands.
-  fine-sound : (o : Out (Step (Unit {0}))) (i : ℕ) (after : ℕ → Bool) → SoundIn cpu s → Fine cpu (s .queued) after i (s .queue) (s .table) o → SoundIn cpu (leftBy o (s .queued) after)
-  fine-sound o i after S (sound.unchanged n e) = subst (λ (x : Out (Step (Unit {0}))). SoundIn cpu (leftBy x (s .queued) after)) (sym e) (record { sound = S .sound; bytes = S .bytes })
-  fine-sound o i after S (sound.made A) = subst (λ (x : Out (Step (Unit {0}))). SoundIn cpu (leftBy x (s .queued) after)) (sym (A .is))
-      (record { sound = A .kept .sound; bytes = same-bytes (s .table) (A .table) (same-length (s .table) (A .table) (A .kept .besides)) (same-parameters (s .table) (A .table) (A .kept .besides)) (S .bytes) })
+  fine-sound : (o : Out (Step (Unit {0}))) (i : ℕ) (after : ℕ → Bool) → SoundIn cpu s
+      → Fine cpu (s .queued) after i (s .queue) (s .table) o → SoundIn cpu (leftBy o (s .queued) after)
+  fine-sound o i after S (sound.unchanged n e) =
+      subst (λ (x : Out (Step (Unit {0}))). SoundIn cpu (leftBy x (s .queued) after)) (sym e)
+      (record { sound = S .sound; bytes = S .bytes })
+  fine-sound o i after S (sound.made A) =
+      subst (λ (x : Out (Step (Unit {0}))). SoundIn cpu (leftBy x (s .queued) after)) (sym (A .is))
+      (record {
+        sound = A .kept .sound;
+        bytes = same-bytes (s .table) (A .table) (same-length (s .table) (A .table) (A .kept .besides))
+            (same-parameters (s .table) (A .table) (A .kept .besides)) (S .bytes);
+      })
 
-  selection-sound : (o : Out (Peeked CpuRunQueue)) (now : ℕ) (w : CpuWindow) → SoundIn cpu s → FineSelection cpu (s .queued) (s .queue) (s .table) now w o → SoundIn cpu (leftBySelection o (s .queued))
+  selection-sound : (o : Out (Peeked CpuRunQueue)) (now : ℕ) (w : CpuWindow) → SoundIn cpu s
+      → FineSelection cpu (s .queued) (s .queue) (s .table) now w o → SoundIn cpu (leftBySelection o (s .queued))
   unfolding bareAt
   selection-sound o now w S (changes.unchanged n e) =
-      subst (λ (x : Out (Peeked CpuRunQueue)). SoundIn cpu (leftBySelection x (s .queued))) (sym e) (record { sound = S .sound; bytes = S .bytes })
-  selection-sound o now w S (changes.answered a v r u e L) = subst (λ (x : Out (Peeked CpuRunQueue)). SoundIn cpu (leftBySelection x (s .queued))) (sym e)
-      (record { sound = L .sound; bytes = same-bytes (s .table) u (L .len) (λ j. fresher-parameters (L .fresher j)) (S .bytes) })
+      subst (λ (x : Out (Peeked CpuRunQueue)). SoundIn cpu (leftBySelection x (s .queued))) (sym e)
+      (record { sound = S .sound; bytes = S .bytes })
+  selection-sound o now w S (changes.answered a v r u e L) =
+      subst (λ (x : Out (Peeked CpuRunQueue)). SoundIn cpu (leftBySelection x (s .queued))) (sym e)
+      (record {
+        sound = L .sound;
+        bytes = same-bytes (s .table) u (L .len) (λ j. fresher-parameters (L .fresher j))
+            (S .bytes);
+      })
 
   -- Every call leaves a sound queue.
   call-sound : (c : Call) → SoundIn cpu s → Allowed c s → SoundIn cpu (after cpu c s)
   unfolding after
-  call-sound (enqueueAt front i) S a = fine-sound (enqueueCall front (s .table) (s .queue) i cpu) i (including i (s .queued)) S (enqueue-fine (S .sound) i front (any-byte (s .table) (S .bytes) i))
-  call-sound (removeAt i) S a = fine-sound (removeCall (s .table) (s .queue) i cpu) i (excluding i (s .queued)) S (remove-fine (S .sound) i)
-  call-sound (selectAt now w current) S a = selection-sound (peekNext (s .table) (s .queue) cpu now w current) now w S (select-fine (S .sound) now w current)
+  call-sound (enqueueAt front i) S a =
+      fine-sound (enqueueCall front (s .table) (s .queue) i cpu) i (including i (s .queued)) S
+      (enqueue-fine (S .sound) i front (any-byte (s .table) (S .bytes) i))
+  call-sound (removeAt i) S a =
+      fine-sound (removeCall (s .table) (s .queue) i cpu) i (excluding i (s .queued)) S (remove-fine (S .sound) i)
+  call-sound (selectAt now w current) S a =
+      selection-sound (peekNext (s .table) (s .queue) cpu now w current) now w S (select-fine (S .sound) now w current)
   call-sound (changeTo t) S a = record { sound = changes-sound (S .sound) t (a .0) (a .1); bytes = a .2 }
 
-  enqueue-stands : (front : Bool) (i : ℕ) → Fine cpu (s .queued) (including i (s .queued)) i (s .queue) (s .table) (enqueueCall front (s .table) (s .queue) i cpu) → Stands cpu (enqueueAt front i) s
+  enqueue-stands : (front : Bool) (i : ℕ)
+      → Fine cpu (s .queued) (including i (s .queued)) i (s .queue) (s .table)
+      (enqueueCall front (s .table) (s .queue) i cpu) → Stands cpu (enqueueAt front i) s
   unfolding after
-  enqueue-stands front i (sound.unchanged n e) = unchanged (ap (λ (x : Out (Step (Unit {0}))). leftBy x (s .queued) (including i (s .queued))) e)
+  enqueue-stands front i (sound.unchanged n e) =
+      unchanged (ap (λ (x : Out (Step (Unit {0}))). leftBy x (s .queued) (including i (s .queued))) e)
   enqueue-stands front i (sound.made A) = accepted (A .queue, A .table, A .is)
 
-  remove-stands : (i : ℕ) → Fine cpu (s .queued) (excluding i (s .queued)) i (s .queue) (s .table) (removeCall (s .table) (s .queue) i cpu) → Stands cpu (removeAt i) s
+  remove-stands : (i : ℕ) → Fine cpu (s .queued) (excluding i (s .queued)) i (s .queue) (s .table)
+      (removeCall (s .table) (s .queue) i cpu) → Stands cpu (removeAt i) s
   unfolding after
-  remove-stands i (sound.unchanged n e) = unchanged (ap (λ (x : Out (Step (Unit {0}))). leftBy x (s .queued) (excluding i (s .queued))) e)
+  remove-stands i (sound.unchanged n e) =
+      unchanged (ap (λ (x : Out (Step (Unit {0}))). leftBy x (s .queued) (excluding i (s .queued))) e)
   remove-stands i (sound.made A) = accepted (A .queue, A .table, A .is)
 
-  select-stands : (now : ℕ) (w : CpuWindow) (current : CandidateOption) → FineSelection cpu (s .queued) (s .queue) (s .table) now w (peekNext (s .table) (s .queue) cpu now w current)
+  select-stands : (now : ℕ) (w : CpuWindow) (current : CandidateOption)
+      → FineSelection cpu (s .queued) (s .queue) (s .table) now w (peekNext (s .table) (s .queue) cpu now w current)
       → Stands cpu (selectAt now w current) s
   unfolding after
-  select-stands now w current (changes.unchanged n e) = unchanged (ap (λ (x : Out (Peeked CpuRunQueue)). leftBySelection x (s .queued)) e)
+  select-stands now w current (changes.unchanged n e) =
+      unchanged (ap (λ (x : Out (Peeked CpuRunQueue)). leftBySelection x (s .queued)) e)
   select-stands now w current (changes.answered a v r u e L) = accepted (a, v, r, u, e)
 
   call-stands : (c : Call) → SoundIn cpu s → Allowed c s → Stands cpu c s
-  call-stands (enqueueAt front i) S a = enqueue-stands front i (enqueue-fine (S .sound) i front (any-byte (s .table) (S .bytes) i))
+  call-stands (enqueueAt front i) S a =
+      enqueue-stands front i (enqueue-fine (S .sound) i front (any-byte (s .table) (S .bytes) i))
   call-stands (removeAt i) S a = remove-stands i (remove-fine (S .sound) i)
   call-stands (selectAt now w current) S a = select-stands now w current (select-fine (S .sound) now w current)
   call-stands (changeTo t) S a = accepted tt
 
 -- One after the other.
-pub calls-sound : (cpu : CpuIndex) (l : List Call) (s : State) → SoundIn cpu s → AllAllowed cpu l s → SoundIn cpu (afterAll cpu l s)
+pub calls-sound : (cpu : CpuIndex) (l : List Call) (s : State) → SoundIn cpu s → AllAllowed cpu l s
+    → SoundIn cpu (afterAll cpu l s)
 unfolding afterAll
 calls-sound cpu [] s S a = S
 calls-sound cpu (c ∷ l) s S a = calls-sound cpu l (after cpu c s) (call-sound cpu s c S (a .this)) (a .rest)
 
 all-stand : (cpu : CpuIndex) (l : List Call) (s : State) → SoundIn cpu s → AllAllowed cpu l s → AllStand cpu l s
 all-stand cpu [] s S a = tt
-all-stand cpu (c ∷ l) s S a = record { this = call-stands cpu s c S (a .this); rest = all-stand cpu l (after cpu c s) (call-sound cpu s c S (a .this)) (a .rest) }
+all-stand cpu (c ∷ l) s S a =
+    record {
+      this = call-stands cpu s c S (a .this);
+      rest = all-stand cpu l (after cpu c s) (call-sound cpu s c S (a .this)) (a .rest);
+    }
 
-fresh-sound : (cpu : CpuIndex) (t : List ThreadRecord) → length t ≤ 4096 → Bytes t → SoundIn cpu (fresh t)
+fresh-sound : (cpu : CpuIndex) (t : List ThreadRecord) → length t ≤ maxRecords → Bytes t → SoundIn cpu (fresh t)
 fresh-sound cpu t small b = record { sound = new-sound cpu t small; bytes = b }
 
--- From a fresh queue on any table every call of one processor is accepted, or refused with queue and records as they were; none halts.
-pub calls-stand : (cpu : CpuIndex) (t : List ThreadRecord) → length t ≤ 4096 → Bytes t → (calls : List Call) → AllAllowed cpu calls (fresh t) → AllStand cpu calls (fresh t)
+-- From a fresh queue on any table every call of one processor is accepted, or refused with queue and records as they
+-- were; none halts.
+pub calls-stand : (cpu : CpuIndex) (t : List ThreadRecord) → length t ≤ maxRecords → Bytes t → (calls : List Call)
+    → AllAllowed cpu calls (fresh t) → AllStand cpu calls (fresh t)
 calls-stand cpu t small b calls a = all-stand cpu calls (fresh t) (fresh-sound cpu t small b) a
 
--- DEMAND 3. From a fresh queue on any table of up to 4,096 records, after every list of calls for one processor (enqueues at either end, removals, selections, each accepted or refused without
--- a change), between which records that are not queued change at will: a selection with a sound window that admits every queued thread, with one fair backend among them and the budget threads
--- filed by whether they have time left, refuses nothing and names, of all queued threads, the one with the least dispatch key.
-pub demand-3 : (cpu : CpuIndex) (t : List ThreadRecord) → length t ≤ 4096 → Bytes t → (calls : List Call) → AllAllowed cpu calls (fresh t)
-    → (now : ℕ) (w : CpuWindow) (current : CandidateOption) → PremisesIn (afterAll cpu calls (fresh t)) now w → AnsweredIn cpu (afterAll cpu calls (fresh t)) now w current
-demand-3 cpu t small b calls a now w current P = one-selection (calls-sound cpu calls (fresh t) (fresh-sound cpu t small b) a .sound) now w current P .0
+-- DEMAND 3. From a fresh queue on any table of up to 4,096 records, after every list of calls for one processor
+-- (enqueues at either end, removals, selections, each accepted or refused without a change), between which records that
+-- are not queued change at will: a selection with a sound window that admits every queued thread, with one fair backend
+-- among them and the budget threads filed by whether they have time left, refuses nothing and names, of all queued
+-- threads, the one with the least dispatch key.
+pub demand-3 : (cpu : CpuIndex) (t : List ThreadRecord) → length t ≤ maxRecords → Bytes t → (calls : List Call)
+    → AllAllowed cpu calls (fresh t)
+    → (now : ℕ) (w : CpuWindow) (current : CandidateOption) → PremisesIn (afterAll cpu calls (fresh t)) now w
+    → AnsweredIn cpu (afterAll cpu calls (fresh t)) now w current
+demand-3 cpu t small b calls a now w current P =
+    one-selection (calls-sound cpu calls (fresh t) (fresh-sound cpu t small b) a .sound) now w current P .0

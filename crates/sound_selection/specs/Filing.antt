@@ -22,7 +22,7 @@ use Rattle.thread.specs.FilingLaws.{role-index-le}
 use Rattle.rows.specs.Table.{recordOf}
 use Rattle.ready_index.specs.declared.Contained.the-variants as contained
 use Rattle.ready_index.specs.Index.{contains}
-use Rattle.queue.specs.declared.CpuRunQueue.{CpuRunQueue}
+use Rattle.queue.specs.RunQueue.{CpuRunQueue, treeCount}
 use Rattle.queue.specs.Queue.{rootOf, isBudget, onContained}
 use Rattle.demands.specs.declared.CandidateOption.{CandidateOption}
 use Rattle.renewal.specs.Renewal.{isEpoch}
@@ -38,11 +38,14 @@ use Rattle.sound_selection.specs.Classes.{Class, fifo-class, fair-class,
 use Rattle.sound_selection.specs.Selecting.{epoch, Turn}
 
 -- Who is admitted has a budget of the window's period, if any, and is of the one backend, if Fair.
-pub admitted-accepts : (c : ArbitrationConfig) (p : SchedulingParameters) (f : FairBackend) → admitted c p f ≡ true → acceptsBudget c p ≡ true
+pub admitted-accepts : (c : ArbitrationConfig) (p : SchedulingParameters) (f : FairBackend) → admitted c p f ≡ true
+    → acceptsBudget c p ≡ true
 unfolding admitted choose
 admitted-accepts c p f h = go (acceptsBudget c p) refl h
   where
-    go : (x : Bool) → acceptsBudget c p ≡ x → choose x (onPolicy (p .policy) (λ priority. true) (sameBackend (p .«fair_backend») f) true false) false ≡ true → acceptsBudget c p ≡ true
+    go : (x : Bool) → acceptsBudget c p ≡ x
+        → choose x (onPolicy (p .policy) (λ priority. true) (sameBackend (p .«fair_backend») f) true false) false ≡ true
+        → acceptsBudget c p ≡ true
     go true e h = e
     go false e h = never cc
 
@@ -53,14 +56,18 @@ same-backend backend.Stride backend.RoundRobin e = never cc
 same-backend backend.RoundRobin backend.Stride e = never cc
 same-backend backend.RoundRobin backend.RoundRobin e = refl
 
-fair-admitted : (c : ArbitrationConfig) (p : SchedulingParameters) (f : FairBackend) → acceptsBudget c p ≡ true → p .policy ≡ policy.Fair → admitted c p f ≡ sameBackend (p .«fair_backend») f
+fair-admitted : (c : ArbitrationConfig) (p : SchedulingParameters) (f : FairBackend) → acceptsBudget c p ≡ true
+    → p .policy ≡ policy.Fair → admitted c p f ≡ sameBackend (p .«fair_backend») f
 unfolding admitted choose onPolicy
 fair-admitted c p f a e = rw (a, e)
 
-pub admitted-backend : (c : ArbitrationConfig) (p : SchedulingParameters) (f : FairBackend) → admitted c p f ≡ true → p .policy ≡ policy.Fair → p .«fair_backend» ≡ f
-admitted-backend c p f h e = same-backend (p .«fair_backend») f (sym (fair-admitted c p f (admitted-accepts c p f h) e) ∙ h)
+pub admitted-backend : (c : ArbitrationConfig) (p : SchedulingParameters) (f : FairBackend) → admitted c p f ≡ true
+    → p .policy ≡ policy.Fair → p .«fair_backend» ≡ f
+admitted-backend c p f h e =
+    same-backend (p .«fair_backend») f (sym (fair-admitted c p f (admitted-accepts c p f h) e) ∙ h)
 
-module _ {cpu : CpuIndex} {queued : ℕ → Bool} {q : CpuRunQueue} {t : List ThreadRecord} (S : Sound cpu queued q t) (now : ℕ) (w : CpuWindow) (current : CandidateOption)
+module _ {cpu : CpuIndex} {queued : ℕ → Bool} {q : CpuRunQueue} {t : List ThreadRecord} (S : Sound cpu queued q t)
+    (now : ℕ) (w : CpuWindow) (current : CandidateOption)
     (T : Turn S now w current) where
   -- Parameters are as they were handed in.
   pub parameters-after : (j : ℕ) → recordOf (T .table) j .parameters ≡ recordOf t j .parameters
@@ -74,33 +81,42 @@ module _ {cpu : CpuIndex} {queued : ℕ → Bool} {q : CpuRunQueue} {t : List Th
     low : its-role ≤ 2
     low = role-index-le (recordOf t j .parameters .role)
 
-    contains-is : contains t (rootOf q (6 + its-role)) j ≡ choose (eqb (S .place j) (6 + its-role)) contained.Yes contained.No
+    contains-is : contains t (rootOf q (6 + its-role)) j
+        ≡ choose (eqb (S .place j) (6 + its-role)) contained.Yes contained.No
     contains-is = contains-placed (S .forest) j (6 + its-role) (omega (arith, low)) (queued-inside S j e)
 
-    filed-by : (x : Bool) → eqb (S .place j) (6 + its-role) ≡ x → filedReady q t (epoch S now w current) j ≡ choose x true (not (isEpoch (q .«budget_epoch») (epoch S now w current)))
+    filed-by : (x : Bool) → eqb (S .place j) (6 + its-role) ≡ x
+        → filedReady q t (epoch S now w current) j
+        ≡ choose x true (not (isEpoch (q .«budget_epoch») (epoch S now w current)))
     unfolding filedReady onContained choose
     filed-by true h = rw (contains-is, h)
     filed-by false h = rw (contains-is, h)
 
     -- The premise's word agrees with the tree past the change of period.
-    filed-left : BudgetTree its-role (T .sound .place j) → filedReady q t (epoch S now w current) j ≡ ltb (T .sound .place j) 9
+    filed-left : BudgetTree its-role (T .sound .place j)
+        → filedReady q t (epoch S now w current) j ≡ ltb (T .sound .place j) 9
     unfolding choose
     filed-left b = go (isEpoch (q .«budget_epoch») (epoch S now w current)) refl b
       where
-        always : (x : Bool) → isEpoch (q .«budget_epoch») (epoch S now w current) ≡ false → choose x true (not (isEpoch (q .«budget_epoch») (epoch S now w current))) ≡ true
+        always : (x : Bool) → isEpoch (q .«budget_epoch») (epoch S now w current) ≡ false
+            → choose x true (not (isEpoch (q .«budget_epoch») (epoch S now w current))) ≡ true
         always true h = refl
         always false h = rw h
 
-        go : (x : Bool) → isEpoch (q .«budget_epoch») (epoch S now w current) ≡ x → BudgetTree its-role (T .sound .place j) → filedReady q t (epoch S now w current) j ≡ ltb (T .sound .place j) 9
+        go : (x : Bool) → isEpoch (q .«budget_epoch») (epoch S now w current) ≡ x
+            → BudgetTree its-role (T .sound .place j)
+            → filedReady q t (epoch S now w current) j ≡ ltb (T .sound .place j) 9
         go true h (with-time k) =
-            filed-by true (eq-eqb (S .place j) (6 + its-role) (sym (T .still h j) ∙ k)) ∙ sym (lt-ltb (T .sound .place j) 9 (omega (arith, low)))
+            filed-by true (eq-eqb (S .place j) (6 + its-role) (sym (T .still h j) ∙ k))
+            ∙ sym (lt-ltb (T .sound .place j) 9 (omega (arith, low)))
         go true h (exhausted k) =
-            filed-by false (ne-eqb (S .place j) (6 + its-role) (λ z. omega (arith, T .still h j))) ∙ rw h (sym (le-ltb (T .sound .place j) 9 (omega arith)))
+            filed-by false (ne-eqb (S .place j) (6 + its-role) (λ z. omega (arith, T .still h j)))
+            ∙ rw h (sym (le-ltb (T .sound .place j) 9 (omega arith)))
         go false h b =
             filed-by (eqb (S .place j) (6 + its-role)) refl ∙ always (eqb (S .place j) (6 + its-role)) h
             ∙ sym (lt-ltb (T .sound .place j) 9 (T .clear h j (tree-low b)))
           where
-            tree-low : BudgetTree its-role (T .sound .place j) → T .sound .place j < 12
+            tree-low : BudgetTree its-role (T .sound .place j) → T .sound .place j < treeCount
             tree-low (with-time k) = omega (arith, low)
             tree-low (exhausted k) = omega (arith, low)
 
@@ -117,19 +133,25 @@ module _ {cpu : CpuIndex} {queued : ℕ → Bool} {q : CpuRunQueue} {t : List Th
     role-then = ap (λ (p : SchedulingParameters). roleIndex (p .role)) (parameters-after j)
 
     module _ (P : Premises queued q t now w) where
-      left-is : recordOf (T .table) j .parameters .policy ≡ policy.Budget → BudgetTree its-role (T .sound .place j) → budgetAvailable (record-now .runtime) ≡ ltb (T .sound .place j) 9
+      left-is : recordOf (T .table) j .parameters .policy ≡ policy.Budget → BudgetTree its-role (T .sound .place j)
+          → budgetAvailable (record-now .runtime) ≡ ltb (T .sound .place j) 9
       unfolding isBudget onPolicy
-      left-is x b = P .filing j e (rw (ap (λ (p : SchedulingParameters). p .policy) (sym (parameters-after j)) ∙ x)) ∙ filed-left b
+      left-is x b =
+          P .filing j e (rw (ap (λ (p : SchedulingParameters). p .policy) (sym (parameters-after j)) ∙ x))
+          ∙ filed-left b
 
       class-by : Standing (recordOf (T .table) j) (T .sound .place j) → Class (T .sound .place j) record-now
       class-by (in-fifo p x y) = fifo-class p (ap (λ (r : SchedulingParameters). r .policy) same-now ∙ x) (y ∙ role-now)
-      class-by (in-fair x y) = fair-class (ap (λ (r : SchedulingParameters). r .policy) same-now ∙ x) (y ∙ ap (λ n. 3 + n) role-now)
+      class-by (in-fair x y) =
+          fair-class (ap (λ (r : SchedulingParameters). r .policy) same-now ∙ x) (y ∙ ap (λ n. 3 + n) role-now)
       class-by (in-budget x (with-time y)) =
           ready-class (ap (λ (r : SchedulingParameters). r .policy) same-now ∙ x)
-          (left-is x (with-time (omega (arith, role-then))) ∙ lt-ltb (T .sound .place j) 9 (omega (arith, role-then, low))) (y ∙ ap (λ n. 6 + n) role-now)
+          (left-is x (with-time (omega (arith, role-then)))
+          ∙ lt-ltb (T .sound .place j) 9 (omega (arith, role-then, low))) (y ∙ ap (λ n. 6 + n) role-now)
       class-by (in-budget x (exhausted y)) =
           exhausted-class (ap (λ (r : SchedulingParameters). r .policy) same-now ∙ x)
-          (left-is x (exhausted (omega (arith, role-then))) ∙ le-ltb (T .sound .place j) 9 (omega arith)) (y ∙ ap (λ n. 9 + n) role-now)
+          (left-is x (exhausted (omega (arith, role-then))) ∙ le-ltb (T .sound .place j) 9 (omega arith))
+          (y ∙ ap (λ n. 9 + n) role-now)
 
       -- Of the class of its tree.
       pub classed : Class (T .sound .place j) (refreshedTo now (recordOf t j))

@@ -1,4 +1,5 @@
--- The exhausted tree of one role emptied, on a sound queue: as many moves as there are records are enough, and the queue is sound after them.
+-- The exhausted tree of one role emptied, on a sound queue: as many moves as there are records are enough, and the
+-- queue is sound after them.
 use Prim.Native.Nat.{ℕ, zero, suc, _+_, _≤_, _<_}
 use mathlib.Core.Path.{_≡_, refl, sym, ap, _∙_}
 use mathlib.Core.Bool.{Bool, true, false}
@@ -9,7 +10,7 @@ use lib.ListN.{length, getD, set, length-set}
 use lib.Seq.{getD-set-same, getD-set-other, set-getD, set-set, set-comm}
 use lib.Dec.{ltb}
 use borrow.Author.Tests.{lt-ltb, le-ltb}
-use Rattle.refusal.specs.Answer.{value, refused}
+use Rattle.refusal.specs.Answer.{value, refused, damaged}
 use Rattle.refusal.specs.Cases.{choose}
 use Rattle.thread.specs.declared.CpuIndex.{CpuIndex}
 use Rattle.thread.specs.declared.Link.{Link}
@@ -19,7 +20,7 @@ use Rattle.thread.specs.Membership.{onLink}
 use Rattle.rows.specs.Table.{Out, out}
 use Rattle.lists.specs.Lists.{onAnswer, onOut}
 use Rattle.queue.specs.declared.Root.{Root}
-use Rattle.queue.specs.declared.CpuRunQueue.{CpuRunQueue}
+use Rattle.queue.specs.RunQueue.{CpuRunQueue, treeCount}
 use Rattle.queue.specs.Queue.{emptyRoot, rootOf}
 use Rattle.renewal.specs.declared.BudgetTrees.{BudgetTrees}
 use Rattle.renewal.specs.Leaves.{Leaves, leaves, onLeaves}
@@ -35,7 +36,8 @@ use Rattle.sound_selection.specs.ChangeLaws.{shift-trans, head-is}
 use Rattle.sound_selection.specs.OneMove.{OneMoved, one-moved}
 
 -- Nothing done, and one after the other.
-unfoldable pub nothing-renewed : {cpu : CpuIndex} {queued : ℕ → Bool} {q : CpuRunQueue} {t : List ThreadRecord} (S : Sound cpu queued q t) (now : ℕ) → Renewed S now q t
+unfoldable pub nothing-renewed : {cpu : CpuIndex} {queued : ℕ → Bool} {q : CpuRunQueue} {t : List ThreadRecord}
+    (S : Sound cpu queued q t) (now : ℕ) → Renewed S now q t
 nothing-renewed S now = record {
   sound = S;
   beside = record { realtime = refl; total = refl; fair = refl; epoch = refl; budgets = refl; halted = refl };
@@ -44,7 +46,8 @@ nothing-renewed S now = record {
   others = λ j e. refl;
 }
 
-unfoldable pub both-renewed : {cpu : CpuIndex} {queued : ℕ → Bool} {q r u : CpuRunQueue} {t s v : List ThreadRecord} {now : ℕ} (S : Sound cpu queued q t)
+unfoldable pub both-renewed : {cpu : CpuIndex} {queued : ℕ → Bool} {q r u : CpuRunQueue} {t s v : List ThreadRecord}
+    {now : ℕ} (S : Sound cpu queued q t)
     (A : Renewed S now r s) → Renewed (A .sound) now u v → Renewed S now u v
 both-renewed S A B = record {
   sound = B .sound;
@@ -62,40 +65,48 @@ both-renewed S A B = record {
 }
 
 -- The roots of a role's trees, stored back.
-module _ (l : List Root) (role : ℕ) (twelve : length l ≡ 12) (b : role < 3) where
+module _ (l : List Root) (role : ℕ) (twelve : length l ≡ treeCount) (b : role < 3) where
   pub stored-exhausted : (x : BudgetTrees) → getD (withTrees l role x) (9 + role) emptyRoot .root ≡ x .exhausted
   unfolding withTrees
   stored-exhausted x =
-      ap (λ (r : Root). r .root) (getD-set-other (set l (9 + role) (record { root = x .exhausted })) (6 + role) (9 + role) (record { root = x .ready }) emptyRoot (λ z. omega arith)
+      ap (λ (r : Root). r .root) (getD-set-other (set l (9 + role) (record { root = x .exhausted })) (6 + role)
+      (9 + role) (record { root = x .ready }) emptyRoot (λ z. omega arith)
       ∙ getD-set-same l (9 + role) (record { root = x .exhausted }) emptyRoot (omega arith))
 
   pub stored-ready : (x : BudgetTrees) → getD (withTrees l role x) (6 + role) emptyRoot .root ≡ x .ready
   unfolding withTrees
   stored-ready x =
-      ap (λ (r : Root). r .root) (getD-set-same (set l (9 + role) (record { root = x .exhausted })) (6 + role) (record { root = x .ready }) emptyRoot
+      ap (λ (r : Root). r .root) (getD-set-same (set l (9 + role) (record { root = x .exhausted })) (6 + role)
+      (record { root = x .ready }) emptyRoot
       (omega (arith, length-set l (9 + role) (record { root = x .exhausted }))))
 
   -- As they were.
-  pub stored-own : (moves : ℕ) → l ≡ withTrees l role (budgetTrees (getD l (9 + role) emptyRoot .root) (getD l (6 + role) emptyRoot .root) moves)
+  pub stored-own : (moves : ℕ) → l
+      ≡ withTrees l role (budgetTrees (getD l (9 + role) emptyRoot .root) (getD l (6 + role) emptyRoot .root) moves)
   unfolding withTrees
-  stored-own moves = sym (ap (λ (m : List Root). set m (6 + role) (getD l (6 + role) emptyRoot)) (set-getD l (9 + role) emptyRoot) ∙ set-getD l (6 + role) emptyRoot)
+  stored-own moves =
+      sym (ap (λ (m : List Root). set m (6 + role) (getD l (6 + role) emptyRoot)) (set-getD l (9 + role) emptyRoot)
+      ∙ set-getD l (6 + role) emptyRoot)
 
   -- Twice.
   pub stored-twice : (x y : BudgetTrees) → withTrees (withTrees l role x) role y ≡ withTrees l role y
   unfolding withTrees
   stored-twice x y =
       ap (λ (m : List Root). set m (6 + role) (record { root = y .ready }))
-      (set-comm (set l (9 + role) (record { root = x .exhausted })) (6 + role) (9 + role) (record { root = x .ready }) (record { root = y .exhausted }) (λ z. omega arith)
-      ∙ ap (λ (m : List Root). set m (6 + role) (record { root = x .ready })) (set-set l (9 + role) (record { root = x .exhausted }) (record { root = y .exhausted })))
-      ∙ set-set (set l (9 + role) (record { root = y .exhausted })) (6 + role) (record { root = x .ready }) (record { root = y .ready })
+      (set-comm (set l (9 + role) (record { root = x .exhausted })) (6 + role) (9 + role) (record { root = x .ready })
+      (record { root = y .exhausted }) (λ z. omega arith)
+      ∙ ap (λ (m : List Root). set m (6 + role) (record { root = x .ready }))
+      (set-set l (9 + role) (record { root = x .exhausted }) (record { root = y .exhausted })))
+      ∙ set-set (set l (9 + role) (record { root = y .exhausted })) (6 + role) (record { root = x .ready })
+      (record { root = y .ready })
 
 -- Whether a thread stands in an exhausted tree.
 unfoldable pub spent : (ℕ → ℕ) → ℕ → Bool
-spent place j = choose (ltb (place j) 9) false (ltb (place j) 12)
+spent place j = choose (ltb (place j) 9) false (ltb (place j) treeCount)
 
-spent-yes : (place : ℕ → ℕ) (j : ℕ) → 9 ≤ place j → place j < 12 → spent place j ≡ true
+spent-yes : (place : ℕ → ℕ) (j : ℕ) → 9 ≤ place j → place j < treeCount → spent place j ≡ true
 unfolding spent choose
-spent-yes place j a b = rw (le-ltb (place j) 9 a) (lt-ltb (place j) 12 b)
+spent-yes place j a b = rw (le-ltb (place j) 9 a) (lt-ltb (place j) treeCount b)
 
 spent-no : (place : ℕ → ℕ) (j : ℕ) → place j < 9 → spent place j ≡ false
 unfolding spent choose
@@ -106,16 +117,19 @@ unfolding spent
 spent-by f g j e = rw e
 
 -- One that moves out is one less.
-pub count-moved : (n i k : ℕ) (before after : ℕ → ℕ) → i < n → 9 ≤ before i → before i < 12 → k < 9 → ((j : ℕ) → after j ≡ placed i k before j)
+pub count-moved : (n i k : ℕ) (before after : ℕ → ℕ) → i < n → 9 ≤ before i → before i < treeCount → k < 9
+    → ((j : ℕ) → after j ≡ placed i k before j)
     → count n (spent before) ≡ suc (count n (spent after))
 unfolding choose
 count-moved n i k before after l a b c h =
-    count-one n i (spent after) (spent before) l (λ j d. spent-by after before j (sym (h j ∙ placed-other i k before j d)))
+    count-one n i (spent after) (spent before) l
+    (λ j d. spent-by after before j (sym (h j ∙ placed-other i k before j d)))
     (spent-no after i (omega (arith, h i, placed-same i k before)))
     ∙ rw (spent-yes before i a b)
 
 -- The exhausted tree of a role is empty; what emptying it leaves.
-pub record Drained {cpu : CpuIndex} {queued : ℕ → Bool} {q : CpuRunQueue} {t : List ThreadRecord} (S : Sound cpu queued q t) (now role : ℕ) (o : Out (Leaves (Unit {0}) BudgetTrees)) : Type 0 where
+pub record Drained {cpu : CpuIndex} {queued : ℕ → Bool} {q : CpuRunQueue} {t : List ThreadRecord}
+    (S : Sound cpu queued q t) (now role : ℕ) (o : Out (Leaves (Unit {0}) BudgetTrees)) : Type 0 where
   pub trees : BudgetTrees
   pub queue : CpuRunQueue
   pub table : List ThreadRecord
@@ -127,14 +141,16 @@ pub record Drained {cpu : CpuIndex} {queued : ℕ → Bool} {q : CpuRunQueue} {t
 
 module _ (cpu : CpuIndex) (queued : ℕ → Bool) (now role : ℕ) (b : role < 3) where
   abbrev pub Drains : ℕ → Type 0
-  Drains moves = (q : CpuRunQueue) (t : List ThreadRecord) (S : Sound cpu queued q t) → count (length t) (spent (S .place)) ≤ moves
+  Drains moves =
+      (q : CpuRunQueue) (t : List ThreadRecord) (S : Sound cpu queued q t) → count (length t) (spent (S .place)) ≤ moves
       → Drained S now role (moveAll moves t (rootOf q (9 + role)) (rootOf q (6 + role)) now)
 
   module _ (q : CpuRunQueue) (t : List ThreadRecord) (S : Sound cpu queued q t) where
     abbrev own : ℕ → BudgetTrees
     own moves = budgetTrees (rootOf q (9 + role)) (rootOf q (6 + role)) moves
 
-    drained-now : (moves : ℕ) → count (length t) (spent (S .place)) ≤ moves → ((j : ℕ) → S .place j ≢ 9 + role) → Drained S now role (out (leaves (value tt) (own moves)) t)
+    drained-now : (moves : ℕ) → count (length t) (spent (S .place)) ≤ moves → ((j : ℕ) → S .place j ≢ 9 + role)
+        → Drained S now role (out (leaves (value tt) (own moves)) t)
     unfolding nothing-renewed
     drained-now moves c n = record {
       trees = own moves;
@@ -151,33 +167,39 @@ module _ (cpu : CpuIndex) (queued : ℕ → Bool) (now role : ℕ) (b : role < 3
     inside i e = placed-inside (S .forest) i (omega arith)
 
     -- A move, and then the rest.
-    module _ (n i : ℕ) (M : OneMoved S now role i n) (e : S .place i ≡ 9 + role) (c : count (length t) (spent (S .place)) ≤ suc n) where
+    module _ (n i : ℕ) (M : OneMoved S now role i n) (e : S .place i ≡ 9 + role)
+        (c : count (length t) (spent (S .place)) ≤ suc n) where
       fewer : count (length (M .table)) (spent (M .renewed .sound .place)) ≤ n
       fewer =
-          let w = count-moved (length t) i (6 + role) (S .place) (M .renewed .sound .place) (inside i e) (omega arith) (omega arith) (omega arith) (M .places) in
+          let w = count-moved (length t) i (6 + role) (S .place) (M .renewed .sound .place) (inside i e) (omega arith)
+          (omega arith) (omega arith) (M .places) in
           rw (M .renewed .len) (omega arith)
 
-      module _ (D : Drained (M .renewed .sound) now role (moveAll n (M .table) (rootOf (M .queue) (9 + role)) (rootOf (M .queue) (6 + role)) now)) where
+      module _ (D : Drained (M .renewed .sound) now role
+          (moveAll n (M .table) (rootOf (M .queue) (9 + role)) (rootOf (M .queue) (6 + role)) now)) where
         exhausted-root : rootOf (M .queue) (9 + role) ≡ M .trees .exhausted
         exhausted-root = rw (M .indices) (stored-exhausted (q .indices) role (S .forest .twelve) b (M .trees))
 
         ready-root : rootOf (M .queue) (6 + role) ≡ M .trees .ready
         ready-root = rw (M .indices) (stored-ready (q .indices) role (S .forest .twelve) b (M .trees))
 
-        goes-on : moveAll n (M .table) (M .trees .exhausted) (M .trees .ready) now ≡ out (leaves (value tt) (D .trees)) (D .table)
+        goes-on : moveAll n (M .table) (M .trees .exhausted) (M .trees .ready) now
+            ≡ out (leaves (value tt) (D .trees)) (D .table)
         goes-on =
             ap (λ (x : Link). moveAll n (M .table) x (M .trees .ready) now) (sym exhausted-root)
             ∙ ap (λ (x : Link). moveAll n (M .table) (rootOf (M .queue) (9 + role)) x now) (sym ready-root) ∙ D .is
 
         drained-then : Drained S now role (onOut (moveOne t (own n) i now)
-            (λ s t₁. onLeaves s (λ k x. out (leaves (refused k) x) t₁) (λ u x. moveAll n t₁ (x .exhausted) (x .ready) now)))
+            (λ s t₁. onLeaves s (λ k x. out (leaves (refused k) x) t₁)
+            (λ u x. moveAll n t₁ (x .exhausted) (x .ready) now)))
         unfolding onOut onLeaves both-renewed
         drained-then = record {
           trees = D .trees;
           queue = D .queue;
           table = D .table;
           is = rw (M .is) goes-on;
-          indices = D .indices ∙ ap (λ (l : List Root). withTrees l role (D .trees)) (M .indices) ∙ stored-twice (q .indices) role (S .forest .twelve) b (M .trees) (D .trees);
+          indices = D .indices ∙ ap (λ (l : List Root). withTrees l role (D .trees)) (M .indices)
+              ∙ stored-twice (q .indices) role (S .forest .twelve) b (M .trees) (D .trees);
           renewed = both-renewed S (M .renewed) (D .renewed);
           enough = D .enough;
           none-left = D .none-left;
@@ -193,21 +215,25 @@ module _ (cpu : CpuIndex) (queued : ℕ → Bool) (now role : ℕ) (b : role < 3
     -- No moves are left only where no thread is.
     none-spent : count (length t) (spent (S .place)) ≤ 0 → (i : ℕ) → S .place i ≡ 9 + role → ⊥
     none-spent c i e =
-        let w = count-moved (length t) i 0 (S .place) (placed i 0 (S .place)) (inside i e) (omega arith) (omega arith) (omega arith) (λ j. refl) in
+        let w = count-moved (length t) i 0 (S .place) (placed i 0 (S .place)) (inside i e) (omega arith) (omega arith)
+        (omega arith) (λ j. refl) in
         omega arith
 
   drains-zero : Drains zero
   unfolding moveAll onAnswer
   drains-zero q t S c =
       let h = head-is (S .forest) (9 + role) (omega arith) in
-      rw (h .1) (by-head q t S zero (λ id. out (leaves (refused 1) (own q t S 0)) t) c (λ i e. absurd (none-spent q t S c i e)) (h .0) (h .2))
+      rw (h .1) (by-head q t S zero (λ id. out (leaves (refused damaged) (own q t S 0)) t) c
+      (λ i e. absurd (none-spent q t S c i e)) (h .0) (h .2))
 
   drains-suc : (n : ℕ) → Drains n → Drains (suc n)
   unfolding moveAll onAnswer
   drains-suc n ih q t S c =
       let h = head-is (S .forest) (9 + role) (omega arith) in
       rw (h .1) (by-head q t S (suc n) _ c
-      (λ i e. let M = one-moved S now role i n b e in drained-then q t S n i M e c (ih (M .queue) (M .table) (M .renewed .sound) (fewer q t S n i M e c))) (h .0) (h .2))
+      (λ i e. let M = one-moved S now role i n b e in
+      drained-then q t S n i M e c (ih (M .queue) (M .table) (M .renewed .sound) (fewer q t S n i M e c))) (h .0)
+      (h .2))
 
   -- In as many moves as there are threads in exhausted trees, and more.
   pub drains : (moves : ℕ) → Drains moves

@@ -22,9 +22,10 @@ use Rattle.thread.specs.Records.{withRuntime, withLinks}
 use Rattle.rows.specs.declared.RecordRead.the-variants as read
 use Rattle.rows.specs.Table.{out, recordOf, recordAt, changed}
 use Rattle.rows.specs.TableCases.{onRecord}
-use Rattle.rows.specs.TableLaws.{length-changed, record-same, record-other, record-within, reading-other, after-set-runtime, key-set-runtime, budget-key-kept}
+use Rattle.rows.specs.TableLaws.{length-changed, record-same, record-other, record-within, reading-other}
+use Rattle.rows.specs.TableLaws.{after-set-runtime, key-set-runtime, budget-key-kept}
 use Rattle.lists.specs.Lists.{onAnswer, onOut}
-use Rattle.queue.specs.declared.CpuRunQueue.{CpuRunQueue}
+use Rattle.queue.specs.RunQueue.{CpuRunQueue}
 use Rattle.demands.specs.Demands.{candidateOf}
 use Rattle.renewal.specs.Renewal.{refreshRecord}
 use Rattle.selection.specs.Heads.{headAt}
@@ -34,7 +35,8 @@ use Rattle.sound_queue.specs.Sound.{Sound}
 use Rattle.sound_queue.specs.SoundLaws.{queued-inside, queued-membership}
 use Rattle.sound_queue.specs.Runtimes.{refresh-sound, refresh-place}
 use Rattle.sound_selection.specs.Claim.{refreshedTo, candidateNow}
-use Rattle.sound_selection.specs.RefreshLaws.{Refreshes, plain, budgeted, refreshes, refreshed-by, refreshed-links, budget-judged, refresh-plain, refresh-budget}
+use Rattle.sound_selection.specs.RefreshLaws.{Refreshes, plain, budgeted, refreshes, refreshed-by}
+use Rattle.sound_selection.specs.RefreshLaws.{refreshed-links, budget-judged, refresh-plain, refresh-budget}
 use Rattle.sound_selection.specs.Changes.{bareAt, Fresher, kept, fresh, Passed}
 
 -- The membership of a list of a processor is ready there.
@@ -44,45 +46,64 @@ ready-there cpu zero = rw (eq-eqb (cpu .0) (cpu .0) refl)
 ready-there cpu (suc p) = rw (eq-eqb (cpu .0) (cpu .0) refl)
 
 -- The head is accepted with what it then asks for; what it leaves.
-pub record Headed {cpu : CpuIndex} {queued : ℕ → Bool} {q : CpuRunQueue} {t : List ThreadRecord} (S : Sound cpu queued q t) (now i : ℕ) : Type 0 where
+pub record Headed {cpu : CpuIndex} {queued : ℕ → Bool} {q : CpuRunQueue} {t : List ThreadRecord}
+    (S : Sound cpu queued q t) (now i : ℕ) : Type 0 where
   pub table : List ThreadRecord
   pub is : headAt t i cpu now ≡ out (value (candidateNow t now i)) table
   pub passed : Passed S now table
   pub own : bareAt table i ≡ refreshedTo now (bareAt t i)
 
-module _ {cpu : CpuIndex} {queued : ℕ → Bool} {q : CpuRunQueue} {t : List ThreadRecord} (S : Sound cpu queued q t) (now i : ℕ) (e : queued i ≡ true) where
+module _ {cpu : CpuIndex} {queued : ℕ → Bool} {q : CpuRunQueue} {t : List ThreadRecord} (S : Sound cpu queued q t)
+    (now i : ℕ) (e : queued i ≡ true) where
   is-ready : isReadyOn (recordOf t i .«queue_links» .membership) cpu ≡ true
   is-ready = rw (queued-membership S i e) (ready-there cpu (listFor (recordOf t i .parameters .policy)))
 
   -- By what refreshing the record comes to.
-  head-by : (r : ThreadRecord) (s : List ThreadRecord) → refreshRecord t i (recordOf t i) now ≡ out (value r) s → r ≡ refreshedTo now (recordOf t i)
+  head-by : (r : ThreadRecord) (s : List ThreadRecord) → refreshRecord t i (recordOf t i) now ≡ out (value r) s
+      → r ≡ refreshedTo now (recordOf t i)
       → headAt t i cpu now ≡ out (value (candidateNow t now i)) s
   unfolding headAt onRecord choose onOut onAnswer given candidateNow
-  head-by r s h k = rw (record-within t i (queued-inside S i e), is-ready, h) (ap (λ (x : ThreadRecord). out (value (candidateOf x)) s) k)
+  head-by r s h k =
+      rw (record-within t i (queued-inside S i e), is-ready, h)
+      (ap (λ (x : ThreadRecord). out (value (candidateOf x)) s) k)
 
-  bare-refreshed : (r : ThreadRecord) → refreshedTo now (recordOf t i) ≡ r → withLinks emptyLinks r ≡ refreshedTo now (bareAt t i)
+  bare-refreshed : (r : ThreadRecord) → refreshedTo now (recordOf t i) ≡ r
+      → withLinks emptyLinks r ≡ refreshedTo now (bareAt t i)
   unfolding bareAt
   bare-refreshed r h = ap (withLinks emptyLinks) (sym h) ∙ sym (refreshed-links now emptyLinks (recordOf t i))
 
   -- No budget: nothing changes.
-  headed-plain : recordOf t i .parameters .budget ≡ option.None → refreshedTo now (recordOf t i) ≡ recordOf t i → Headed S now i
+  headed-plain : recordOf t i .parameters .budget ≡ option.None → refreshedTo now (recordOf t i) ≡ recordOf t i
+      → Headed S now i
   unfolding bareAt
   headed-plain n h = record {
     table = t;
     is = head-by (recordOf t i) t (refresh-plain now (recordOf t i) (S .threads i e .judged) t i n) (sym h);
-    passed = record { sound = S; places = λ j. refl; len = refl; fresher = λ j. kept refl; keys = λ j. refl; others = λ j f. refl };
+    passed =
+        record {
+          sound = S;
+          places = λ j. refl;
+          len = refl;
+          fresher = λ j. kept refl;
+          keys = λ j. refl;
+          others = λ j f. refl;
+        };
     own = bare-refreshed (recordOf t i) h;
   }
 
   -- A budget: its runtime is stored.
-  module _ (y : PolicyRuntime) (p : BudgetParameters) (b : recordOf t i .parameters .policy ≡ policy.Budget) (g : recordOf t i .parameters .budget ≡ option.Some p)
-      (h : isBadRecord (withRuntime y (recordOf t i)) ≡ false) (k : epochRefreshed (recordOf t i .runtime) now (recordOf t i .parameters) ≡ value y) where
+  module _ (y : PolicyRuntime) (p : BudgetParameters) (b : recordOf t i .parameters .policy ≡ policy.Budget)
+      (g : recordOf t i .parameters .budget ≡ option.Some p)
+      (h : isBadRecord (withRuntime y (recordOf t i)) ≡ false)
+      (k : epochRefreshed (recordOf t i .runtime) now (recordOf t i .parameters) ≡ value y) where
     abbrev stored : List ThreadRecord
     stored = changed t i (withRuntime y)
 
     own-now : bareAt stored i ≡ refreshedTo now (bareAt t i)
     unfolding bareAt
-    own-now = rw (record-same t i (withRuntime y) (queued-inside S i e)) (bare-refreshed (withRuntime y (recordOf t i)) (refreshed-by now (recordOf t i) y k))
+    own-now =
+        rw (record-same t i (withRuntime y) (queued-inside S i e))
+        (bare-refreshed (withRuntime y (recordOf t i)) (refreshed-by now (recordOf t i) y k))
 
     other-bare : (j : ℕ) → j ≢ i → bareAt stored j ≡ bareAt t j
     unfolding bareAt
@@ -96,7 +117,9 @@ module _ {cpu : CpuIndex} {queued : ℕ → Bool} {q : CpuRunQueue} {t : List Th
     headed-budget : Headed S now i
     headed-budget = record {
       table = stored;
-      is = head-by (withRuntime y (recordOf t i)) stored (refresh-budget now (recordOf t i) (S .threads i e .judged) t i p y g k) (sym (refreshed-by now (recordOf t i) y k));
+      is = head-by (withRuntime y (recordOf t i)) stored
+          (refresh-budget now (recordOf t i) (S .threads i e .judged) t i p y g k)
+          (sym (refreshed-by now (recordOf t i) y k));
       passed = record {
         sound = refresh-sound S i y e b h;
         places = refresh-place S i y e b h;
@@ -105,7 +128,8 @@ module _ {cpu : CpuIndex} {queued : ℕ → Bool} {q : CpuRunQueue} {t : List Th
             (λ z. subst (λ n. Fresher now (bareAt t n) (bareAt stored n)) (sym z) (fresh own-now))
             (λ z. kept (other-bare j z));
         keys = λ j. rw (after-set-runtime t i y) at
-            (key-set-runtime t i y j (budget-key-kept (recordOf t i .parameters) y (recordOf t i .runtime) (recordOf t i .«ready_turn») b));
+            (key-set-runtime t i y j (budget-key-kept (recordOf t i .parameters) y (recordOf t i .runtime)
+            (recordOf t i .«ready_turn») b));
         others = other-records;
       };
       own = own-now;
@@ -114,7 +138,8 @@ module _ {cpu : CpuIndex} {queued : ℕ → Bool} {q : CpuRunQueue} {t : List Th
   headed-of : Refreshes now (recordOf t i) → Headed S now i
   headed-of (plain p n h) = headed-plain n h
   headed-of (budgeted x p b f g h k) =
-      headed-budget (runtime.Budget (budget.refreshed x now p)) p b g (budget-judged now (recordOf t i) (S .threads i e .judged) (budget.refreshed x now p) p b g h) k
+      headed-budget (runtime.Budget (budget.refreshed x now p)) p b g
+      (budget-judged now (recordOf t i) (S .threads i e .judged) (budget.refreshed x now p) p b g h) k
 
   -- A queued thread as a head.
   pub headed : Headed S now i

@@ -33,7 +33,7 @@ use Rattle.ready_index.specs.Cases.{onRooted}
 use Rattle.ready_index.specs.Index.{insert, remove}
 use Rattle.sound_index.specs.TableLaws.{besides-length}
 use Rattle.queue.specs.declared.Root.{Root}
-use Rattle.queue.specs.declared.CpuRunQueue.{CpuRunQueue}
+use Rattle.queue.specs.RunQueue.{CpuRunQueue, treeCount}
 use Rattle.queue.specs.Queue.{emptyRoot, rootOf, isBudget}
 use Rattle.renewal.specs.declared.BudgetTrees.{BudgetTrees}
 use Rattle.renewal.specs.Leaves.{leaves}
@@ -45,35 +45,44 @@ use Rattle.sound_queue.specs.SoundLaws.{queued-inside}
 use Rattle.sound_queue.specs.Runtimes.{with-time, exhausted}
 use Rattle.sound_queue.specs.Moving.{withRoots, Moved, moved}
 use Rattle.sound_selection.specs.Claim.{refreshedTo}
-use Rattle.sound_selection.specs.RefreshLaws.{Refreshes, plain, budgeted, refreshes, refreshed-by, budget-judged, refresh-budget}
-use Rattle.sound_selection.specs.Changes.{bareAt, Shift, stays, shifts, Standing, in-fifo, in-fair, in-budget, Renewed}
+use Rattle.sound_selection.specs.RefreshLaws.{Refreshes, plain, budgeted, refreshes, refreshed-by, budget-judged}
+use Rattle.sound_selection.specs.RefreshLaws.{refresh-budget}
+use Rattle.sound_selection.specs.Changes.{bareAt, Shift, stays, shifts, Standing, in-fifo, in-fair, in-budget}
+use Rattle.sound_selection.specs.Changes.{Renewed}
 use Rattle.sound_selection.specs.ChangeLaws.{bare-besides, bare-bad, standing}
 
 -- A thread that stands in an exhausted tree is a budget thread of that role.
-exhausted-there : (r : ThreadRecord) (role : ℕ) → role < 3 → Standing r (9 + role) → (r .parameters .policy ≡ policy.Budget) × (roleIndex (r .parameters .role) ≡ role)
+exhausted-there : (r : ThreadRecord) (role : ℕ) → role < 3 → Standing r (9 + role)
+    → (r .parameters .policy ≡ policy.Budget) × (roleIndex (r .parameters .role) ≡ role)
 exhausted-there r role b (in-fifo p e k) = absurd (omega (arith, role-index-le (r .parameters .role)))
 exhausted-there r role b (in-fair e k) = absurd (omega (arith, role-index-le (r .parameters .role)))
 exhausted-there r role b (in-budget e (with-time k)) = absurd (omega (arith, role-index-le (r .parameters .role)))
 exhausted-there r role b (in-budget e (exhausted k)) = (e, omega arith)
 
 -- The move is accepted; what it leaves.
-pub record OneMoved {cpu : CpuIndex} {queued : ℕ → Bool} {q : CpuRunQueue} {t : List ThreadRecord} (S : Sound cpu queued q t) (now role i moves : ℕ) : Type 0 where
+pub record OneMoved {cpu : CpuIndex} {queued : ℕ → Bool} {q : CpuRunQueue} {t : List ThreadRecord}
+    (S : Sound cpu queued q t) (now role i moves : ℕ) : Type 0 where
   pub trees : BudgetTrees
   pub queue : CpuRunQueue
   pub table : List ThreadRecord
-  pub is : moveOne t (budgetTrees (rootOf q (9 + role)) (rootOf q (6 + role)) moves) i now ≡ out (leaves (value tt) trees) table
+  pub is : moveOne t (budgetTrees (rootOf q (9 + role)) (rootOf q (6 + role)) moves) i now
+      ≡ out (leaves (value tt) trees) table
   pub indices : queue .indices ≡ withTrees (q .indices) role trees
   pub renewed : Renewed S now queue table
   pub places : (j : ℕ) → renewed .sound .place j ≡ placed i (6 + role) (S .place) j
 
-module _ {cpu : CpuIndex} {queued : ℕ → Bool} {q : CpuRunQueue} {t : List ThreadRecord} (S : Sound cpu queued q t) (now role i moves : ℕ) (b : role < 3) (at : S .place i ≡ 9 + role) where
+module _ {cpu : CpuIndex} {queued : ℕ → Bool} {q : CpuRunQueue} {t : List ThreadRecord} (S : Sound cpu queued q t)
+    (now role i moves : ℕ) (b : role < 3) (at : S .place i ≡ 9 + role) where
   is-queued : queued i ≡ true
-  is-queued = sym (S .stands i) ∙ lt-ltb (S .place i) 12 (omega arith)
+  is-queued = sym (S .stands i) ∙ lt-ltb (S .place i) treeCount (omega arith)
 
   there : (recordOf t i .parameters .policy ≡ policy.Budget) × (roleIndex (recordOf t i .parameters .role) ≡ role)
-  there = exhausted-there (recordOf t i) role b (standing (recordOf t i) (9 + role) (subst (Filed (recordOf t i)) at (S .threads i is-queued .filed)))
+  there =
+      exhausted-there (recordOf t i) role b
+      (standing (recordOf t i) (9 + role) (subst (Filed (recordOf t i)) at (S .threads i is-queued .filed)))
 
-  module _ (y : PolicyRuntime) (p : BudgetParameters) (g : recordOf t i .parameters .budget ≡ option.Some p) (k : epochRefreshed (recordOf t i .runtime) now (recordOf t i .parameters) ≡ value y)
+  module _ (y : PolicyRuntime) (p : BudgetParameters) (g : recordOf t i .parameters .budget ≡ option.Some p)
+      (k : epochRefreshed (recordOf t i .runtime) now (recordOf t i .parameters) ≡ value y)
       (M : Moved cpu queued q t (S .place) i (6 + role) y) where
     abbrev between : List ThreadRecord
     between = changed (M .out-of) i (withRuntime y)
@@ -94,13 +103,15 @@ module _ {cpu : CpuIndex} {queued : ℕ → Bool} {q : CpuRunQueue} {t : List Th
     its-runtime = ap (λ (r : ThreadRecord). r .runtime) its-bare
 
     its-judgement : isBadRecord (recordOf (M .out-of) i) ≡ false
-    its-judgement = sym (bare-bad (M .out-of) i) ∙ ap isBadRecord its-bare ∙ bare-bad t i ∙ S .threads i is-queued .judged
+    its-judgement =
+        sym (bare-bad (M .out-of) i) ∙ ap isBadRecord its-bare ∙ bare-bad t i ∙ S .threads i is-queued .judged
 
     refreshes-there : refreshRuntime (M .out-of) i now ≡ out (value (withRuntime y (recordOf (M .out-of) i))) between
     unfolding refreshRuntime onRecord
     refreshes-there =
         rw (record-within (M .out-of) i inside)
-        (refresh-budget now (recordOf (M .out-of) i) its-judgement (M .out-of) i p y (rw its-parameters g) (rw (its-parameters, its-runtime) k))
+        (refresh-budget now (recordOf (M .out-of) i) its-judgement (M .out-of) i p y (rw its-parameters g)
+        (rw (its-parameters, its-runtime) k))
 
     removes : remove t (rootOf q (9 + role)) i ≡ out (rooted.Root (M .rest)) (M .out-of)
     removes = subst (λ n. remove t (rootOf q n) i ≡ out (rooted.Root (M .rest)) (M .out-of)) at (M .removes)
@@ -108,12 +119,14 @@ module _ {cpu : CpuIndex} {queued : ℕ → Bool} {q : CpuRunQueue} {t : List Th
     inserts : insert between (rootOf q (6 + role)) i ≡ out (rooted.Root (M .top)) (M .table)
     inserts =
         subst (λ (x : Root). insert between (x .root) i ≡ out (rooted.Root (M .top)) (M .table))
-        (getD-set-other (q .indices) (S .place i) (6 + role) (record { root = M .rest }) emptyRoot (λ z. omega arith)) (M .inserts)
+        (getD-set-other (q .indices) (S .place i) (6 + role) (record { root = M .rest }) emptyRoot (λ z. omega arith))
+        (M .inserts)
 
     abbrev trees : BudgetTrees
     trees = budgetTrees (M .rest) (M .top) moves
 
-    moves-it : moveOne t (budgetTrees (rootOf q (9 + role)) (rootOf q (6 + role)) moves) i now ≡ out (leaves (value tt) trees) (M .table)
+    moves-it : moveOne t (budgetTrees (rootOf q (9 + role)) (rootOf q (6 + role)) moves) i now
+        ≡ out (leaves (value tt) trees) (M .table)
     unfolding moveOne onRooted onOut onAnswer
     moves-it = rw (removes, refreshes-there, inserts)
 
@@ -122,7 +135,9 @@ module _ {cpu : CpuIndex} {queued : ℕ → Bool} {q : CpuRunQueue} {t : List Th
 
     bare-other : (j : ℕ) → j ≢ i → bareAt (M .table) j ≡ bareAt t j
     unfolding bareAt
-    bare-other j d = bare-besides between (M .table) j (M .planted) ∙ rw (record-other (M .out-of) i (withRuntime y) j d) (bare-besides t (M .out-of) j (M .uprooted))
+    bare-other j d =
+        bare-besides between (M .table) j (M .planted)
+        ∙ rw (record-other (M .out-of) i (withRuntime y) j d) (bare-besides t (M .out-of) j (M .uprooted))
 
     bare-own : bareAt (M .table) i ≡ refreshedTo now (bareAt t i)
     unfolding bareAt
@@ -141,14 +156,18 @@ module _ {cpu : CpuIndex} {queued : ℕ → Bool} {q : CpuRunQueue} {t : List Th
     unfolding withTrees
     one-moved-by = record {
       trees = trees;
-      queue = withRoots q (set (set (q .indices) (S .place i) (record { root = M .rest })) (6 + role) (record { root = M .top }));
+      queue =
+          withRoots q (set (set (q .indices) (S .place i) (record { root = M .rest })) (6 + role)
+          (record { root = M .top }));
       table = M .table;
       is = moves-it;
       indices = ap (λ n. set (set (q .indices) n (record { root = M .rest })) (6 + role) (record { root = M .top })) at;
       renewed = record {
         sound = M .sound;
         beside = record { realtime = refl; total = refl; fair = refl; epoch = refl; budgets = refl; halted = refl };
-        len = besides-length between (M .table) (M .planted) ∙ length-changed (M .out-of) i (withRuntime y) ∙ besides-length t (M .out-of) (M .uprooted);
+        len =
+            besides-length between (M .table) (M .planted) ∙ length-changed (M .out-of) i (withRuntime y)
+            ∙ besides-length t (M .out-of) (M .uprooted);
         shift = shift;
         others = M .others;
       };
@@ -161,7 +180,9 @@ module _ {cpu : CpuIndex} {queued : ℕ → Bool} {q : CpuRunQueue} {t : List Th
   one-moved-of (budgeted x p e f g h k) =
       let y = runtime.Budget (budget.refreshed x now p) in
       one-moved-by y p g k
-      (moved S i (6 + role) y is-queued e (budget-judged now (recordOf t i) (S .threads i is-queued .judged) (budget.refreshed x now p) p e g h) (with-time (omega (arith, there .1))))
+      (moved S i (6 + role) y is-queued e
+      (budget-judged now (recordOf t i) (S .threads i is-queued .judged) (budget.refreshed x now p) p e g h)
+      (with-time (omega (arith, there .1))))
 
   -- A thread of an exhausted tree is moved.
   pub one-moved : OneMoved S now role i moves

@@ -30,19 +30,22 @@ then-group Equal y z = refl
 then-group Greater y z = refl
 
 -- What stands after lists of one length bears only where the lists are equal.
-pub appended : (a b u v : List ℕ) → length a ≡ length b → compareParts (a ++ u) (b ++ v) ≡ thenBy (compareParts a b) (compareParts u v)
+pub appended : (a b u v : List ℕ) → length a ≡ length b
+    → compareParts (a ++ u) (b ++ v) ≡ thenBy (compareParts a b) (compareParts u v)
 unfolding compareParts thenBy
 appended [] [] u v e = refl
 appended [] (y ∷ b) u v e = absurd (omega arith)
 appended (x ∷ a) [] u v e = absurd (omega arith)
 appended (x ∷ a) (y ∷ b) u v e =
-    ap (thenBy (compareNumbers x y)) (appended a b u v (omega arith)) ∙ sym (then-group (compareNumbers x y) (compareParts a b) (compareParts u v))
+    ap (thenBy (compareNumbers x y)) (appended a b u v (omega arith))
+    ∙ sym (then-group (compareNumbers x y) (compareParts a b) (compareParts u v))
 
 -- Less as a whole, the first parts are at most.
 pub first-parts : (a b u v : List ℕ) → length a ≡ length b → compareParts (a ++ u) (b ++ v) ≡ Less → AtMost a b
 unfolding thenBy flipped
 first-parts a b u v e f = compared a b less same
-    (λ h. let z : Less ≡ Greater = sym f ∙ appended a b u v e ∙ ap (λ x. thenBy x (compareParts u v)) (turned-about b a ∙ ap flipped h) in never cc)
+    (λ h. let z : Less ≡ Greater = sym f ∙ appended a b u v e
+    ∙ ap (λ x. thenBy x (compareParts u v)) (turned-about b a ∙ ap flipped h) in never cc)
 
 -- Equal first parts do not bear.
 pub same-first : (x : ℕ) (a b : List ℕ) → compareParts (x ∷ a) (x ∷ b) ≡ compareParts a b
@@ -54,9 +57,12 @@ unfolding compareParts
 last-number i j = then-nothing (compareNumbers i j)
 
 -- Keys first, then numbers.
-pub pair-compare : (k l : DispatchKey) (i j : ℕ) → compareParts (pairParts k i) (pairParts l j) ≡ thenBy (compareKeys k l) (compareNumbers i j)
+pub pair-compare : (k l : DispatchKey) (i j : ℕ)
+    → compareParts (pairParts k i) (pairParts l j) ≡ thenBy (compareKeys k l) (compareNumbers i j)
 unfolding compareKeys
-pair-compare k l i j = appended (keyParts k) (keyParts l) (i ∷ []) (j ∷ []) refl ∙ ap (thenBy (compareParts (keyParts k) (keyParts l))) (last-number i j)
+pair-compare k l i j =
+    appended (keyParts k) (keyParts l) (i ∷ []) (j ∷ []) refl
+    ∙ ap (thenBy (compareParts (keyParts k) (keyParts l))) (last-number i j)
 
 abbrev isLess : Ordering → Bool
 isLess Less = true
@@ -72,21 +78,27 @@ number-less i j = go (compareNumbers i j) (says i j)
     go Equal h = rw (le-ltb i j (omega arith))
     go Greater h = rw (le-ltb i j (omega arith))
 
-before-by : (o : Ordering) (i j : ℕ) → onOrdering o true (ifLess i j true false) false ≡ isLess (thenBy o (compareNumbers i j))
+before-by : (o : Ordering) (i j : ℕ)
+    → onOrdering o true (ifLess i j true false) false ≡ isLess (thenBy o (compareNumbers i j))
 unfolding onOrdering thenBy
 before-by Less i j = refl
 before-by Equal i j = number-less i j
 before-by Greater i j = refl
 
 module _ (r old : ReadyThread) where
-  before-tells : comesBefore r old ≡ isLess (compareParts (pairParts (r .key) (r .id .0)) (pairParts (old .key) (old .id .0)))
+  before-tells : comesBefore r old
+      ≡ isLess (compareParts (pairParts (r .key) (r .id .0)) (pairParts (old .key) (old .id .0)))
   unfolding comesBefore
-  before-tells = before-by (compareKeys (r .key) (old .key)) (r .id .0) (old .id .0) ∙ ap isLess (sym (pair-compare (r .key) (old .key) (r .id .0) (old .id .0)))
+  before-tells =
+      before-by (compareKeys (r .key) (old .key)) (r .id .0) (old .id .0)
+      ∙ ap isLess (sym (pair-compare (r .key) (old .key) (r .id .0) (old .id .0)))
 
   before-yes : comesBefore r old ≡ true → AtMost (pairParts (r .key) (r .id .0)) (pairParts (old .key) (old .id .0))
-  before-yes e = go (compareParts (pairParts (r .key) (r .id .0)) (pairParts (old .key) (old .id .0))) refl (sym before-tells ∙ e)
+  before-yes e =
+      go (compareParts (pairParts (r .key) (r .id .0)) (pairParts (old .key) (old .id .0))) refl (sym before-tells ∙ e)
     where
-      go : (o : Ordering) → compareParts (pairParts (r .key) (r .id .0)) (pairParts (old .key) (old .id .0)) ≡ o → isLess o ≡ true → AtMost (pairParts (r .key) (r .id .0)) (pairParts (old .key) (old .id .0))
+      go : (o : Ordering) → compareParts (pairParts (r .key) (r .id .0)) (pairParts (old .key) (old .id .0)) ≡ o
+          → isLess o ≡ true → AtMost (pairParts (r .key) (r .id .0)) (pairParts (old .key) (old .id .0))
       go Less h k = less h
       go Equal h k = never cc
       go Greater h k = never cc
@@ -112,11 +124,13 @@ unfolding lesserReady onReady choose
 lesser-new ready.None r = same refl
 lesser-new (ready.Some old) r = go (comesBefore r old) refl
   where
-    go : (x : Bool) → comesBefore r old ≡ x → Under (choose x (ready.Some r) (ready.Some old)) (pairParts (r .key) (r .id .0))
+    go : (x : Bool) → comesBefore r old ≡ x
+        → Under (choose x (ready.Some r) (ready.Some old)) (pairParts (r .key) (r .id .0))
     go true e = same refl
     go false e = before-no r old e
 
-pub lesser-every : (P : ReadyThread → Type 0) (best : ReadyOption) (r : ReadyThread) → Every P best → P r → Every P (lesserReady best r)
+pub lesser-every : (P : ReadyThread → Type 0) (best : ReadyOption) (r : ReadyThread) → Every P best → P r
+    → Every P (lesserReady best r)
 unfolding lesserReady onReady choose
 lesser-every P ready.None r h k = k
 lesser-every P (ready.Some old) r h k = go (comesBefore r old)

@@ -5,7 +5,7 @@ use mathlib.Core.Bool.{Bool, true, false}
 use mathlib.Core.List.{List}
 use native.Mathlib.Omega.{arith}
 use borrow.Author.Tests.{le-ltb}
-use Rattle.refusal.specs.Answer.{Answer, value, refused}
+use Rattle.refusal.specs.Answer.{Answer, value, refused, badBudget}
 use Rattle.refusal.specs.Cases.{never, choose, given}
 use Rattle.time.specs.declared.Epoch.the-variants as epoch
 use Rattle.time.specs.Time.{rises}
@@ -36,10 +36,20 @@ use Rattle.sound_selection.specs.Claim.{refreshedTo}
 
 -- A budget's runtime in a new epoch, and in the same one or an older.
 abbrev refilled : BudgetRuntime → ℕ → BudgetParameters → BudgetRuntime
-refilled r now p = record { epoch = epoch.Some (now / p .«period_ns»); «remaining_ns» = p .«budget_ns»; «burst_remaining_ns» = r .«burst_remaining_ns» }
+refilled r now p =
+    record {
+      epoch = epoch.Some (now / p .«period_ns»);
+      «remaining_ns» = p .«budget_ns»;
+      «burst_remaining_ns» = r .«burst_remaining_ns»;
+    }
 
 abbrev limited : BudgetRuntime → BudgetParameters → BudgetRuntime
-limited r p = record { epoch = r .epoch; «remaining_ns» = min (r .«remaining_ns») (p .«budget_ns»); «burst_remaining_ns» = r .«burst_remaining_ns» }
+limited r p =
+    record {
+      epoch = r .epoch;
+      «remaining_ns» = min (r .«remaining_ns») (p .«budget_ns»);
+      «burst_remaining_ns» = r .«burst_remaining_ns»;
+    }
 
 module _ (r : BudgetRuntime) (now : ℕ) (p : BudgetParameters) where
   when-rises : rises (r .epoch) (now / p .«period_ns») ≡ true → budget.refreshed r now p ≡ refilled r now p
@@ -54,24 +64,34 @@ not-rising : (e : ℕ) → rises (epoch.Some e) e ≡ false
 unfolding rises
 not-rising e = le-ltb e e (omega arith)
 
-limited-by : (r : BudgetRuntime) (p : BudgetParameters) → min (r .«remaining_ns») (p .«budget_ns») ≡ r .«remaining_ns» → limited r p ≡ r
-limited-by r p e = λ i. record { epoch = r .epoch; «remaining_ns» = e i; «burst_remaining_ns» = r .«burst_remaining_ns» }
+limited-by : (r : BudgetRuntime) (p : BudgetParameters) → min (r .«remaining_ns») (p .«budget_ns») ≡ r .«remaining_ns»
+    → limited r p ≡ r
+limited-by r p e =
+    λ i. record { epoch = r .epoch; «remaining_ns» = e i; «burst_remaining_ns» = r .«burst_remaining_ns» }
 
 -- Once refreshed, again changes nothing.
-refreshed-twice : (r : BudgetRuntime) (now : ℕ) (p : BudgetParameters) → budget.refreshed (budget.refreshed r now p) now p ≡ budget.refreshed r now p
+refreshed-twice : (r : BudgetRuntime) (now : ℕ) (p : BudgetParameters)
+    → budget.refreshed (budget.refreshed r now p) now p ≡ budget.refreshed r now p
 refreshed-twice r now p = go (rises (r .epoch) (now / p .«period_ns»)) refl
   where
-    go : (x : Bool) → rises (r .epoch) (now / p .«period_ns») ≡ x → budget.refreshed (budget.refreshed r now p) now p ≡ budget.refreshed r now p
-    go true h = rw (when-rises r now p h) (when-stays (refilled r now p) now p (not-rising (now / p .«period_ns»)) ∙ limited-by (refilled r now p) p (omega arith))
+    go : (x : Bool) → rises (r .epoch) (now / p .«period_ns») ≡ x
+        → budget.refreshed (budget.refreshed r now p) now p ≡ budget.refreshed r now p
+    go true h =
+        rw (when-rises r now p h) (when-stays (refilled r now p) now p (not-rising (now / p .«period_ns»))
+        ∙ limited-by (refilled r now p) p (omega arith))
     go false h = rw (when-stays r now p h) (when-stays (limited r p) now p h ∙ limited-by (limited r p) p (omega arith))
 
 -- What a record that is not bad is refreshed to: itself, or with its budget's runtime refreshed.
 pub data Refreshes (now : ℕ) (r : ThreadRecord) : Type 0 where
-  plain : isBudget (r .parameters .policy) ≡ false → r .parameters .budget ≡ option.None → refreshedTo now r ≡ r → Refreshes now r
-  budgeted : (x : BudgetRuntime) (q : BudgetParameters) → r .parameters .policy ≡ policy.Budget → r .runtime ≡ runtime.Budget x → r .parameters .budget ≡ option.Some q → soundBudget q ≡ true
-      → epochRefreshed (r .runtime) now (r .parameters) ≡ value (runtime.Budget (budget.refreshed x now q)) → Refreshes now r
+  plain : isBudget (r .parameters .policy) ≡ false → r .parameters .budget ≡ option.None → refreshedTo now r ≡ r
+      → Refreshes now r
+  budgeted : (x : BudgetRuntime) (q : BudgetParameters) → r .parameters .policy ≡ policy.Budget
+      → r .runtime ≡ runtime.Budget x → r .parameters .budget ≡ option.Some q → soundBudget q ≡ true
+      → epochRefreshed (r .runtime) now (r .parameters) ≡ value (runtime.Budget (budget.refreshed x now q))
+      → Refreshes now r
 
-pub refreshed-by : (now : ℕ) (r : ThreadRecord) (x : PolicyRuntime) → epochRefreshed (r .runtime) now (r .parameters) ≡ value x → refreshedTo now r ≡ withRuntime x r
+pub refreshed-by : (now : ℕ) (r : ThreadRecord) (x : PolicyRuntime)
+    → epochRefreshed (r .runtime) now (r .parameters) ≡ value x → refreshedTo now r ≡ withRuntime x r
 unfolding refreshedTo onAnswer
 refreshed-by now r x e = rw e
 
@@ -82,21 +102,26 @@ NotBudget (runtime.Fair f) = Unit {0}
 NotBudget (runtime.Budget b) = ⊥
 NotBudget runtime.Idle = Unit {0}
 
-not-refreshed : (x : PolicyRuntime) (now : ℕ) (p : SchedulingParameters) → NotBudget x → epochRefreshed x now p ≡ value x
+not-refreshed : (x : PolicyRuntime) (now : ℕ) (p : SchedulingParameters) → NotBudget x
+    → epochRefreshed x now p ≡ value x
 unfolding epochRefreshed onRuntime
 not-refreshed runtime.Fifo now p n = refl
 not-refreshed (runtime.Fair f) now p n = refl
 not-refreshed (runtime.Budget b) now p n = absurd n
 not-refreshed runtime.Idle now p n = refl
 
-budget-refreshed : (x : PolicyRuntime) (b : BudgetRuntime) (now : ℕ) (p : SchedulingParameters) (q : BudgetParameters) → x ≡ runtime.Budget b → p .budget ≡ option.Some q → soundBudget q ≡ true
+budget-refreshed : (x : PolicyRuntime) (b : BudgetRuntime) (now : ℕ) (p : SchedulingParameters) (q : BudgetParameters)
+    → x ≡ runtime.Budget b → p .budget ≡ option.Some q → soundBudget q ≡ true
     → epochRefreshed x now p ≡ value (runtime.Budget (budget.refreshed b now q))
 unfolding epochRefreshed onRuntime onBudget ofBudget budget.refreshedJudged budget.judged choose given
 budget-refreshed x b now p q e f g = rw (e, f, g)
 
 module _ (now : ℕ) (r : ThreadRecord) where
-  stays : (x : PolicyRuntime) → r .runtime ≡ x → NotBudget x → isBudget (r .parameters .policy) ≡ false → r .parameters .budget ≡ option.None → Refreshes now r
-  stays x e n p b = plain p b (refreshed-by now r (r .runtime) (subst (λ (y : PolicyRuntime). epochRefreshed y now (r .parameters) ≡ value y) (sym e) (not-refreshed x now (r .parameters) n)))
+  stays : (x : PolicyRuntime) → r .runtime ≡ x → NotBudget x → isBudget (r .parameters .policy) ≡ false
+      → r .parameters .budget ≡ option.None → Refreshes now r
+  stays x e n p b = plain p b (refreshed-by now r (r .runtime)
+      (subst (λ (y : PolicyRuntime). epochRefreshed y now (r .parameters) ≡ value y) (sym e)
+      (not-refreshed x now (r .parameters) n)))
 
   bad : {A : Type 0} → true ≡ false → A
   bad e = never cc
@@ -106,8 +131,10 @@ module _ (now : ℕ) (r : ThreadRecord) where
   sound-by q true e h = e
   sound-by q false e h = bad h
 
-  judged-by : (p : SchedulingPolicy) (x : PolicyRuntime) (b : BudgetOption) → r .parameters .policy ≡ p → r .runtime ≡ x → r .parameters .budget ≡ b
-      → choose (sameKind x p) (onPolicy p (λ priority. hasBudget b) (hasBudget b) (isBadBudget b) (hasBudget b)) true ≡ false → Refreshes now r
+  judged-by : (p : SchedulingPolicy) (x : PolicyRuntime) (b : BudgetOption) → r .parameters .policy ≡ p → r .runtime ≡ x
+      → r .parameters .budget ≡ b
+      → choose (sameKind x p) (onPolicy p (λ priority. hasBudget b) (hasBudget b) (isBadBudget b) (hasBudget b)) true
+      ≡ false → Refreshes now r
   unfolding choose sameKind onPolicy hasBudget isBadBudget onBudget isBudget
   judged-by (policy.Fifo a) runtime.Fifo option.None e f g h = stays runtime.Fifo f tt (rw e) g
   judged-by (policy.Fifo a) runtime.Fifo (option.Some q) e f g h = bad h
@@ -137,7 +164,8 @@ module _ (now : ℕ) (r : ThreadRecord) where
   refreshes h = judged-by (r .parameters .policy) (r .runtime) (r .parameters .budget) refl refl refl h
 
   -- Only the runtime changes.
-  kept-by : {A : Type 0} (f : ThreadRecord → A) → ((x : PolicyRuntime) → f (withRuntime x r) ≡ f r) → f (refreshedTo now r) ≡ f r
+  kept-by : {A : Type 0} (f : ThreadRecord → A) → ((x : PolicyRuntime) → f (withRuntime x r) ≡ f r)
+      → f (refreshedTo now r) ≡ f r
   unfolding refreshedTo onAnswer
   kept-by {A} f h = go (epochRefreshed (r .runtime) now (r .parameters))
     where
@@ -158,24 +186,30 @@ module _ (now : ℕ) (r : ThreadRecord) where
   refreshed-cpu = kept-by (λ (s : ThreadRecord). s .cpu) (λ x. refl)
 
 -- Tree links do not bear on it.
-pub refreshed-links : (now : ℕ) (l : Links) (r : ThreadRecord) → refreshedTo now (withLinks l r) ≡ withLinks l (refreshedTo now r)
+pub refreshed-links : (now : ℕ) (l : Links) (r : ThreadRecord)
+    → refreshedTo now (withLinks l r) ≡ withLinks l (refreshedTo now r)
 unfolding refreshedTo onAnswer
 refreshed-links now l r = go (epochRefreshed (r .runtime) now (r .parameters))
   where
-    go : (a : Answer PolicyRuntime) → onAnswer a (λ n. withLinks l r) (λ x. withRuntime x (withLinks l r)) ≡ withLinks l (onAnswer a (λ n. r) (λ x. withRuntime x r))
+    go : (a : Answer PolicyRuntime)
+        → onAnswer a (λ n. withLinks l r) (λ x. withRuntime x (withLinks l r))
+        ≡ withLinks l (onAnswer a (λ n. r) (λ x. withRuntime x r))
     go (value x) = refl
     go (refused n) = refl
 
-not-sound : (x : PolicyRuntime) (b : BudgetRuntime) (now : ℕ) (p : SchedulingParameters) (q : BudgetParameters) → x ≡ runtime.Budget b → p .budget ≡ option.Some q → soundBudget q ≡ false
-    → epochRefreshed x now p ≡ refused 6
+not-sound : (x : PolicyRuntime) (b : BudgetRuntime) (now : ℕ) (p : SchedulingParameters) (q : BudgetParameters)
+    → x ≡ runtime.Budget b → p .budget ≡ option.Some q → soundBudget q ≡ false
+    → epochRefreshed x now p ≡ refused badBudget
 unfolding epochRefreshed onRuntime onBudget ofBudget budget.refreshedJudged budget.judged choose
 not-sound x b now p q e f g = rw (e, f, g)
 
-no-budget : (x : PolicyRuntime) (b : BudgetRuntime) (now : ℕ) (p : SchedulingParameters) → x ≡ runtime.Budget b → p .budget ≡ option.None → epochRefreshed x now p ≡ value (runtime.Budget b)
+no-budget : (x : PolicyRuntime) (b : BudgetRuntime) (now : ℕ) (p : SchedulingParameters) → x ≡ runtime.Budget b
+    → p .budget ≡ option.None → epochRefreshed x now p ≡ value (runtime.Budget b)
 unfolding epochRefreshed onRuntime onBudget
 no-budget x b now p e f = rw (e, f)
 
-not-refreshed-by : (now : ℕ) (r : ThreadRecord) (n : ℕ) → epochRefreshed (r .runtime) now (r .parameters) ≡ refused n → refreshedTo now r ≡ r
+not-refreshed-by : (now : ℕ) (r : ThreadRecord) (n : ℕ) → epochRefreshed (r .runtime) now (r .parameters) ≡ refused n
+    → refreshedTo now r ≡ r
 unfolding refreshedTo onAnswer
 not-refreshed-by now r n e = rw e
 
@@ -184,23 +218,29 @@ module _ (now : ℕ) (r : ThreadRecord) where
   once : refreshedTo now r ≡ r → refreshedTo now (refreshedTo now r) ≡ refreshedTo now r
   once e = ap (refreshedTo now) e
 
-  own : (x : PolicyRuntime) → r .runtime ≡ x → epochRefreshed (r .runtime) now (r .parameters) ≡ value x → refreshedTo now r ≡ r
+  own : (x : PolicyRuntime) → r .runtime ≡ x → epochRefreshed (r .runtime) now (r .parameters) ≡ value x
+      → refreshedTo now r ≡ r
   own x e f = refreshed-by now r x f ∙ ap (λ (y : PolicyRuntime). withRuntime y r) (sym e)
 
-  sound-again : (x : BudgetRuntime) (q : BudgetParameters) → r .runtime ≡ runtime.Budget x → r .parameters .budget ≡ option.Some q → soundBudget q ≡ true
+  sound-again : (x : BudgetRuntime) (q : BudgetParameters) → r .runtime ≡ runtime.Budget x
+      → r .parameters .budget ≡ option.Some q → soundBudget q ≡ true
       → refreshedTo now (refreshedTo now r) ≡ refreshedTo now r
   sound-again x q f g h =
       let y = budget.refreshed x now q in
       let s = withRuntime (runtime.Budget y) r in
       rw (refreshed-by now r (runtime.Budget y) (budget-refreshed (r .runtime) x now (r .parameters) q f g h))
-      (refreshed-by now s (runtime.Budget (budget.refreshed y now q)) (budget-refreshed (s .runtime) y now (s .parameters) q refl g h)
+      (refreshed-by now s (runtime.Budget (budget.refreshed y now q))
+      (budget-refreshed (s .runtime) y now (s .parameters) q refl g h)
       ∙ ap (λ (z : BudgetRuntime). withRuntime (runtime.Budget z) r) (refreshed-twice x now q))
 
-  again-by : (x : PolicyRuntime) (o : BudgetOption) → r .runtime ≡ x → r .parameters .budget ≡ o → refreshedTo now (refreshedTo now r) ≡ refreshedTo now r
+  again-by : (x : PolicyRuntime) (o : BudgetOption) → r .runtime ≡ x → r .parameters .budget ≡ o
+      → refreshedTo now (refreshedTo now r) ≡ refreshedTo now r
   again-by runtime.Fifo o e f = once (own runtime.Fifo e (rw e (not-refreshed runtime.Fifo now (r .parameters) tt)))
-  again-by (runtime.Fair y) o e f = once (own (runtime.Fair y) e (rw e (not-refreshed (runtime.Fair y) now (r .parameters) tt)))
+  again-by (runtime.Fair y) o e f =
+      once (own (runtime.Fair y) e (rw e (not-refreshed (runtime.Fair y) now (r .parameters) tt)))
   again-by runtime.Idle o e f = once (own runtime.Idle e (rw e (not-refreshed runtime.Idle now (r .parameters) tt)))
-  again-by (runtime.Budget x) option.None e f = once (own (runtime.Budget x) e (no-budget (r .runtime) x now (r .parameters) e f))
+  again-by (runtime.Budget x) option.None e f =
+      once (own (runtime.Budget x) e (no-budget (r .runtime) x now (r .parameters) e f))
   again-by (runtime.Budget x) (option.Some q) e f = go (soundBudget q) refl
     where
       go : (y : Bool) → soundBudget q ≡ y → refreshedTo now (refreshedTo now r) ≡ refreshedTo now r
@@ -215,9 +255,11 @@ pub answered : {A B : Type 0} {a : Answer A} {v : A} (g : ℕ → B) (f : A → 
 unfolding onAnswer
 answered g f e = rw e
 
--- A record that is not bad stays so, keeps its key, and is refreshed once and for all; `refreshRecord` stores what it is refreshed to.
+-- A record that is not bad stays so, keeps its key, and is refreshed once and for all; `refreshRecord` stores what it
+-- is refreshed to.
 module _ (now : ℕ) (r : ThreadRecord) (b : isBadRecord r ≡ false) where
-  pub budget-judged : (x : BudgetRuntime) (q : BudgetParameters) → r .parameters .policy ≡ policy.Budget → r .parameters .budget ≡ option.Some q → soundBudget q ≡ true
+  pub budget-judged : (x : BudgetRuntime) (q : BudgetParameters) → r .parameters .policy ≡ policy.Budget
+      → r .parameters .budget ≡ option.Some q → soundBudget q ≡ true
       → isBadRecord (withRuntime (runtime.Budget x) r) ≡ false
   unfolding isBadRecord sameKind choose onPolicy isBadBudget onBudget
   budget-judged x q e f g = rw (e, f, g)
@@ -227,7 +269,9 @@ module _ (now : ℕ) (r : ThreadRecord) (b : isBadRecord r ≡ false) where
     where
       go : Refreshes now r → isBadRecord (refreshedTo now r) ≡ false
       go (plain p n e) = rw e b
-      go (budgeted x q e f g h k) = rw (refreshed-by now r (runtime.Budget (budget.refreshed x now q)) k) (budget-judged (budget.refreshed x now q) q e g h)
+      go (budgeted x q e f g h k) =
+          rw (refreshed-by now r (runtime.Budget (budget.refreshed x now q)) k)
+          (budget-judged (budget.refreshed x now q) q e g h)
 
   pub refreshed-key : (j : ℕ) → readyIndexKey (refreshedTo now r) j ≡ readyIndexKey r j
   unfolding readyIndexKey treeKey
@@ -240,11 +284,15 @@ module _ (now : ℕ) (r : ThreadRecord) (b : isBadRecord r ≡ false) where
         budget-key-kept (r .parameters) (runtime.Budget (budget.refreshed x now q)) (r .runtime) (r .«ready_turn») e,
       )
 
-  pub refresh-plain : (t : List ThreadRecord) (i : ℕ) → r .parameters .budget ≡ option.None → refreshRecord t i r now ≡ out (value r) t
+  pub refresh-plain : (t : List ThreadRecord) (i : ℕ) → r .parameters .budget ≡ option.None
+      → refreshRecord t i r now ≡ out (value r) t
   unfolding refreshRecord choose onBudget
   refresh-plain t i e = rw (b, e)
 
-  pub refresh-budget : (t : List ThreadRecord) (i : ℕ) (q : BudgetParameters) (x : PolicyRuntime) → r .parameters .budget ≡ option.Some q → epochRefreshed (r .runtime) now (r .parameters) ≡ value x
+  pub refresh-budget : (t : List ThreadRecord) (i : ℕ) (q : BudgetParameters) (x : PolicyRuntime)
+      → r .parameters .budget ≡ option.Some q → epochRefreshed (r .runtime) now (r .parameters) ≡ value x
       → refreshRecord t i r now ≡ out (value (withRuntime x r)) (changed t i (withRuntime x))
   unfolding refreshRecord choose
-  refresh-budget t i q x e f = rw b (sym (some-budget (out (value r) t) _ e (sym (answered _ _ f ∙ ap (out (value (withRuntime x r))) (after-set-runtime t i x)))))
+  refresh-budget t i q x e f =
+      rw b (sym (some-budget (out (value r) t) _ e
+      (sym (answered _ _ f ∙ ap (out (value (withRuntime x r))) (after-set-runtime t i x)))))

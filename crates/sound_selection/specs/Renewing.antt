@@ -1,4 +1,5 @@
--- The whole change of period on a sound queue: it is never refused, and the queue is sound after it, with no thread left in an exhausted tree.
+-- The whole change of period on a sound queue: it is never refused, and the queue is sound after it, with no thread
+-- left in an exhausted tree.
 use Prim.Native.Nat.{ℕ, suc, _+_, _-_, _≤_, _<_}
 use mathlib.Core.Path.{_≡_, refl, sym, ap, _∙_, subst}
 use mathlib.Core.Bool.{Bool, true, false}
@@ -14,10 +15,10 @@ use Rattle.thread.specs.declared.ThreadRecord.{ThreadRecord}
 use Rattle.rows.specs.Table.{Out, out, recordAt}
 use Rattle.lists.specs.Lists.{onOut}
 use Rattle.queue.specs.declared.Root.{Root}
-use Rattle.queue.specs.declared.CpuRunQueue.{CpuRunQueue}
+use Rattle.queue.specs.RunQueue.{CpuRunQueue, treeCount}
 use Rattle.queue.specs.Queue.{rootOf}
 use Rattle.renewal.specs.declared.BudgetTrees.{BudgetTrees}
-use Rattle.renewal.specs.declared.SelectionParts.{SelectionParts}
+use Rattle.renewal.specs.Parts.{SelectionParts}
 use Rattle.renewal.specs.Leaves.{Leaves, leaves, onLeaves}
 use Rattle.renewal.specs.Renewal.{moveAll, rootAt, withTrees, renewRoles, isEpoch, renew}
 use Rattle.selection.specs.Peek.{selectionParts, withSelectionParts}
@@ -29,8 +30,10 @@ use Rattle.sound_selection.specs.Changes.{bareAt, Shift, stays, shifts}
 use Rattle.sound_selection.specs.ChangeLaws.{shift-trans}
 use Rattle.sound_selection.specs.Moves.{spent, Drained, drains}
 
--- What a change of period, or none, leaves. Where the epoch was this one nothing has moved; where not, no exhausted tree has a thread.
-pub record Turned {cpu : CpuIndex} {queued : ℕ → Bool} {q : CpuRunQueue} {t : List ThreadRecord} (S : Sound cpu queued q t) (now e : ℕ) (o : Out (Leaves (Unit {0}) SelectionParts)) : Type 0 where
+-- What a change of period, or none, leaves. Where the epoch was this one nothing has moved; where not, no exhausted
+-- tree has a thread.
+pub record Turned {cpu : CpuIndex} {queued : ℕ → Bool} {q : CpuRunQueue} {t : List ThreadRecord}
+    (S : Sound cpu queued q t) (now e : ℕ) (o : Out (Leaves (Unit {0}) SelectionParts)) : Type 0 where
   pub parts : SelectionParts
   pub table : List ThreadRecord
   pub is : o ≡ out (leaves (value tt) parts) table
@@ -39,7 +42,7 @@ pub record Turned {cpu : CpuIndex} {queued : ℕ → Bool} {q : CpuRunQueue} {t 
   pub shift : (j : ℕ) → Shift now (S .place j) (bareAt t j) (sound .place j) (bareAt table j)
   pub others : (j : ℕ) → queued j ≡ false → recordAt table j ≡ recordAt t j
   pub still : isEpoch (q .«budget_epoch») e ≡ true → (j : ℕ) → sound .place j ≡ S .place j
-  pub clear : isEpoch (q .«budget_epoch») e ≡ false → (j : ℕ) → sound .place j < 12 → sound .place j < 9
+  pub clear : isEpoch (q .«budget_epoch») e ≡ false → (j : ℕ) → sound .place j < treeCount → sound .place j < 9
 
 -- One role, and then the others.
 role-done : (left moves now : ℕ) (t s : List ThreadRecord) (roots : List Root) (x : BudgetTrees)
@@ -49,11 +52,13 @@ unfolding renewRoles given onOut onLeaves
 role-done left moves now t s roots x e = rw e
 
 -- A tree that is empty stays so.
-stays-empty : {now p : ℕ} {a : ThreadRecord} {p′ : ℕ} {b : ThreadRecord} (n : ℕ) → 9 ≤ n → Shift now p a p′ b → p ≢ n → p′ ≢ n
+stays-empty : {now p : ℕ} {a : ThreadRecord} {p′ : ℕ} {b : ThreadRecord} (n : ℕ) → 9 ≤ n → Shift now p a p′ b → p ≢ n
+    → p′ ≢ n
 stays-empty n g (stays e f) h z = h (sym e ∙ z)
 stays-empty n g (shifts a c e f) h z = omega arith
 
-module _ {cpu : CpuIndex} {queued : ℕ → Bool} {q : CpuRunQueue} {t : List ThreadRecord} (S : Sound cpu queued q t) (now e : ℕ) where
+module _ {cpu : CpuIndex} {queued : ℕ → Bool} {q : CpuRunQueue} {t : List ThreadRecord} (S : Sound cpu queued q t)
+    (now e : ℕ) where
   -- Nothing to do.
   turned-still : isEpoch (q .«budget_epoch») e ≡ true → Turned S now e (out (leaves (value tt) (selectionParts q)) t)
   unfolding selectionParts withSelectionParts
@@ -71,8 +76,10 @@ module _ {cpu : CpuIndex} {queued : ℕ → Bool} {q : CpuRunQueue} {t : List Th
 
   -- The three roles, one after the other.
   module _ (A : Drained S now 0 (moveAll (length t) t (rootOf q 9) (rootOf q 6) now))
-      (B : Drained (A .renewed .sound) now 1 (moveAll (A .trees .moves) (A .table) (rootOf (A .queue) 10) (rootOf (A .queue) 7) now))
-      (C : Drained (B .renewed .sound) now 2 (moveAll (B .trees .moves) (B .table) (rootOf (B .queue) 11) (rootOf (B .queue) 8) now)) where
+      (B : Drained (A .renewed .sound) now 1
+      (moveAll (A .trees .moves) (A .table) (rootOf (A .queue) 10) (rootOf (A .queue) 7) now))
+      (C : Drained (B .renewed .sound) now 2
+      (moveAll (B .trees .moves) (B .table) (rootOf (B .queue) 11) (rootOf (B .queue) 8) now)) where
     abbrev first-roots : List Root
     first-roots = withTrees (q .indices) 0 (A .trees)
 
@@ -93,9 +100,11 @@ module _ {cpu : CpuIndex} {queued : ℕ → Bool} {q : CpuRunQueue} {t : List Th
     roles-done =
         role-done 2 (length t) now t (A .table) (q .indices) (A .trees) (A .is)
         ∙ role-done 1 (A .trees .moves) now (A .table) (B .table) first-roots (B .trees)
-        (subst (λ (l : List Root). moveAll (A .trees .moves) (A .table) (rootAt l 10) (rootAt l 7) now ≡ out (leaves (value tt) (B .trees)) (B .table)) (A .indices) (B .is))
+        (subst (λ (l : List Root). moveAll (A .trees .moves) (A .table) (rootAt l 10) (rootAt l 7) now
+        ≡ out (leaves (value tt) (B .trees)) (B .table)) (A .indices) (B .is))
         ∙ role-done 0 (B .trees .moves) now (B .table) (C .table) second-roots (C .trees)
-        (subst (λ (l : List Root). moveAll (B .trees .moves) (B .table) (rootAt l 11) (rootAt l 8) now ≡ out (leaves (value tt) (C .trees)) (C .table)) after-second (C .is))
+        (subst (λ (l : List Root). moveAll (B .trees .moves) (B .table) (rootAt l 11) (rootAt l 8) now
+        ≡ out (leaves (value tt) (C .trees)) (C .table)) after-second (C .is))
 
     abbrev left-parts : SelectionParts
     left-parts = record { indices = third-roots; «budget_epoch» = epoch.Some e; halted = q .halted }
@@ -103,9 +112,10 @@ module _ {cpu : CpuIndex} {queued : ℕ → Bool} {q : CpuRunQueue} {t : List Th
     whole-shift : (j : ℕ) → Shift now (S .place j) (bareAt t j) (C .renewed .sound .place j) (bareAt (C .table) j)
     whole-shift j = shift-trans (A .renewed .shift j) (shift-trans (B .renewed .shift j) (C .renewed .shift j))
 
-    emptied : (j : ℕ) → C .renewed .sound .place j < 12 → C .renewed .sound .place j < 9
+    emptied : (j : ℕ) → C .renewed .sound .place j < treeCount → C .renewed .sound .place j < 9
     emptied j l =
-        let a : C .renewed .sound .place j ≢ 9 = stays-empty 9 (omega arith) (C .renewed .shift j) (stays-empty 9 (omega arith) (B .renewed .shift j) (A .none-left j)) in
+        let a : C .renewed .sound .place j ≢ 9 = stays-empty 9 (omega arith) (C .renewed .shift j)
+        (stays-empty 9 (omega arith) (B .renewed .shift j) (A .none-left j)) in
         let b : C .renewed .sound .place j ≢ 10 = stays-empty 10 (omega arith) (C .renewed .shift j) (B .none-left j) in
         let c : C .renewed .sound .place j ≢ 11 = C .none-left j in
         omega arith
@@ -113,13 +123,15 @@ module _ {cpu : CpuIndex} {queued : ℕ → Bool} {q : CpuRunQueue} {t : List Th
     turned-sound : Sound cpu queued (withSelectionParts q left-parts) (C .table)
     unfolding withSelectionParts trees-sound
     turned-sound =
-        trees-sound (C .renewed .sound) (C .table) refl (λ j. refl) (λ j. refl) (withSelectionParts q left-parts) (C .renewed .sound .place)
+        trees-sound (C .renewed .sound) (C .table) refl (λ j. refl) (λ j. refl) (withSelectionParts q left-parts)
+        (C .renewed .sound .place)
         (sym (C .renewed .beside .realtime ∙ B .renewed .beside .realtime ∙ A .renewed .beside .realtime))
         (sym (C .renewed .beside .fair ∙ B .renewed .beside .fair ∙ A .renewed .beside .fair))
         (sym (C .renewed .beside .total ∙ B .renewed .beside .total ∙ A .renewed .beside .total))
         (sym (C .renewed .beside .budgets ∙ B .renewed .beside .budgets ∙ A .renewed .beside .budgets))
         (sym (C .renewed .beside .halted ∙ B .renewed .beside .halted ∙ A .renewed .beside .halted))
-        (subst (λ (l : List Root). Forest l (C .table) (C .renewed .sound .place)) after-third (C .renewed .sound .forest)) (C .renewed .sound .stands) (C .renewed .sound .threads)
+        (subst (λ (l : List Root). Forest l (C .table) (C .renewed .sound .place)) after-third
+        (C .renewed .sound .forest)) (C .renewed .sound .stands) (C .renewed .sound .threads)
 
     turned-by : isEpoch (q .«budget_epoch») e ≡ false → Turned S now e (renew t (selectionParts q) now e)
     unfolding renew choose onOut onLeaves selectionParts turned-sound trees-sound
@@ -140,8 +152,10 @@ module _ {cpu : CpuIndex} {queued : ℕ → Bool} {q : CpuRunQueue} {t : List Th
   turned-of true h = rw h (turned-still h)
   turned-of false h =
       let A = drains cpu queued now 0 (omega arith) (length t) q t S (count-most (length t) (spent (S .place))) in
-      let B = drains cpu queued now 1 (omega arith) (A .trees .moves) (A .queue) (A .table) (A .renewed .sound) (A .enough) in
-      let C = drains cpu queued now 2 (omega arith) (B .trees .moves) (B .queue) (B .table) (B .renewed .sound) (B .enough) in
+      let B = drains cpu queued now 1 (omega arith) (A .trees .moves) (A .queue) (A .table) (A .renewed .sound)
+      (A .enough) in
+      let C = drains cpu queued now 2 (omega arith) (B .trees .moves) (B .queue) (B .table) (B .renewed .sound)
+      (B .enough) in
       turned-by A B C h
 
   -- A change of period on a sound queue.

@@ -16,7 +16,8 @@ use Rattle.arbitration.specs.declared.Candidate.{Candidate}
 use Rattle.demands.specs.declared.PassOption.{PassOption}
 use Rattle.demands.specs.declared.PassOption.the-variants as pass
 use Rattle.demands.specs.declared.Gathered.{Gathered}
-use Rattle.demands.specs.Demands.{demandOf, either, joined, addDemand, comparePasses, lesserPass, onPass, lowestPass, gathered}
+use Rattle.demands.specs.Demands.{demandOf, either, joined, addDemand, comparePasses, lesserPass, onPass, lowestPass}
+use Rattle.demands.specs.Demands.{gathered}
 use Rattle.sound_selection.specs.Within.{AtMost, less, same, Implies, passParts, PassWithin, Within, alone}
 
 pub at-most-trans : {a b c : List ℕ} → AtMost a b → AtMost b c → AtMost a c
@@ -36,7 +37,8 @@ at-most-both (less e) (same f) = sym f
 at-most-both (same e) q = e
 
 -- By how two compare.
-pub compared : {A : Type 0} (a b : List ℕ) → (compareParts a b ≡ Less → A) → (a ≡ b → A) → (compareParts b a ≡ Less → A) → A
+pub compared : {A : Type 0} (a b : List ℕ) → (compareParts a b ≡ Less → A) → (a ≡ b → A)
+    → (compareParts b a ≡ Less → A) → A
 unfolding flipped
 compared {A} a b f g h = go (compareParts a b) refl
   where
@@ -51,14 +53,16 @@ module _ (old new : Wide) where
   unfolding lesserPass
   lesser-is o e = rw e
 
-  lesser-by : (P : Wide → Type 0) → (AtMost (passParts new) (passParts old) → P new) → (AtMost (passParts old) (passParts new) → P old) → P (lesserPass old new)
+  lesser-by : (P : Wide → Type 0) → (AtMost (passParts new) (passParts old) → P new)
+      → (AtMost (passParts old) (passParts new) → P old) → P (lesserPass old new)
   unfolding comparePasses onOrdering flipped
   lesser-by P f g = go (comparePasses new old) refl
     where
       go : (o : Ordering) → comparePasses new old ≡ o → P (lesserPass old new)
       go Less e = subst P (sym (lesser-is Less e)) (f (less e))
       go Equal e = subst P (sym (lesser-is Equal e)) (g (same (sym (equal-only (passParts new) (passParts old) e))))
-      go Greater e = subst P (sym (lesser-is Greater e)) (g (less (turned-about (passParts new) (passParts old) ∙ ap flipped e)))
+      go Greater e =
+          subst P (sym (lesser-is Greater e)) (g (less (turned-about (passParts new) (passParts old) ∙ ap flipped e)))
 
   lesser-old : AtMost (passParts (lesserPass old new)) (passParts old)
   lesser-old = lesser-by (λ p. AtMost (passParts p) (passParts old)) (λ h. h) (λ h. same refl)
@@ -66,7 +70,8 @@ module _ (old new : Wide) where
   lesser-new : AtMost (passParts (lesserPass old new)) (passParts new)
   lesser-new = lesser-by (λ p. AtMost (passParts p) (passParts new)) (λ h. same refl) (λ h. h)
 
-  lesser-most : (b : Wide) → AtMost (passParts b) (passParts old) → AtMost (passParts b) (passParts new) → AtMost (passParts b) (passParts (lesserPass old new))
+  lesser-most : (b : Wide) → AtMost (passParts b) (passParts old) → AtMost (passParts b) (passParts new)
+      → AtMost (passParts b) (passParts (lesserPass old new))
   lesser-most b p q = lesser-by (λ x. AtMost (passParts b) (passParts x)) (λ h. q) (λ h. p)
 
 pub pass-refl : (x : PassOption) → PassWithin x x
@@ -112,7 +117,8 @@ module _ (new : Wide) where
   pass-new policy.Budget l = tt
   pass-new policy.Idle l = tt
 
-  pass-most : (p : SchedulingPolicy) (l z : PassOption) → PassWithin l z → PassWithin (with-one p pass.None) z → PassWithin (with-one p l) z
+  pass-most : (p : SchedulingPolicy) (l z : PassOption) → PassWithin l z → PassWithin (with-one p pass.None) z
+      → PassWithin (with-one p l) z
   unfolding onPolicy onPass given
   pass-most (policy.Fifo a) l z f g = f
   pass-most policy.Fair pass.None z f g = g
@@ -141,7 +147,15 @@ bool-both false true f g = g refl
 bool-both false false f g = refl
 
 pub within-refl : (a : Gathered) → Within a a
-within-refl a = record { protected = λ e. e; fair = λ e. e; sensitive = λ e. e; eligible = λ e. e; any = λ e. e; lowest = pass-refl (a .«fair_min_pass») }
+within-refl a =
+    record {
+      protected = λ e. e;
+      fair = λ e. e;
+      sensitive = λ e. e;
+      eligible = λ e. e;
+      any = λ e. e;
+      lowest = pass-refl (a .«fair_min_pass»);
+    }
 
 pub within-trans : {a b c : Gathered} → Within a b → Within b c → Within a c
 within-trans {a} {b} {c} p q = record {
@@ -162,7 +176,16 @@ within-both a b p q =
     let u = bool-both (a .demand .«eligible_budget») (b .demand .«eligible_budget») (p .eligible) (q .eligible) in
     let v = bool-both (a .demand .«any_budget») (b .demand .«any_budget») (p .any) (q .any) in
     let w = pass-both (a .«fair_min_pass») (b .«fair_min_pass») (p .lowest) (q .lowest) in
-    λ i. record { demand = record { protected = x i; fair = y i; «window_sensitive» = z i; «eligible_budget» = u i; «any_budget» = v i }; «fair_min_pass» = w i }
+    λ i. record {
+      demand = record {
+        protected = x i;
+        fair = y i;
+        «window_sensitive» = z i;
+        «eligible_budget» = u i;
+        «any_budget» = v i;
+      };
+      «fair_min_pass» = w i;
+    }
 
 -- One candidate more.
 module _ (g : Gathered) (c : Candidate) where
@@ -194,10 +217,17 @@ module _ (g : Gathered) (c : Candidate) where
   pub gathered-most : (z : Gathered) → Within g z → Within (alone c) z → Within (gathered g c) z
   unfolding gathered given addDemand joined either choose lowestPass
   gathered-most z p q = record {
-    protected = either-of (g .demand .protected) (demandOf c .protected) (z .demand .protected) (p .protected) (q .protected);
+    protected =
+        either-of (g .demand .protected) (demandOf c .protected) (z .demand .protected) (p .protected) (q .protected);
     fair = either-of (g .demand .fair) (demandOf c .fair) (z .demand .fair) (p .fair) (q .fair);
-    sensitive = either-of (g .demand .«window_sensitive») (demandOf c .«window_sensitive») (z .demand .«window_sensitive») (p .sensitive) (q .sensitive);
-    eligible = either-of (g .demand .«eligible_budget») (demandOf c .«eligible_budget») (z .demand .«eligible_budget») (p .eligible) (q .eligible);
+    sensitive =
+        either-of (g .demand .«window_sensitive») (demandOf c .«window_sensitive») (z .demand .«window_sensitive»)
+        (p .sensitive) (q .sensitive);
+    eligible =
+        either-of (g .demand .«eligible_budget») (demandOf c .«eligible_budget») (z .demand .«eligible_budget»)
+        (p .eligible) (q .eligible);
     any = either-of (g .demand .«any_budget») (demandOf c .«any_budget») (z .demand .«any_budget») (p .any) (q .any);
-    lowest = pass-most (c .«fair_pass») (c .parameters .policy) (g .«fair_min_pass») (z .«fair_min_pass») (p .lowest) (q .lowest);
+    lowest =
+        pass-most (c .«fair_pass») (c .parameters .policy) (g .«fair_min_pass») (z .«fair_min_pass») (p .lowest)
+        (q .lowest);
   }

@@ -42,9 +42,11 @@ use crate::windows::compared;
 use crate::windows::window;
 use crate::words::queue_word;
 use crate::words::word;
+use codec::Row;
+use lent_queue::QueueRows;
 
 // What is done on the table and the scratch.
-fn tabled(t: &mut [[u64; 32]], n: usize, letter: u64, a: [u64; 6]) -> u64 {
+fn tabled(t: &mut [Row], n: usize, letter: u64, a: [u64; 6]) -> u64 {
     match letter {
         PREPARE | ACCOUNT | FINISH | CHOOSE | DEADLINE => runtime(t, n, letter, a),
         REFRESH | CHARGE | END | RUNTIME => leaf(t, letter, a),
@@ -58,7 +60,7 @@ fn tabled(t: &mut [[u64; 32]], n: usize, letter: u64, a: [u64; 6]) -> u64 {
     }
 }
 
-fn among(q: &mut [[u64; 5]; 270], t: &mut [[u64; 32]], n: usize, letter: u64, a: [u64; 6]) -> u64 {
+fn among(q: &mut QueueRows, t: &mut [Row], n: usize, letter: u64, a: [u64; 6]) -> u64 {
     if t.len() < n {
         return NONE;
     }
@@ -66,13 +68,7 @@ fn among(q: &mut [[u64; 5]; 270], t: &mut [[u64; 32]], n: usize, letter: u64, a:
 }
 
 // The answer of a step on the first n records.
-pub fn called(
-    q: &mut [[u64; 5]; 270],
-    t: &mut [[u64; 32]],
-    n: usize,
-    letter: u64,
-    a: [u64; 6],
-) -> u64 {
+pub fn called(q: &mut QueueRows, t: &mut [Row], n: usize, letter: u64, a: [u64; 6]) -> u64 {
     match letter {
         ENQUEUE | FRONT | REMOVE => among(q, t, n, letter, a),
         SELECT | LOWEST | PEEK => selected(q, t, n, letter, a),

@@ -7,6 +7,7 @@ use crate::places::DUE;
 use crate::places::row_at;
 use crate::places::set_two;
 use crate::places::store;
+use codec::Row;
 use record_entries::budget_parameters_new;
 use record_entries::runtime_account;
 use record_entries::runtime_epoch_refresh;
@@ -19,7 +20,7 @@ pub fn budget(a: [u64; 6]) -> u64 {
     budget_parameters_new(a[0], a[1], a[2], &mut answer)
 }
 
-pub fn expiry(t: &mut [[u64; 32]], a: [u64; 6]) -> u64 {
+pub fn expiry(t: &mut [Row], a: [u64; 6]) -> u64 {
     let mut after = [0u64; 5];
     let mut due = [0u64; 2];
     let row = row_at(t, places::record(a[0]));
@@ -28,7 +29,7 @@ pub fn expiry(t: &mut [[u64; 32]], a: [u64; 6]) -> u64 {
     n
 }
 
-fn changed(row: &[u64; 32], after: &mut [u64; 5], letter: u64, a: [u64; 6]) -> u64 {
+fn changed(row: &Row, after: &mut [u64; 5], letter: u64, a: [u64; 6]) -> u64 {
     if letter == REFRESH {
         return runtime_epoch_refresh(row, a[1], after);
     }
@@ -42,7 +43,7 @@ fn changed(row: &[u64; 32], after: &mut [u64; 5], letter: u64, a: [u64; 6]) -> u
 }
 
 // The words of a record's runtime.
-fn set_runtime(t: &mut [[u64; 32]], at: usize, words: [u64; 5]) {
+fn set_runtime(t: &mut [Row], at: usize, words: [u64; 5]) {
     let mut k: usize = 0;
     while k < 5 {
         store(t, at, 11 + k, words[k]);
@@ -51,7 +52,7 @@ fn set_runtime(t: &mut [[u64; 32]], at: usize, words: [u64; 5]) {
 }
 
 // The runtime's words alone change; a refusal leaves them.
-pub fn leaf(t: &mut [[u64; 32]], letter: u64, a: [u64; 6]) -> u64 {
+pub fn leaf(t: &mut [Row], letter: u64, a: [u64; 6]) -> u64 {
     let at = places::record(a[0]);
     let row = row_at(t, at);
     let mut after = [row[11], row[12], row[13], row[14], row[15]];

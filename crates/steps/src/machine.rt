@@ -1,6 +1,8 @@
-// The cases of the text. Each starts with its label, on a new queue, nine records and a window; its steps are calls with the answer that document 01 or the Rust gives, words that are
-// overwritten, and words that must then stand there. A malformed line counts as a difference.
-ghost use Prim.Native.Nat.{_+_, _<_, _≤_};
+// The cases of the text. Each starts with its label, on a new queue, nine records and a window; its steps are calls
+// with
+// the answer that document 01 or the Rust gives, words that are overwritten, and words that must then stand there. A
+// malformed line counts as a difference.
+ghost use Prim.Native.Nat.{_+_, _≤_};
 ghost use lib.ListN.{length};
 use crate::calls::called;
 use crate::letters::SIZE;
@@ -15,13 +17,15 @@ use crate::reading::COUNT;
 use crate::reading::FIRST;
 use crate::reading::LETTER;
 use crate::reading::parsed;
-use crate::reading::wide;
 use crate::report::more;
 use crate::report::number;
-use crate::report::text;
+use crate::report::tell;
 use board::board_new;
+use codec::Row;
+use lent_queue::QueueRows;
 
-// The nine records that a case starts with stand here in the table; the rows behind them, up to 4,096, clear as many after the nine.
+// The nine records that a case starts with stand here in the table; the rows behind them, up to 4,096, clear as many
+// after the nine.
 const KEPT: usize = 4000;
 
 const NEW_LINE: u8 = 10;
@@ -30,7 +34,8 @@ const NUMBER_SIGN: u64 = 35;
 
 const EQUALS: u64 = 61;
 
-// What a line brings: whether its answer differs from what is said, and the number that a call answered, 12 where it is none.
+// What a line brings: whether its answer differs from what is said, and the number that a call answered, 12 where it
+// is none.
 struct Event {
     differs: bool,
     number: u64,
@@ -44,7 +49,7 @@ impl Event {
 }
 
 // What the step says: its last number.
-fn said(s: [u64; 13]) -> u64 {
+fn said(s: [u64; 11]) -> u64 {
     let count = s[COUNT];
     if count == 0 {
         return 0;
@@ -56,7 +61,7 @@ fn said(s: [u64; 13]) -> u64 {
     s[FIRST + at - 1]
 }
 
-fn is_malformed(s: [u64; 13]) -> bool {
+fn is_malformed(s: [u64; 11]) -> bool {
     if s[BAD] != 0 {
         return true;
     }
@@ -66,18 +71,18 @@ fn is_malformed(s: [u64; 13]) -> bool {
     s[COUNT] != arity(s[LETTER])
 }
 
-fn numbers(s: [u64; 13]) -> [u64; 6] {
-    [s[5], s[6], s[7], s[8], s[9], s[10]]
+fn numbers(s: [u64; 11]) -> [u64; 6] {
+    [s[3], s[4], s[5], s[6], s[7], s[8]]
 }
 
 fn show(got: u64, wanted: u64, silent: bool) {
     if silent {
-        text(b", a word is");
+        tell(b", a word is");
     }
-    text(b" ");
+    tell(b" ");
     number(got);
     if got != wanted {
-        text(b", but what is said is ");
+        tell(b", but what is said is ");
         number(wanted);
     }
 }
@@ -90,14 +95,15 @@ fn answered(letter: u64, got: u64) -> u64 {
     12
 }
 
-// Every answer is shown, of words and where nothing is to be shown only those that differ, there on a line of their own.
+// Every answer is shown, of words and where nothing is to be shown only those that differ, there on a line of their
+// own.
 fn judge(letter: u64, got: u64, wanted: u64, shown: bool) -> Event {
     let silent = is_silent(letter);
     let differs = got != wanted;
     if differs {
         show(got, wanted, silent);
         if !shown {
-            text(b"\n");
+            tell(b"\n");
         }
     } else if shown {
         if !silent {
@@ -111,7 +117,7 @@ fn judge(letter: u64, got: u64, wanted: u64, shown: bool) -> Event {
 }
 
 // A step on as many records as the case has.
-fn step(q: &mut [[u64; 5]; 270], t: &mut [[u64; 32]], s: [u64; 13], shown: bool) -> Event {
+fn step(q: &mut QueueRows, t: &mut [Row], s: [u64; 11], shown: bool) -> Event {
     let letter = s[LETTER];
     if letter == SIZE {
         set_records(t, s[FIRST]);
@@ -122,7 +128,7 @@ fn step(q: &mut [[u64; 5]; 270], t: &mut [[u64; 32]], s: [u64; 13], shown: bool)
     judge(letter, got, said(s), shown)
 }
 
-fn restore(t: &mut [[u64; 32]]) {
+fn restore(t: &mut [Row]) {
     if t.len() < 4097 {
         return;
     }
@@ -134,7 +140,7 @@ fn restore(t: &mut [[u64; 32]]) {
 }
 
 // Period 10, allowance 2, floor 3, ranks 0 to 3; no epoch yet.
-fn new_case(q: &mut [[u64; 5]; 270], t: &mut [[u64; 32]]) {
+fn new_case(q: &mut QueueRows, t: &mut [Row]) {
     board_new(q);
     restore(t);
     set_window(t, &[10, 2, 3, 0, 1, 2, 3, 0, 0, 0, 2, 3]);
@@ -143,14 +149,14 @@ fn new_case(q: &mut [[u64; 5]; 270], t: &mut [[u64; 32]]) {
 
 // The label without its sign.
 fn show_label(line: &[u8]) {
-    text(b"\n");
+    tell(b"\n");
     if 0 < line.len() {
-        text(&line[1..]);
+        tell(&line[1..]);
     }
-    text(b":");
+    tell(b":");
 }
 
-fn case(q: &mut [[u64; 5]; 270], t: &mut [[u64; 32]], line: &[u8], shown: bool) -> Event {
+fn case(q: &mut QueueRows, t: &mut [Row], line: &[u8], shown: bool) -> Event {
     new_case(q, t);
     if shown {
         show_label(line);
@@ -159,51 +165,39 @@ fn case(q: &mut [[u64; 5]; 270], t: &mut [[u64; 32]], line: &[u8], shown: bool) 
 }
 
 fn malformed() -> Event {
-    text(b", a malformed line");
+    tell(b", a malformed line");
     Event {
         differs: true,
         number: 12,
     }
 }
 
-fn parsed_step(q: &mut [[u64; 5]; 270], t: &mut [[u64; 32]], s: [u64; 13], shown: bool) -> Event {
+fn parsed_step(q: &mut QueueRows, t: &mut [Row], s: [u64; 11], shown: bool) -> Event {
     if is_malformed(s) {
         return malformed();
     }
     step(q, t, s, shown)
 }
 
+fn letter(byte: u8) -> u64 {
+    byte as u64
+}
+
 // The first byte of a line, 0 where it has none.
 fn first(line: &[u8]) -> u64 {
     if 0 < line.len() {
-        return wide(line[0]);
+        return letter(line[0]);
     }
     0
 }
 
-fn line(q: &mut [[u64; 5]; 270], t: &mut [[u64; 32]], line: &[u8], shown: bool) -> Event {
+fn line(q: &mut QueueRows, t: &mut [Row], line: &[u8], shown: bool) -> Event {
     let byte = first(line);
     match byte {
         0 | NUMBER_SIGN => Event::NOTHING,
         EQUALS => case(q, t, line, shown),
         _ => parsed_step(q, t, parsed(line, byte), shown),
     }
-}
-
-// Where the line that begins here ends.
-fn line_end(words: &[u8], from: usize) -> usize
-    requires { ⌜ from < length (now words) ⌝ }
-    ensures { λ r. ⌜ from ≤ r ⌝ }
-    ensures { λ r. ⌜ r ≤ length (now (words .entry)) ⌝ }
-{
-    let mut i = from;
-    while i < words.len() {
-        if words[i] == NEW_LINE {
-            return i;
-        }
-        i += 1;
-    }
-    i
 }
 
 // At most one more.
@@ -231,7 +225,7 @@ pub fn run(words: &[u8], shown: bool, counts: &mut [u64; 12]) -> u64
     let mut differs: u64 = 0;
     let mut i: usize = 0;
     while i < words.len() {
-        let end = line_end(words, i);
+        let end = text::end_of(words, i, NEW_LINE);
         let event = line(&mut q, &mut t, &words[i..end], shown);
         differs = with(differs, event);
         count(counts, event.number);

@@ -1,6 +1,8 @@
-// Where things stand in the one array of rows: the table, then the scratch, then the number of records. A place that does not exist reads as zeros and takes nothing.
+// Where things stand in the one array of rows: the table, then the scratch, then the number of records. A place that
+// does not exist reads as zeros and takes nothing.
 ghost use mathlib.Core.Path.{_≡_};
 ghost use lib.ListN.{length};
+use codec::Row;
 
 // The table's rows are 0 to 4,096, one more than a call takes.
 const MOST: usize = 4097;
@@ -27,7 +29,7 @@ const COUNT: usize = 4105;
 // Beyond every row.
 const NOWHERE: usize = 4106;
 
-pub fn row_at(t: &[[u64; 32]], at: usize) -> [u64; 32] {
+pub fn row_at(t: &[Row], at: usize) -> Row {
     if at < t.len() {
         return t[at];
     }
@@ -35,7 +37,7 @@ pub fn row_at(t: &[[u64; 32]], at: usize) -> [u64; 32] {
 }
 
 // What then stands there.
-pub fn store(t: &mut [[u64; 32]], at: usize, k: usize, word: u64) -> u64 {
+pub fn store(t: &mut [Row], at: usize, k: usize, word: u64) -> u64 {
     if t.len() <= at {
         return 0;
     }
@@ -47,19 +49,19 @@ pub fn store(t: &mut [[u64; 32]], at: usize, k: usize, word: u64) -> u64 {
 }
 
 // The first words of a row. Each contract gives only the length, which lending the words needs.
-pub fn two(row: [u64; 32]) -> [u64; 2]
+pub fn two(row: Row) -> [u64; 2]
     ensures { λ r. ⌜ 2 ≡ length r ⌝ }
 {
     [row[0], row[1]]
 }
 
-pub fn five(row: [u64; 32]) -> [u64; 5]
+pub fn five(row: Row) -> [u64; 5]
     ensures { λ r. ⌜ 5 ≡ length r ⌝ }
 {
     [row[0], row[1], row[2], row[3], row[4]]
 }
 
-pub fn nine(row: [u64; 32]) -> [u64; 9]
+pub fn nine(row: Row) -> [u64; 9]
     ensures { λ r. ⌜ 9 ≡ length r ⌝ }
 {
     [
@@ -75,7 +77,7 @@ pub fn nine(row: [u64; 32]) -> [u64; 9]
     ]
 }
 
-pub fn twelve(row: [u64; 32]) -> [u64; 12]
+pub fn twelve(row: Row) -> [u64; 12]
     ensures { λ r. ⌜ 12 ≡ length r ⌝ }
 {
     [
@@ -95,7 +97,7 @@ pub fn twelve(row: [u64; 32]) -> [u64; 12]
 }
 
 // These words become the first of a row.
-fn put(t: &mut [[u64; 32]], at: usize, words: &[u64]) {
+fn put(t: &mut [Row], at: usize, words: &[u64]) {
     let mut k: usize = 0;
     while k < words.len() {
         store(t, at, k, words[k]);
@@ -103,19 +105,19 @@ fn put(t: &mut [[u64; 32]], at: usize, words: &[u64]) {
     }
 }
 
-pub fn set_two(t: &mut [[u64; 32]], at: usize, words: &[u64; 2]) {
+pub fn set_two(t: &mut [Row], at: usize, words: &[u64; 2]) {
     put(t, at, words);
 }
 
-pub fn set_nine(t: &mut [[u64; 32]], at: usize, words: &[u64; 9]) {
+pub fn set_nine(t: &mut [Row], at: usize, words: &[u64; 9]) {
     put(t, at, words);
 }
 
-pub fn set_window(t: &mut [[u64; 32]], words: &[u64; 12]) {
+pub fn set_window(t: &mut [Row], words: &[u64; 12]) {
     put(t, WINDOW, words);
 }
 
-pub fn set_selection(t: &mut [[u64; 32]], words: &[u64; 19]) {
+pub fn set_selection(t: &mut [Row], words: &[u64; 19]) {
     put(t, SELECTION, words);
 }
 
@@ -133,12 +135,12 @@ pub fn scratch(i: u64) -> usize {
     NOWHERE
 }
 
-pub fn set_records(t: &mut [[u64; 32]], n: u64) {
+pub fn set_records(t: &mut [Row], n: u64) {
     store(t, COUNT, 0, n);
 }
 
 // How many records the case has.
-pub fn records(t: &[[u64; 32]]) -> usize {
+pub fn records(t: &[Row]) -> usize {
     let row = row_at(t, COUNT);
     if row[0] < 4097 {
         return row[0] as usize;

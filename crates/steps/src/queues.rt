@@ -16,8 +16,10 @@ use board::board_enqueue;
 use board::board_enqueue_front;
 use board::board_remove;
 use board::board_select;
+use codec::Row;
+use lent_queue::QueueRows;
 
-pub fn moved(q: &mut [[u64; 5]; 270], t: &mut [[u64; 32]], letter: u64, id: u64, cpu: u8) -> u64 {
+pub fn moved(q: &mut QueueRows, t: &mut [Row], letter: u64, id: u64, cpu: u8) -> u64 {
     let mut path = [[0u64; 2]; 40];
     if letter == ENQUEUE {
         return board_enqueue(q, t, &mut path, id, cpu);
@@ -29,7 +31,7 @@ pub fn moved(q: &mut [[u64; 5]; 270], t: &mut [[u64; 32]], letter: u64, id: u64,
 }
 
 // A selection on the window; what it answers stays in the scratch.
-fn peeked(q: &mut [[u64; 5]; 270], t: &mut [[u64; 32]], n: usize, a: [u64; 6], cpu: u8) -> u64 {
+fn peeked(q: &mut QueueRows, t: &mut [Row], n: usize, a: [u64; 6], cpu: u8) -> u64 {
     let mut path = [[0u64; 2]; 40];
     let mut answer = [0u64; 19];
     let mut w = twelve(row_at(t, WINDOW));
@@ -56,7 +58,7 @@ fn peeked(q: &mut [[u64; 5]; 270], t: &mut [[u64; 32]], n: usize, a: [u64; 6], c
 }
 
 // Whom a selection names, or the low word of the lowest fair pass: no pass here has a high one.
-fn seen(row: [u64; 32], letter: u64) -> u64 {
+fn seen(row: Row, letter: u64) -> u64 {
     if letter == SELECT {
         if row[0] == 0 {
             return NONE;
@@ -77,13 +79,7 @@ fn processor(letter: u64, a: [u64; 6]) -> u8 {
     0
 }
 
-pub fn selected(
-    q: &mut [[u64; 5]; 270],
-    t: &mut [[u64; 32]],
-    n: usize,
-    letter: u64,
-    a: [u64; 6],
-) -> u64 {
+pub fn selected(q: &mut QueueRows, t: &mut [Row], n: usize, letter: u64, a: [u64; 6]) -> u64 {
     let number = peeked(q, t, n, a, processor(letter, a));
     if letter == PEEK {
         return number;

@@ -3,7 +3,8 @@ ghost use Prim.Native.Nat.{_+_, _≤_};
 
 const STDOUT: i32 = 1;
 
-// What an answer is where there is nothing: above every number of a thread, and below the numbers of refusals beside it.
+// What an answer is where there is nothing: above every number of a thread, and below the numbers of refusals beside
+// it.
 pub const NONE: u64 = 1_000_000_000_000;
 
 const MOST: u64 = 18_446_744_073_709_551_615;
@@ -18,7 +19,7 @@ pub fn more(n: u64) -> u64
     n + 1
 }
 
-pub fn text(words: &[u8]) {
+pub fn tell(words: &[u8]) {
     io::write_all(STDOUT, words);
 }
 

@@ -1,4 +1,5 @@
-// Calls of state/runtime.rs on the table, with the refusal's number for an answer. The scratch has the turn counters, a demand, two keys and the deadline.
+// Calls of state/runtime.rs on the table, with the refusal's number for an answer. The scratch has the turn counters,
+// a demand, two keys and the deadline.
 use crate::letters::ACCOUNT;
 use crate::letters::CHOOSE;
 use crate::letters::FINISH;
@@ -24,8 +25,9 @@ use board::board_deadline;
 use board::board_finish;
 use board::board_prepare;
 use board::board_switch;
+use codec::Row;
 
-fn prepare(t: &mut [[u64; 32]], n: usize, a: [u64; 6]) -> u64 {
+fn prepare(t: &mut [Row], n: usize, a: [u64; 6]) -> u64 {
     let mut turns = two(row_at(t, TURNS));
     if t.len() < n {
         return NONE;
@@ -35,7 +37,7 @@ fn prepare(t: &mut [[u64; 32]], n: usize, a: [u64; 6]) -> u64 {
     number
 }
 
-fn account(t: &mut [[u64; 32]], n: usize, a: [u64; 6]) -> u64 {
+fn account(t: &mut [Row], n: usize, a: [u64; 6]) -> u64 {
     let mut w = twelve(row_at(t, WINDOW));
     if t.len() < n {
         return NONE;
@@ -45,7 +47,7 @@ fn account(t: &mut [[u64; 32]], n: usize, a: [u64; 6]) -> u64 {
     number
 }
 
-fn finish(t: &mut [[u64; 32]], n: usize, id: u64) -> u64 {
+fn finish(t: &mut [Row], n: usize, id: u64) -> u64 {
     if t.len() < n {
         return NONE;
     }
@@ -66,7 +68,7 @@ fn chosen(number: u64, choice: [u64; 2]) -> u64 {
     3
 }
 
-fn choose(t: &[[u64; 32]], a: [u64; 6]) -> u64 {
+fn choose(t: &[Row], a: [u64; 6]) -> u64 {
     let ready = nine(row_at(t, READY));
     let key = nine(row_at(t, KEY));
     let row = row_at(t, places::record(a[0]));
@@ -75,7 +77,7 @@ fn choose(t: &[[u64; 32]], a: [u64; 6]) -> u64 {
     chosen(number, choice)
 }
 
-fn deadline(t: &mut [[u64; 32]], n: usize, a: [u64; 6]) -> u64 {
+fn deadline(t: &mut [Row], n: usize, a: [u64; 6]) -> u64 {
     let mut due = two(row_at(t, DUE));
     let key = nine(row_at(t, KEY));
     let demand = five(row_at(t, DEMAND));
@@ -100,7 +102,7 @@ fn deadline(t: &mut [[u64; 32]], n: usize, a: [u64; 6]) -> u64 {
     number
 }
 
-pub fn runtime(t: &mut [[u64; 32]], n: usize, letter: u64, a: [u64; 6]) -> u64 {
+pub fn runtime(t: &mut [Row], n: usize, letter: u64, a: [u64; 6]) -> u64 {
     match letter {
         PREPARE => prepare(t, n, a),
         ACCOUNT => account(t, n, a),

@@ -2,6 +2,8 @@
 use crate::places::CURRENT;
 use crate::places::WINDOW;
 use crate::places::row_at;
+use codec::Row;
+use lent_queue::QueueRows;
 
 const PRIME: u64 = 2_147_483_647;
 
@@ -22,7 +24,7 @@ fn with_words(sum: u64, words: &[u64]) -> u64 {
 }
 
 // The rows from one place up to another.
-fn with_rows(sum: u64, t: &[[u64; 32]], from: usize, to: usize) -> u64 {
+fn with_rows(sum: u64, t: &[Row], from: usize, to: usize) -> u64 {
     let mut s = sum;
     let mut i = from;
     while i < to {
@@ -37,7 +39,7 @@ fn with_five(sum: u64, words: &[u64; 5]) -> u64 {
     with_words(sum, words)
 }
 
-fn with_queue(sum: u64, q: &[[u64; 5]; 270]) -> u64 {
+fn with_queue(sum: u64, q: &QueueRows) -> u64 {
     let mut s = sum;
     let mut i: usize = 0;
     while i < 270 {
@@ -49,7 +51,7 @@ fn with_queue(sum: u64, q: &[[u64; 5]; 270]) -> u64 {
 }
 
 // The records that the case has, the scratch with the window, then the queue.
-pub fn sum(q: &[[u64; 5]; 270], t: &[[u64; 32]], n: usize) -> u64 {
+pub fn sum(q: &QueueRows, t: &[Row], n: usize) -> u64 {
     let records = with_rows(0, t, 0, n);
     let rows = with_rows(records, t, CURRENT, WINDOW + 1);
     with_queue(rows, q)

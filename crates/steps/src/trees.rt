@@ -2,6 +2,7 @@
 use crate::letters::CONTAINS;
 use crate::letters::INSERT;
 use crate::report::NONE;
+use codec::Row;
 use ready_index::Contained;
 use ready_index::Least;
 use ready_index::Rooted;
@@ -49,7 +50,7 @@ fn root(given: u64, n: u64) -> Link {
     Link::Some(n)
 }
 
-fn called(t: &mut [[u64; 32]], letter: u64, a: [u64; 6]) -> u64 {
+fn called(t: &mut [Row], letter: u64, a: [u64; 6]) -> u64 {
     let mut path = [[0u64; 2]; 40];
     match letter {
         INSERT => rooted(insert(t, &mut path, Link::Some(a[0]), a[1])),
@@ -58,7 +59,7 @@ fn called(t: &mut [[u64; 32]], letter: u64, a: [u64; 6]) -> u64 {
     }
 }
 
-pub fn tree(t: &mut [[u64; 32]], n: usize, letter: u64, a: [u64; 6]) -> u64 {
+pub fn tree(t: &mut [Row], n: usize, letter: u64, a: [u64; 6]) -> u64 {
     if t.len() < n {
         return NONE;
     }

@@ -1,14 +1,11 @@
 // A queue by value takes two FIFO threads: the form that document 01 names, run here.
-use queue::CpuRunQueue;
+use codec::Row;
+use ready_index::Path;
+use run_queue::CpuRunQueue;
 use thread::CpuIndex;
 use thread::ThreadId;
 
-fn enqueued(
-    queue: CpuRunQueue,
-    t: &mut [[u64; 32]],
-    path: &mut [[u64; 2]; 40],
-    id: u64,
-) -> CpuRunQueue {
+fn enqueued(queue: CpuRunQueue, t: &mut [Row], path: &mut Path, id: u64) -> CpuRunQueue {
     let step = queue.enqueue(t, path, ThreadId(id), CpuIndex(0));
     step.queue
 }

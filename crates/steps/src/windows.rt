@@ -1,4 +1,5 @@
-// Calls on the window, with the refusal's number for an answer. The scratch has the running thread as a candidate, a demand, two keys and the deadline.
+// Calls on the window, with the refusal's number for an answer. The scratch has the running thread as a candidate, a
+// demand, two keys and the deadline.
 use crate::letters::CONFIG;
 use crate::letters::PROTECTION;
 use crate::places;
@@ -16,19 +17,20 @@ use crate::places::set_two;
 use crate::places::set_window;
 use crate::places::twelve;
 use board::board_key;
+use codec::Row;
 use window_entries::config_new;
 use window_entries::dispatch_keys_compare;
 use window_entries::window_account_dispatch;
 use window_entries::window_protection_deadline;
 
-fn protection(t: &mut [[u64; 32]], w: &mut [u64; 12], a: [u64; 6]) -> u64 {
+fn protection(t: &mut [Row], w: &mut [u64; 12], a: [u64; 6]) -> u64 {
     let mut due = [0u64; 2];
     let number = window_protection_deadline(w, a[0], a[1] != 0, &mut due);
     set_two(t, DUE, &due);
     number
 }
 
-fn key(t: &mut [[u64; 32]], w: &mut [u64; 12], reading: u64) -> u64 {
+fn key(t: &mut [Row], w: &mut [u64; 12], reading: u64) -> u64 {
     let mut answer = nine(row_at(t, KEY));
     let demand = five(row_at(t, DEMAND));
     let candidate = row_at(t, CURRENT);
@@ -37,12 +39,12 @@ fn key(t: &mut [[u64; 32]], w: &mut [u64; 12], reading: u64) -> u64 {
     number
 }
 
-fn interval(t: &[[u64; 32]], w: &mut [u64; 12], a: [u64; 6]) -> u64 {
+fn interval(t: &[Row], w: &mut [u64; 12], a: [u64; 6]) -> u64 {
     let row = row_at(t, places::record(a[0]));
     window_account_dispatch(w, a[2], a[3], &row, a[1])
 }
 
-fn changed(t: &mut [[u64; 32]], w: &mut [u64; 12], letter: u64, a: [u64; 6]) -> u64 {
+fn changed(t: &mut [Row], w: &mut [u64; 12], letter: u64, a: [u64; 6]) -> u64 {
     match letter {
         CONFIG => config_new(w),
         PROTECTION => protection(t, w, a),
@@ -51,7 +53,7 @@ fn changed(t: &mut [[u64; 32]], w: &mut [u64; 12], letter: u64, a: [u64; 6]) -> 
     }
 }
 
-pub fn window(t: &mut [[u64; 32]], letter: u64, a: [u64; 6]) -> u64 {
+pub fn window(t: &mut [Row], letter: u64, a: [u64; 6]) -> u64 {
     let mut w = twelve(row_at(t, WINDOW));
     let number = changed(t, &mut w, letter, a);
     set_window(t, &w);
@@ -59,7 +61,7 @@ pub fn window(t: &mut [[u64; 32]], letter: u64, a: [u64; 6]) -> u64 {
 }
 
 // The two keys of the scratch compared.
-pub fn compared(t: &[[u64; 32]]) -> u64 {
+pub fn compared(t: &[Row]) -> u64 {
     let key = nine(row_at(t, KEY));
     let ready = nine(row_at(t, READY));
     dispatch_keys_compare(&key, &ready)

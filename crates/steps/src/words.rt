@@ -1,4 +1,5 @@
-// Words of the queue, the table, the window and the scratch, read and overwritten. A place that does not exist reads as 0 and takes nothing.
+// Words of the queue, the table, the window and the scratch, read and overwritten. A place that does not exist reads
+// as 0 and takes nothing.
 use crate::letters::SCRATCH;
 use crate::letters::SET_RECORD;
 use crate::letters::SET_SCRATCH;
@@ -8,8 +9,10 @@ use crate::letters::SHOW_WINDOW;
 use crate::places;
 use crate::places::row_at;
 use crate::places::store;
+use codec::Row;
+use lent_queue::QueueRows;
 
-pub fn queue_word(q: &mut [[u64; 5]; 270], stores: bool, i: u64, k: u64, word: u64) -> u64 {
+pub fn queue_word(q: &mut QueueRows, stores: bool, i: u64, k: u64, word: u64) -> u64 {
     if 269 < i {
         return 0;
     }
@@ -39,7 +42,7 @@ fn stores(letter: u64) -> bool {
 }
 
 // The word, as it is after the step.
-pub fn word(t: &mut [[u64; 32]], letter: u64, a: [u64; 6]) -> u64 {
+pub fn word(t: &mut [Row], letter: u64, a: [u64; 6]) -> u64 {
     let at = place(letter, a);
     if 31 < at[1] {
         return 0;

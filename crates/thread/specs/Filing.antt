@@ -1,4 +1,5 @@
--- The tree that a record is filed in: "FIFO, Fair, Budget with time left and Budget exhausted, each by role". After `index_for` of scheduler/queue.rs.
+-- The tree that a record is filed in: "FIFO, Fair, Budget with time left and Budget exhausted, each by role". After
+-- `index_for` of scheduler/queue.rs.
 use Prim.Native.Nat.{ℕ, _+_}
 use mathlib.Core.Bool.{Bool, true, false}
 use Rattle.refusal.specs.Cases.{choose, given, ifEqual}

@@ -1,4 +1,5 @@
--- Document 01's BadRecord (11): "policy, budget and runtime disagree, or the budget is bad". Weight and quantum are not judged.
+-- Document 01's BadRecord (11): "policy, budget and runtime disagree, or the budget is bad". Weight and quantum are not
+-- judged.
 use mathlib.Core.Bool.{Bool, true, false, not}
 use Rattle.refusal.specs.Cases.{choose}
 use Rattle.policy.specs.declared.BudgetOption.{BudgetOption}

@@ -1,4 +1,5 @@
--- Links and memberships: empty ones, choosing by them, and which are the same. After task/thread.rs, task/wait.rs and scheduler/queue.rs.
+-- Links and memberships: empty ones, choosing by them, and which are the same. After task/thread.rs, task/wait.rs and
+-- scheduler/queue.rs.
 use Prim.Native.Nat.{ℕ}
 use mathlib.Core.Bool.{Bool, true, false}
 use Rattle.refusal.specs.Cases.{ifEqual}

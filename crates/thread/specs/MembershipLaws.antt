@@ -12,7 +12,8 @@ use Rattle.thread.specs.declared.Link.{Link}
 use Rattle.thread.specs.declared.Link.the-variants as link
 use Rattle.thread.specs.declared.QueueMembership.{QueueMembership}
 use Rattle.thread.specs.declared.QueueMembership.the-variants as membership
-use Rattle.thread.specs.Membership.{onLink, onMembership, onCpu, isNone, pointsTo, isUnqueued, isReadyRealTime, isReadyFair, isWaiting, isTerminated, sameMembership}
+use Rattle.thread.specs.Membership.{onLink, onMembership, onCpu, isNone, pointsTo, isUnqueued, isReadyRealTime}
+use Rattle.thread.specs.Membership.{isReadyFair, isWaiting, isTerminated, sameMembership}
 
 module _ {A : Type 0} {y : A} {x : Link} (a : A) (f : ℕ → A) where
   pub no-link : x ≡ link.None → y ≡ a → y ≡ onLink x a f
@@ -23,12 +24,14 @@ module _ {A : Type 0} {y : A} {x : Link} (a : A) (f : ℕ → A) where
   unfolding onLink
   some-link e h = rw e h
 
-module _ {A : Type 0} {y : A} {x : QueueMembership} (a : A) (f : CpuIndex → ℕ → A) (g : CpuIndex → A) (w : ℕ → A) (d : A) where
+module _ {A : Type 0} {y : A} {x : QueueMembership} (a : A) (f : CpuIndex → ℕ → A) (g : CpuIndex → A) (w : ℕ → A)
+    (d : A) where
   pub in-none : x ≡ membership.None → y ≡ a → y ≡ onMembership x a f g w d
   unfolding onMembership
   in-none e h = rw e h
 
-  pub in-real-time : {c : CpuIndex} {p : ℕ} → x ≡ membership.ReadyRealTime c p → y ≡ f c p → y ≡ onMembership x a f g w d
+  pub in-real-time : {c : CpuIndex} {p : ℕ} → x ≡ membership.ReadyRealTime c p → y ≡ f c p
+      → y ≡ onMembership x a f g w d
   unfolding onMembership
   in-real-time e h = rw e h
 
@@ -53,7 +56,8 @@ module _ {A : Type 0} {y : A} {r x : CpuOption} (a : A) (f : CpuIndex → A) whe
   unfolding onCpu
   some-cpu e m h = rw (sym e ∙ m) h
 
-pub ruleset memberships = (no-link, some-link, in-none, in-real-time, in-fair, in-waiting, in-terminated, no-cpu, some-cpu)
+pub ruleset memberships =
+    (no-link, some-link, in-none, in-real-time, in-fair, in-waiting, in-terminated, no-cpu, some-cpu)
 
 -- A test of two numbers that gives true says that they are equal.
 equal-true : (n m : ℕ) (a : Bool) → ifEqual n m a false ≡ true → (n ≡ m) × (a ≡ true)
@@ -93,7 +97,8 @@ is-unqueued-true membership.Terminated h = never cc
 pub same-membership-self : (m : QueueMembership) → sameMembership m m ≡ true
 unfolding sameMembership isUnqueued isReadyRealTime isReadyFair isWaiting isTerminated onMembership
 same-membership-self membership.None = refl
-same-membership-self (membership.ReadyRealTime c p) = rw (equal-self (c .0) (ifEqual p p true false) false) (equal-self p true false)
+same-membership-self (membership.ReadyRealTime c p) =
+    rw (equal-self (c .0) (ifEqual p p true false) false) (equal-self p true false)
 same-membership-self (membership.ReadyFair c) = equal-self (c .0) true false
 same-membership-self (membership.Waiting q) = equal-self q true false
 same-membership-self membership.Terminated = refl

@@ -10,19 +10,47 @@ use Rattle.thread.specs.declared.ThreadRecord.{ThreadRecord}
 
 abbrev pub withParameters : SchedulingParameters → ThreadRecord → ThreadRecord
 withParameters p r =
-    record { parameters = p; runtime = r .runtime; «ready_turn» = r .«ready_turn»; «ready_tree» = r .«ready_tree»; «queue_links» = r .«queue_links»; cpu = r .cpu }
+    record {
+      parameters = p;
+      runtime = r .runtime;
+      «ready_turn» = r .«ready_turn»;
+      «ready_tree» = r .«ready_tree»;
+      «queue_links» = r .«queue_links»;
+      cpu = r .cpu;
+    }
 
 abbrev pub withRuntime : PolicyRuntime → ThreadRecord → ThreadRecord
 withRuntime x r =
-    record { parameters = r .parameters; runtime = x; «ready_turn» = r .«ready_turn»; «ready_tree» = r .«ready_tree»; «queue_links» = r .«queue_links»; cpu = r .cpu }
+    record {
+      parameters = r .parameters;
+      runtime = x;
+      «ready_turn» = r .«ready_turn»;
+      «ready_tree» = r .«ready_tree»;
+      «queue_links» = r .«queue_links»;
+      cpu = r .cpu;
+    }
 
 abbrev pub withTurn : ℕ → ThreadRecord → ThreadRecord
 withTurn n r =
-    record { parameters = r .parameters; runtime = r .runtime; «ready_turn» = n; «ready_tree» = r .«ready_tree»; «queue_links» = r .«queue_links»; cpu = r .cpu }
+    record {
+      parameters = r .parameters;
+      runtime = r .runtime;
+      «ready_turn» = n;
+      «ready_tree» = r .«ready_tree»;
+      «queue_links» = r .«queue_links»;
+      cpu = r .cpu;
+    }
 
 abbrev pub withLinks : Links → ThreadRecord → ThreadRecord
 withLinks l r =
-    record { parameters = r .parameters; runtime = r .runtime; «ready_turn» = r .«ready_turn»; «ready_tree» = l; «queue_links» = r .«queue_links»; cpu = r .cpu }
+    record {
+      parameters = r .parameters;
+      runtime = r .runtime;
+      «ready_turn» = r .«ready_turn»;
+      «ready_tree» = l;
+      «queue_links» = r .«queue_links»;
+      cpu = r .cpu;
+    }
 
 -- One of the tree links, or the height of the tree links.
 abbrev pub withLeft : Link → ThreadRecord → ThreadRecord
@@ -36,8 +64,22 @@ withHeight n r = withLinks (record { left = r .«ready_tree» .left; right = r .
 
 abbrev pub withQueueLinks : QueueLinks → ThreadRecord → ThreadRecord
 withQueueLinks l r =
-    record { parameters = r .parameters; runtime = r .runtime; «ready_turn» = r .«ready_turn»; «ready_tree» = r .«ready_tree»; «queue_links» = l; cpu = r .cpu }
+    record {
+      parameters = r .parameters;
+      runtime = r .runtime;
+      «ready_turn» = r .«ready_turn»;
+      «ready_tree» = r .«ready_tree»;
+      «queue_links» = l;
+      cpu = r .cpu;
+    }
 
 abbrev pub withCpu : CpuIndex → ThreadRecord → ThreadRecord
 withCpu c r =
-    record { parameters = r .parameters; runtime = r .runtime; «ready_turn» = r .«ready_turn»; «ready_tree» = r .«ready_tree»; «queue_links» = r .«queue_links»; cpu = c }
+    record {
+      parameters = r .parameters;
+      runtime = r .runtime;
+      «ready_turn» = r .«ready_turn»;
+      «ready_tree» = r .«ready_tree»;
+      «queue_links» = r .«queue_links»;
+      cpu = c;
+    }

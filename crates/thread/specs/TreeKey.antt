@@ -1,4 +1,5 @@
--- What a tree is ordered by: "Tree keys compare as algorithm, band, turn, id (`ready_index_key`)". After scheduler/queue.rs.
+-- What a tree is ordered by: "Tree keys compare as algorithm, band, turn, id (`ready_index_key`)". After
+-- scheduler/queue.rs.
 use Prim.Native.Nat.{ℕ}
 use mathlib.Core.List.{List, [], _∷_}
 use Rattle.refusal.specs.Cases.{given}
@@ -16,7 +17,8 @@ use Rattle.thread.specs.declared.TreeKey.{TreeKey}
 abbrev pub wide : ℕ → Wide
 wide n = record { high = 0; low = n }
 
--- "Algorithm is the priority for FIFO, the pass for Stride, otherwise the turn"; a Stride record whose runtime is not Fair has pass 0.
+-- "Algorithm is the priority for FIFO, the pass for Stride, otherwise the turn"; a Stride record whose runtime is not
+-- Fair has pass 0.
 unfoldable pub algorithmKey : SchedulingParameters → PolicyRuntime → ℕ → Wide
 algorithmKey p r turn =
     onPolicy (p .policy)

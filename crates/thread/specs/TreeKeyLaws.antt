@@ -30,7 +30,9 @@ module _ {y : Ordering} (n m : ℕ) (z : Ordering) where
   left-open p q h = rw (compare-equal n m (omega arith)) h
 
 -- The first part of a whole key, and then the others.
-pub whole-key : (a b : TreeKey) {y : Ordering} → y ≡ thenBy (compareNumbers (a .algorithm .high) (b .algorithm .high)) (compareFromLow a b) → y ≡ compareTreeKeys a b
+pub whole-key : (a b : TreeKey) {y : Ordering}
+    → y ≡ thenBy (compareNumbers (a .algorithm .high) (b .algorithm .high)) (compareFromLow a b)
+    → y ≡ compareTreeKeys a b
 unfolding compareTreeKeys parts compareParts compareFromLow compareFromBand compareFromTurn
 whole-key a b h = rw (then-nothing (compareNumbers (a .id) (b .id))) h
 

@@ -1,6 +1,8 @@
-// A thread's record: its parts, links, memberships and the order of tree keys; its filing and the judgement of it are definitions (specs). After task/thread.rs, task/wait.rs and scheduler/queue.rs.
+// A thread's record: its parts, links, memberships and the order of tree keys; its filing and the judgement of it are
+// definitions (specs). After task/thread.rs, task/wait.rs and scheduler/queue.rs.
 ghost use mathlib.Core.Path.{_≡_};
-ghost use Rattle.thread.specs.Membership.{emptyQueue, isNone, pointsTo, isUnqueued, isReadyRealTime, isReadyFair, isWaiting, isTerminated, sameMembership, readyCpu};
+ghost use Rattle.thread.specs.Membership.{emptyQueue, isNone, pointsTo, isUnqueued, isReadyRealTime, isReadyFair};
+ghost use Rattle.thread.specs.Membership.{isWaiting, isTerminated, sameMembership, readyCpu};
 ghost use Rattle.thread.specs.TreeKey.{compareFromTurn, compareFromBand, compareFromLow, compareTreeKeys};
 use algorithms::PolicyRuntime;
 use algorithms::Wide;
@@ -292,7 +294,8 @@ pub fn ready_cpu(membership: QueueMembership) -> CpuOption
     }
 }
 
-// Turn and number. Here and below, a later part is looked at only where all before it are equal; a test on the numbers leaves no Ordering to take apart again.
+// Turn and number. Here and below, a later part is looked at only where all before it are equal; a test on the numbers
+// leaves no Ordering to take apart again.
 fn compare_from_turn(a: TreeKey, b: TreeKey) -> Ordering
     ensures { λ r. ⌜ r ≡ compareFromTurn a b ⌝ }
 {

@@ -8,7 +8,8 @@ use Rattle.time.specs.declared.Epoch.the-variants as epoch
 use Rattle.time.specs.declared.Deadline.{Deadline}
 use Rattle.time.specs.declared.Deadline.the-variants as deadline
 
--- Whether an epoch is later than the one before; none is before every epoch (`is_none_or(|previous| epoch > previous)`).
+-- Whether an epoch is later than the one before; none is before every epoch (`is_none_or(|previous| epoch >
+-- previous)`).
 unfoldable pub rises : Epoch → ℕ → Bool
 rises epoch.None e = true
 rises (epoch.Some last) e = ltb last e

@@ -1,4 +1,5 @@
-// Times are u64 nanoseconds: epochs, periods, deadlines, and the arithmetic on them that the source takes from Rust's integers.
+// Times are u64 nanoseconds: epochs, periods, deadlines, and the arithmetic on them that the source takes from Rust's
+// integers.
 ghost use mathlib.Core.Path.{_≡_};
 ghost use Prim.Native.Nat.{_-_, _/_, min, max};
 ghost use Rattle.time.specs.Time.{rises, periodStart, periodEnd, chargeOf, checkedAdd, earliestOf};

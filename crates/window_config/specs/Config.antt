@@ -2,7 +2,7 @@
 use Prim.Native.Nat.{ℕ, _-_}
 use mathlib.Core.Bool.{Bool, true, false}
 use lib.Dec.{eqb}
-use Rattle.refusal.specs.Answer.{Answer, value, refused}
+use Rattle.refusal.specs.Answer.{Answer, value, refused, badConfig}
 use Rattle.refusal.specs.Cases.{choose, ifLess, ifEqual}
 use Rattle.policy.specs.Budget.{maxPeriod}
 use Rattle.policy.specs.PolicyCases.{onPolicy, onBackend, onBudget}
@@ -20,7 +20,8 @@ ranksRise o =
     false)
     false
 
--- A period of 1 to 1,000,000,000, a floor above 0 and below the period, an allowance below what the floor leaves, ranks that rise.
+-- A period of 1 to 1,000,000,000, a floor above 0 and below the period, an allowance below what the floor leaves, ranks
+-- that rise.
 unfoldable pub soundConfig : ArbitrationConfig → Bool
 soundConfig c =
     ifEqual (c .«period_ns») 0 false
@@ -34,12 +35,24 @@ soundConfig c =
 unfoldable pub newConfig : ℕ → ℕ → ℕ → ArbitrationOrder → Answer ArbitrationConfig
 newConfig period allowance floor o =
     let c : ArbitrationConfig =
-    record { «period_ns» = period; «priority_allowance_ns» = allowance; «protected_floor_ns» = floor; order = o; «prefer_fair» = false } in
-    choose (soundConfig c) (value c) (refused 5)
+    record {
+      «period_ns» = period;
+      «priority_allowance_ns» = allowance;
+      «protected_floor_ns» = floor;
+      order = o;
+      «prefer_fair» = false;
+    } in
+    choose (soundConfig c) (value c) (refused badConfig)
 
 abbrev pub preferring : ArbitrationConfig → Bool → ArbitrationConfig
 preferring c b =
-    record { «period_ns» = c .«period_ns»; «priority_allowance_ns» = c .«priority_allowance_ns»; «protected_floor_ns» = c .«protected_floor_ns»; order = c .order; «prefer_fair» = b }
+    record {
+      «period_ns» = c .«period_ns»;
+      «priority_allowance_ns» = c .«priority_allowance_ns»;
+      «protected_floor_ns» = c .«protected_floor_ns»;
+      order = c .order;
+      «prefer_fair» = b;
+    }
 
 -- A budget has the window's period.
 unfoldable pub acceptsBudget : ArbitrationConfig → SchedulingParameters → Bool

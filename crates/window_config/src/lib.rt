@@ -1,6 +1,8 @@
-// A CPU window's configuration: which periods, allowances, floors and ranks are taken, and which threads they admit. After scheduler/algorithms/arbitration.rs.
+// A CPU window's configuration: which periods, allowances, floors and ranks are taken, and which threads they admit.
+// After scheduler/algorithms/arbitration.rs.
 ghost use mathlib.Core.Path.{_≡_};
-ghost use Rattle.window_config.specs.Config.{ranksRise, sameBackend, soundConfig, newConfig, preferring, acceptsBudget, admitted};
+ghost use Rattle.window_config.specs.Config.{ranksRise, sameBackend, soundConfig, newConfig, preferring};
+ghost use Rattle.window_config.specs.Config.{acceptsBudget, admitted};
 ghost use Rattle.window_config.specs.Made.{configMade};
 use policy::BudgetOption;
 use policy::BudgetParameters;

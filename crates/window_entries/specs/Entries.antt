@@ -1,5 +1,5 @@
--- What a call on a window's words leaves: document 01's number, 0 where it was accepted, the answer that its words stand for, and the window. A refusal leaves the
--- answer's words standing for what they stood for.
+-- What a call on a window's words leaves: document 01's number, 0 where it was accepted, the answer that its words
+-- stand for, and the window. A refusal leaves the answer's words standing for what they stood for.
 use Prim.Native.Nat.{ℕ}
 use Rattle.refusal.specs.Answer.{Answer, value, refused}
 use Rattle.order.specs.declared.Ordering.{Ordering}
@@ -17,9 +17,11 @@ unfoldable pub leftOf : {A : Type 0} → A → With A → Left A
 leftOf before (with (value a) w) = left 0 a w
 leftOf before (with (refused n) w) = left n before w
 
--- Of an answer and its window v: v's epoch and remainders stored over w where the answer is a value, and nothing where it is a refusal.
+-- Of an answer and its window v: v's epoch and remainders stored over w where the answer is a value, and nothing where
+-- it is a refusal.
 unfoldable pub storedOver : {A : Type 0} → A → CpuWindow → Answer A → CpuWindow → Left A
-storedOver before w (value a) v = left 0 a (progressed w (v .epoch) (v .«priority_remaining_ns») (v .«protected_remaining_ns»))
+storedOver before w (value a) v =
+    left 0 a (progressed w (v .epoch) (v .«priority_remaining_ns») (v .«protected_remaining_ns»))
 storedOver before w (refused n) v = left n before w
 
 -- What `ArbitrationConfig::new` makes of a configuration's period, allowance, floor and ranks.

@@ -1,6 +1,6 @@
 -- Laws of a window's refresh and charge by its words, and of what the two calls leave.
 use Prim.Native.Nat.{ℕ, _-_, _/_, _<_, _≤_}
-use mathlib.Core.Path.{_≡_, refl, sym, _∙_}
+use mathlib.Core.Path.{_≡_, refl, sym, ap, _∙_}
 use mathlib.Core.Bool.{Bool, true, false, not}
 use mathlib.Core.List.{List}
 use lib.Dec.{eqb}
@@ -11,29 +11,42 @@ use Rattle.time.specs.declared.Epoch.the-variants as epochs
 use Rattle.time.specs.Time.{rises, chargeOf}
 use Rattle.policy.specs.declared.SchedulingRole.the-variants as role
 use Rattle.policy.specs.PolicyCases.{onRole}
-use Rattle.policy_words.specs.PolicyWords.{word, epochFrom, roleFrom, parametersOf}
+use Rattle.policy_words.specs.PolicyWords.{word, roleTag, epochFrom, roleFrom, parametersOf}
 use Rattle.arbitration.specs.declared.CpuWindow.{CpuWindow}
 use Rattle.arbitration.specs.declared.DispatchMode.{DispatchMode}
 use Rattle.arbitration.specs.declared.DispatchMode.the-variants as mode
 use Rattle.window_config.specs.Config.{soundConfig}
 use Rattle.arbitration.specs.Window.{refreshed, charged, onMode, usesAllowance, isPriority, isProtected}
-use Rattle.arbitration.specs.Calls.{judged, refreshCall, accountCall}
-use Rattle.window_words.specs.WindowWords.{modeFrom, configOf, windowOf, progressed}
+use Rattle.arbitration.specs.declared.Candidate.{Candidate}
+use Rattle.arbitration.specs.declared.Demand.{Demand}
+use Rattle.arbitration.specs.declared.KeyOption.{KeyOption}
+use Rattle.window_config.specs.declared.ArbitrationConfig.{ArbitrationConfig}
+use Rattle.arbitration.specs.ArbitrationLaws.{refreshed-config}
+use Rattle.arbitration.specs.Key.{keyOf}
+use Rattle.arbitration.specs.Calls.{judged, refreshCall, accountCall, keyCall}
+use Rattle.window_words.specs.WindowWords.{windowPeriod, windowAllowance, windowFloor}
+use Rattle.window_words.specs.WindowWords.{epochTag, epochWord, allowanceLeft, floorLeft}
+use Rattle.window_words.specs.WindowWords.{modeFrom, configOf, windowOf, progressed, candidateOf, demandOf}
 use Rattle.window_entries.specs.Entries.{left, leftOf}
 
 -- A window's words refreshed: within its epoch, or into a later one.
 module _ (w : List ℕ) (now : ℕ) {n : ℕ} {later : Bool} where
-  pub words-within : n ≡ now / word w 0 → later ≡ rises (epochFrom (word w 8) (word w 9)) n → not later ≡ true → windowOf w ≡ refreshed (windowOf w) now
+  pub words-within : n ≡ now / word w windowPeriod → later ≡ rises (epochFrom (word w epochTag) (word w epochWord)) n
+      → not later ≡ true → windowOf w ≡ refreshed (windowOf w) now
   unfolding choose refreshed given windowOf configOf
   words-within d r t =
-      let same : rises (epochFrom (word w 8) (word w 9)) (now / word w 0) ≡ false = rw (sym d) (sym r ∙ not-true later t) in
+      let same : rises (epochFrom (word w epochTag) (word w epochWord)) (now / word w windowPeriod)
+      ≡ false = rw (sym d) (sym r ∙ not-true later t) in
       rw same refl
 
-  pub words-later : {v : CpuWindow} → n ≡ now / word w 0 → later ≡ rises (epochFrom (word w 8) (word w 9)) n → not later ≡ false
-      → v ≡ progressed (windowOf w) (epochs.Some n) (word w 1) (word w 2) → v ≡ refreshed (windowOf w) now
+  pub words-later : {v : CpuWindow} → n ≡ now / word w windowPeriod
+      → later ≡ rises (epochFrom (word w epochTag) (word w epochWord)) n → not later ≡ false
+      → v ≡ progressed (windowOf w) (epochs.Some n) (word w windowAllowance) (word w windowFloor)
+      → v ≡ refreshed (windowOf w) now
   unfolding choose refreshed given windowOf configOf
   words-later d r t k =
-      let new : rises (epochFrom (word w 8) (word w 9)) (now / word w 0) ≡ true = rw (sym d) (sym r ∙ not-false later t) in
+      let new : rises (epochFrom (word w epochTag) (word w epochWord)) (now / word w windowPeriod)
+      ≡ true = rw (sym d) (sym r ∙ not-false later t) in
       rw (new, k, d) refl
 
 -- Which intervals the allowance carries, by tags.
@@ -45,7 +58,9 @@ any-mode mode.Protected = refl
 any-mode mode.Ordinary = refl
 any-mode mode.Borrow = refl
 
-other-mode : (a b c : Bool) → false ≡ onMode (choose a mode.StrictFifo (choose b mode.Protected (choose c mode.Ordinary mode.Borrow))) false true false false false
+other-mode : (a b c : Bool) → false
+    ≡ onMode (choose a mode.StrictFifo (choose b mode.Protected (choose c mode.Ordinary mode.Borrow))) false true false
+    false false
 unfolding onMode choose
 other-mode true b c = refl
 other-mode false true c = refl
@@ -92,12 +107,14 @@ module _ (r : ℕ) where
   unfolding isProtected onRole roleFrom ifEqual choose
   protected-tag h k = rw (ne-eqb r 0 h, ne-eqb r 1 k) refl
 
-pub words-charged : (w fresh row : List ℕ) (start end tag : ℕ) {a b : Bool} {charge allowance floor p q : ℕ} {x : Epoch} {v : CpuWindow}
+pub words-charged : (w fresh row : List ℕ) (start end tag : ℕ) {a b : Bool} {charge allowance floor p q : ℕ} {x : Epoch}
+    {v : CpuWindow}
     → windowOf fresh ≡ refreshed (windowOf w) end
-    → charge ≡ chargeOf start end (word fresh 0)
-    → a ≡ usesAllowance (modeFrom tag) (roleFrom (word row 3)) → allowance ≡ choose a charge 0
-    → b ≡ isProtected (roleFrom (word row 3)) → floor ≡ choose b charge 0
-    → x ≡ epochFrom (word fresh 8) (word fresh 9) → p ≡ word fresh 10 - allowance → q ≡ word fresh 11 - floor
+    → charge ≡ chargeOf start end (word fresh windowPeriod)
+    → a ≡ usesAllowance (modeFrom tag) (roleFrom (word row roleTag)) → allowance ≡ choose a charge 0
+    → b ≡ isProtected (roleFrom (word row roleTag)) → floor ≡ choose b charge 0
+    → x ≡ epochFrom (word fresh epochTag) (word fresh epochWord) → p ≡ word fresh allowanceLeft - allowance
+    → q ≡ word fresh floorLeft - floor
     → v ≡ progressed (windowOf fresh) x p q
     → v ≡ charged (windowOf w) start end (parametersOf row) (modeFrom tag)
 unfolding charged parametersOf windowOf configOf
@@ -105,11 +122,13 @@ words-charged w fresh row start end tag f e₀ e₁ e₂ e₃ e₄ e₅ e₆ e�
 
 -- What the calls leave: a refusal's number, or the window that they make.
 module _ (w : List ℕ) (now : ℕ) {sound : Bool} where
-  pub refresh-refused : sound ≡ soundConfig (configOf w) → not sound ≡ true → left 5 tt (windowOf w) ≡ leftOf tt (refreshCall (windowOf w) now)
+  pub refresh-refused : sound ≡ soundConfig (configOf w) → not sound ≡ true
+      → left 5 tt (windowOf w) ≡ leftOf tt (refreshCall (windowOf w) now)
   unfolding leftOf refreshCall judged choose windowOf
   refresh-refused h n = rw (sym h ∙ not-true sound n) refl
 
-  pub refresh-done : {v : CpuWindow} → sound ≡ soundConfig (configOf w) → not sound ≡ false → v ≡ refreshed (windowOf w) now
+  pub refresh-done : {v : CpuWindow} → sound ≡ soundConfig (configOf w) → not sound ≡ false
+      → v ≡ refreshed (windowOf w) now
       → left 0 tt v ≡ leftOf tt (refreshCall (windowOf w) now)
   unfolding leftOf refreshCall judged choose given windowOf
   refresh-done h n k = rw (sym h ∙ not-false sound n, k) refl
@@ -131,6 +150,67 @@ module _ (w row : List ℕ) (start end tag : ℕ) {sound : Bool} where
   unfolding leftOf accountCall judged choose ifLess given windowOf
   account-done h n b k = rw (sym h ∙ not-false sound n, le-ltb end start b, k) refl
 
+-- A key: the window is stored as it is refreshed, and the key is made of that.
+refreshed-whole : (w : CpuWindow) (now : ℕ)
+    → progressed w (refreshed w now .epoch) (refreshed w now .«priority_remaining_ns»)
+    (refreshed w now .«protected_remaining_ns»)
+    ≡ refreshed w now
+refreshed-whole w now =
+    ap
+    (λ (x : ArbitrationConfig). record {
+      config = x;
+      epoch = refreshed w now .epoch;
+      «priority_remaining_ns» = refreshed w now .«priority_remaining_ns»;
+      «protected_remaining_ns» = refreshed w now .«protected_remaining_ns»;
+    })
+    (sym (refreshed-config w now))
+
+module _ (before : KeyOption) (w : CpuWindow) (now : ℕ) (c : Candidate) (d : Demand) where
+  no-key-made : soundConfig (w .config) ≡ false → left 5 before w ≡ leftOf before (keyCall w now c d)
+  unfolding leftOf keyCall judged choose
+  no-key-made h = rw h
+
+  key-made : {k : KeyOption} {u : CpuWindow} → soundConfig (w .config) ≡ true → k ≡ keyOf (refreshed w now) now c d
+      → u ≡ refreshed w now → left 0 k u ≡ leftOf before (keyCall w now c d)
+  unfolding leftOf keyCall judged choose given
+  key-made h e f = rw (h, e, f)
+
+config-word : (w : List ℕ) → windowOf w .config ≡ configOf w
+unfolding windowOf
+config-word w = refl
+
+module _ (before : KeyOption) (w row flags : List ℕ) (now : ℕ) {sound : Bool} where
+  pub key-refused : sound ≡ soundConfig (configOf w) → not sound ≡ true
+      → left 5 before (windowOf w) ≡ leftOf before (keyCall (windowOf w) now (candidateOf row) (demandOf flags))
+  key-refused h n =
+      no-key-made before (windowOf w) now (candidateOf row) (demandOf flags)
+      (ap soundConfig (config-word w) ∙ sym h ∙ not-true sound n)
+
+  pub key-done : {b fresh u : CpuWindow} {c : Candidate} {d : Demand} {k x : KeyOption}
+      → sound ≡ soundConfig (configOf w)
+      → not sound ≡ false
+      → b ≡ windowOf w
+      → fresh ≡ refreshed b now
+      → u ≡ progressed (windowOf w) (fresh .epoch) (fresh .«priority_remaining_ns») (fresh .«protected_remaining_ns»)
+      → c ≡ candidateOf row
+      → d ≡ demandOf flags
+      → k ≡ keyOf fresh now c d
+      → x ≡ k
+      → left 0 x u ≡ leftOf before (keyCall (windowOf w) now (candidateOf row) (demandOf flags))
+  key-done {b} {fresh} {u} {c} {d} {k} {x} h n e f g i j l m =
+      key-made before (windowOf w) now (candidateOf row) (demandOf flags)
+      (ap soundConfig (config-word w) ∙ sym h ∙ not-false sound n)
+      (m ∙ l ∙ ap (λ v. keyOf v now c d) is-fresh ∙ ap (λ v. keyOf (refreshed (windowOf w) now) now v d) i
+      ∙ ap (keyOf (refreshed (windowOf w) now) now (candidateOf row)) j)
+      (g
+      ∙ ap
+      (λ v. progressed (windowOf w) (v .epoch) (v .«priority_remaining_ns») (v .«protected_remaining_ns»))
+      is-fresh
+      ∙ refreshed-whole (windowOf w) now)
+    where
+      is-fresh : fresh ≡ refreshed (windowOf w) now
+      is-fresh = f ∙ ap (λ v. refreshed v now) e
+
 pub ruleset steps = (
   words-within,
   words-later,
@@ -146,4 +226,6 @@ pub ruleset steps = (
   account-refused,
   account-back,
   account-done,
+  key-refused,
+  key-done,
 )

@@ -17,7 +17,16 @@ use Rattle.arbitration.specs.declared.KeyOption.{KeyOption}
 use Rattle.arbitration.specs.declared.KeyOption.the-variants as key
 use Rattle.policy_words.specs.PolicyWords.{word, epochFrom, parametersOf}
 use Rattle.policy_words.specs.ByWords.{by-words}
-use Rattle.window_words.specs.WindowWords.{flagFrom, modeFrom, orderOf, configOf, windowOf, configured, progressed, demandOf, candidateOf, dispatchKeyOf, keyOptionOf}
+use Rattle.window_words.specs.WindowWords.{windowWords, windowPeriod, windowAllowance, windowFloor, priorityRank}
+use Rattle.window_words.specs.WindowWords.{budgetRank, fairRank, borrowRank, preferFair, epochTag, epochWord}
+use Rattle.window_words.specs.WindowWords.{allowanceLeft, floorLeft, demandProtected, demandFair, demandSensitive}
+use Rattle.window_words.specs.WindowWords.{demandEligible, demandAny, candidatePassHigh, candidatePassLow}
+use Rattle.window_words.specs.WindowWords.{candidateAvailable, candidateTurn, keyUrgency, keyRank}
+use Rattle.window_words.specs.WindowWords.{keyAlgorithmRank}
+use Rattle.window_words.specs.WindowWords.{keyHigh, keyLow, keyBand, keyTurn}
+use Rattle.window_words.specs.WindowWords.{flagFrom, modeFrom, orderOf, configOf, windowOf, configured}
+use Rattle.window_words.specs.WindowWords.{progressed}
+use Rattle.window_words.specs.WindowWords.{demandOf, candidateOf, dispatchKeyOf, keyOptionOf}
 
 pub set-flag : {b : Bool} → b ≡ true → flagFrom 1 ≡ b
 unfolding flagFrom ifEqual choose
@@ -53,65 +62,153 @@ module _ {k : KeyOption} where
   unfolding keyOptionOf ifEqual choose
   no-key-words h = sym h
 
-  pub key-words : {x : DispatchKey} {m : DispatchMode} (w : List ℕ) → k ≡ key.Some x m → keyOptionOf w ≡ key.Some x m → keyOptionOf w ≡ k
+  pub key-words : {x : DispatchKey} {m : DispatchMode} (w : List ℕ) → k ≡ key.Some x m → keyOptionOf w ≡ key.Some x m
+      → keyOptionOf w ≡ k
   key-words w h e = e ∙ sym h
 
-pub ruleset word-laws = (set-flag, clear-flag, strict-word, priority-word, protected-word, ordinary-word, borrow-word, no-key-words, key-words)
+pub ruleset word-laws = (
+  set-flag,
+  clear-flag,
+  strict-word,
+  priority-word,
+  protected-word,
+  ordinary-word,
+  borrow-word,
+  no-key-words,
+  key-words,
+)
 
 -- The parts that the words stand for make the whole.
 module _ (w : List ℕ) where
-  pub order-read : {priority budget fair borrow : ℕ} → priority ≡ word w 3 % 256 → budget ≡ word w 4 % 256 → fair ≡ word w 5 % 256 → borrow ≡ word w 6 % 256
-      → record { «priority_rank» = priority; «budget_rank» = budget; «fair_rank» = fair; «borrow_rank» = borrow } ≡ orderOf w
+  pub order-read : {priority budget fair borrow : ℕ}
+      → priority ≡ word w priorityRank % 256
+      → budget ≡ word w budgetRank % 256
+      → fair ≡ word w fairRank % 256
+      → borrow ≡ word w borrowRank % 256
+      → record { «priority_rank» = priority; «budget_rank» = budget; «fair_rank» = fair; «borrow_rank» = borrow }
+      ≡ orderOf w
   unfolding orderOf
   order-read e₁ e₂ e₃ e₄ = rw (e₁, e₂, e₃, e₄)
 
-  pub config-read : {order : ArbitrationOrder} {prefer : Bool} → order ≡ orderOf w → prefer ≡ flagFrom (word w 7)
-      → record { «period_ns» = word w 0; «priority_allowance_ns» = word w 1; «protected_floor_ns» = word w 2; order = order; «prefer_fair» = prefer } ≡ configOf w
+  pub config-read : {order : ArbitrationOrder} {prefer : Bool}
+      → order ≡ orderOf w
+      → prefer ≡ flagFrom (word w preferFair)
+      → record {
+        «period_ns» = word w windowPeriod;
+        «priority_allowance_ns» = word w windowAllowance;
+        «protected_floor_ns» = word w windowFloor;
+        order = order;
+        «prefer_fair» = prefer;
+      }
+      ≡ configOf w
   unfolding configOf
   config-read e f = rw (e, f)
 
-  pub window-read : {config : ArbitrationConfig} {epoch : Epoch} → config ≡ configOf w → epoch ≡ epochFrom (word w 8) (word w 9)
-      → record { config = config; epoch = epoch; «priority_remaining_ns» = word w 10; «protected_remaining_ns» = word w 11 } ≡ windowOf w
+  pub window-read : {config : ArbitrationConfig} {epoch : Epoch}
+      → config ≡ configOf w
+      → epoch ≡ epochFrom (word w epochTag) (word w epochWord)
+      → record {
+        config = config;
+        epoch = epoch;
+        «priority_remaining_ns» = word w allowanceLeft;
+        «protected_remaining_ns» = word w floorLeft;
+      }
+      ≡ windowOf w
   unfolding windowOf
   window-read e f = rw (e, f)
 
   pub demand-read : {protected fair sensitive eligible any : Bool}
-      → protected ≡ flagFrom (word w 0) → fair ≡ flagFrom (word w 1) → sensitive ≡ flagFrom (word w 2) → eligible ≡ flagFrom (word w 3) → any ≡ flagFrom (word w 4)
-      → record { protected = protected; fair = fair; «window_sensitive» = sensitive; «eligible_budget» = eligible; «any_budget» = any } ≡ demandOf w
+      → protected ≡ flagFrom (word w demandProtected)
+      → fair ≡ flagFrom (word w demandFair)
+      → sensitive ≡ flagFrom (word w demandSensitive)
+      → eligible ≡ flagFrom (word w demandEligible)
+      → any ≡ flagFrom (word w demandAny)
+      → record {
+        protected = protected;
+        fair = fair;
+        «window_sensitive» = sensitive;
+        «eligible_budget» = eligible;
+        «any_budget» = any;
+      }
+      ≡ demandOf w
   unfolding demandOf
   demand-read e₁ e₂ e₃ e₄ e₅ = rw (e₁, e₂, e₃, e₄, e₅)
 
-  pub candidate-read : {parameters : SchedulingParameters} {available : Bool} → parameters ≡ parametersOf w → available ≡ flagFrom (word w 14)
-      → record { parameters = parameters; «fair_pass» = record { high = word w 12; low = word w 13 }; turn = word w 16; «budget_available» = available } ≡ candidateOf w
+  pub candidate-read : {parameters : SchedulingParameters} {available : Bool}
+      → parameters ≡ parametersOf w
+      → available ≡ flagFrom (word w candidateAvailable)
+      → record {
+        parameters = parameters;
+        «fair_pass» = record { high = word w candidatePassHigh; low = word w candidatePassLow };
+        turn = word w candidateTurn;
+        «budget_available» = available;
+      }
+      ≡ candidateOf w
   unfolding candidateOf
   candidate-read e f = rw (e, f)
 
-  pub dispatch-key-read : {urgency rank algorithm band : ℕ} → urgency ≡ word w 2 % 256 → rank ≡ word w 3 % 256 → algorithm ≡ word w 4 % 256 → band ≡ word w 7 % 256
-      → record { urgency = urgency; rank = rank; «algorithm_rank» = algorithm; algorithm = record { high = word w 5; low = word w 6 }; band = band; turn = word w 8 } ≡ dispatchKeyOf w
+  pub dispatch-key-read : {urgency rank algorithm band : ℕ}
+      → urgency ≡ word w keyUrgency % 256
+      → rank ≡ word w keyRank % 256
+      → algorithm ≡ word w keyAlgorithmRank % 256
+      → band ≡ word w keyBand % 256
+      → record {
+        urgency = urgency;
+        rank = rank;
+        «algorithm_rank» = algorithm;
+        algorithm = record { high = word w keyHigh; low = word w keyLow };
+        band = band;
+        turn = word w keyTurn;
+      }
+      ≡ dispatchKeyOf w
   unfolding dispatchKeyOf
   dispatch-key-read e₁ e₂ e₃ e₄ = rw (e₁, e₂, e₃, e₄)
 
+-- A window's words with those of a configuration stored, and with those of what time changes.
+abbrev withConfig : List ℕ → ArbitrationConfig → ℕ → ℕ → ℕ → ℕ → ℕ → List ℕ
+withConfig r c priority budget fair borrow prefer =
+    set
+    (set
+    (set
+    (set
+    (set
+    (set
+    (set
+    (set r windowPeriod (c .«period_ns»)) windowAllowance (c .«priority_allowance_ns»))
+    windowFloor (c .«protected_floor_ns»))
+    priorityRank priority)
+    budgetRank budget)
+    fairRank fair)
+    borrowRank borrow)
+    preferFair prefer
+
+abbrev withProgress : List ℕ → List ℕ → ℕ → ℕ → List ℕ
+withProgress r a allowance floor =
+    set (set (set (set r epochTag (word a 0)) epochWord (word a 1)) allowanceLeft allowance) floorLeft floor
+
 pub config-stored : (r : List ℕ) (c : ArbitrationConfig) (priority budget fair borrow prefer : ℕ)
-    → length r ≡ 12
+    → length r ≡ windowWords
     → priority % 256 ≡ c .order .«priority_rank»
     → budget % 256 ≡ c .order .«budget_rank»
     → fair % 256 ≡ c .order .«fair_rank»
     → borrow % 256 ≡ c .order .«borrow_rank»
     → flagFrom prefer ≡ c .«prefer_fair»
-    → windowOf (set (set (set (set (set (set (set (set r 0 (c .«period_ns»)) 1 (c .«priority_allowance_ns»)) 2 (c .«protected_floor_ns»)) 3 priority) 4 budget) 5 fair) 6 borrow) 7 prefer) ≡ configured (windowOf r) c
+    → windowOf (withConfig r c priority budget fair borrow prefer) ≡ configured (windowOf r) c
 unfolding windowOf configOf orderOf
 config-stored r c priority budget fair borrow prefer size e₁ e₂ e₃ e₄ e₅ =
-    by-words 12 (λ (r : List ℕ). windowOf (set (set (set (set (set (set (set (set r 0 (c .«period_ns»)) 1 (c .«priority_allowance_ns»)) 2 (c .«protected_floor_ns»)) 3 priority) 4 budget) 5 fair) 6 borrow) 7 prefer) ≡ configured (windowOf r) c)
+    by-words windowWords
+    (λ (r : List ℕ). windowOf (withConfig r c priority budget fair borrow prefer) ≡ configured (windowOf r) c)
     (λ x0 x1 x2 x3 x4 x5 x6 x7 x8 x9 x10 x11. rw (e₁, e₂, e₃, e₄, e₅))
     r size
 
 pub progress-stored : (r : List ℕ) (e : Epoch) (a : List ℕ) (allowance floor : ℕ)
-    → length r ≡ 12
+    → length r ≡ windowWords
     → epochFrom (word a 0) (word a 1) ≡ e
-    → windowOf (set (set (set (set r 8 (word a 0)) 9 (word a 1)) 10 allowance) 11 floor) ≡ progressed (windowOf r) e allowance floor
+    → windowOf (withProgress r a allowance floor) ≡ progressed (windowOf r) e allowance floor
 unfolding windowOf configOf orderOf
 progress-stored r e a allowance floor size h =
-    by-words 12 (λ (r : List ℕ). windowOf (set (set (set (set r 8 (word a 0)) 9 (word a 1)) 10 allowance) 11 floor) ≡ progressed (windowOf r) e allowance floor)
+    by-words windowWords
+    (λ (r : List ℕ). windowOf (withProgress r a allowance floor) ≡ progressed (windowOf r) e allowance floor)
     (λ x0 x1 x2 x3 x4 x5 x6 x7 x8 x9 x10 x11. rw h)
     r size
 
@@ -128,6 +225,7 @@ pub key-stored : (k : DispatchKey) (m : DispatchMode) (mode urgency rank algorit
     → rank % 256 ≡ k .rank
     → algorithm % 256 ≡ k .«algorithm_rank»
     → band % 256 ≡ k .band
-    → keyOptionOf (1 ∷ mode ∷ urgency ∷ rank ∷ algorithm ∷ k .algorithm .high ∷ k .algorithm .low ∷ band ∷ k .turn ∷ []) ≡ key.Some k m
+    → keyOptionOf (1 ∷ mode ∷ urgency ∷ rank ∷ algorithm ∷ k .algorithm .high ∷ k .algorithm .low ∷ band ∷ k .turn ∷ [])
+    ≡ key.Some k m
 unfolding keyOptionOf dispatchKeyOf ifEqual choose
 key-stored k m mode urgency rank algorithm band e₁ e₂ e₃ e₄ e₅ = rw (e₁, e₂, e₃, e₄, e₅)

@@ -1,6 +1,9 @@
-// A CPU window as a row of 12 words, and the words of what its calls are handed and answer. Nothing here is partial: every row stands for some value.
+// A CPU window as a row of 12 words, and the words of what its calls are handed and answer. Nothing here is partial:
+// every row stands for some value.
 ghost use mathlib.Core.Path.{_≡_};
-ghost use Rattle.window_words.specs.WindowWords.{flagFrom, modeFrom, orderOf, configOf, windowOf, configured, progressed, demandOf, candidateOf, dispatchKeyOf, keyOptionOf};
+ghost use Rattle.window_words.specs.WindowWords.{flagFrom, modeFrom, orderOf, configOf, windowOf};
+ghost use Rattle.window_words.specs.WindowWords.{configured, progressed, demandOf, candidateOf};
+ghost use Rattle.window_words.specs.WindowWords.{dispatchKeyOf, keyOptionOf};
 use algorithms::Wide;
 use arbitration::Candidate;
 use arbitration::CpuWindow;
@@ -8,6 +11,7 @@ use arbitration::Demand;
 use arbitration::DispatchMode;
 use arbitration::KeyOption;
 use dispatch_keys::DispatchKey;
+use policy_words::Row;
 use policy_words::byte_from;
 use policy_words::epoch_from;
 use policy_words::parameters_of;
@@ -16,6 +20,87 @@ use policy_words::words_of_epoch;
 use time::Epoch;
 use window_config::ArbitrationConfig;
 use window_config::ArbitrationOrder;
+
+// A CPU window: its configuration, its epoch, and what remains of allowance and floor.
+pub const WINDOW_WORDS: usize = 12;
+
+pub type WindowWords = [u64; WINDOW_WORDS];
+
+pub const WINDOW_PERIOD: usize = 0;
+
+pub const WINDOW_ALLOWANCE: usize = 1;
+
+pub const WINDOW_FLOOR: usize = 2;
+
+pub const PRIORITY_RANK: usize = 3;
+
+pub const BUDGET_RANK: usize = 4;
+
+pub const FAIR_RANK: usize = 5;
+
+pub const BORROW_RANK: usize = 6;
+
+pub const PREFER_FAIR: usize = 7;
+
+pub const EPOCH_TAG: usize = 8;
+
+pub const EPOCH: usize = 9;
+
+pub const ALLOWANCE_LEFT: usize = 10;
+
+pub const FLOOR_LEFT: usize = 11;
+
+// A configuration alone: a window's words before the epoch's.
+pub const CONFIG_WORDS: usize = 8;
+
+pub type ConfigWords = [u64; CONFIG_WORDS];
+
+// A demand: five flags.
+pub const DEMAND_WORDS: usize = 5;
+
+pub type DemandWords = [u64; DEMAND_WORDS];
+
+pub const DEMAND_PROTECTED: usize = 0;
+
+pub const DEMAND_FAIR: usize = 1;
+
+pub const DEMAND_SENSITIVE: usize = 2;
+
+pub const DEMAND_ELIGIBLE: usize = 3;
+
+pub const DEMAND_ANY: usize = 4;
+
+// A candidate: a thread's row with whether its budget has time left in the place of the time.
+pub const CANDIDATE_PASS_HIGH: usize = 12;
+
+pub const CANDIDATE_PASS_LOW: usize = 13;
+
+pub const CANDIDATE_AVAILABLE: usize = 14;
+
+pub const CANDIDATE_TURN: usize = 16;
+
+// A dispatch key with its mode, or none.
+pub const KEY_WORDS: usize = 9;
+
+pub type KeyWords = [u64; KEY_WORDS];
+
+pub const KEY_TAG: usize = 0;
+
+pub const KEY_MODE: usize = 1;
+
+pub const KEY_URGENCY: usize = 2;
+
+pub const KEY_RANK: usize = 3;
+
+pub const KEY_ALGORITHM_RANK: usize = 4;
+
+pub const KEY_HIGH: usize = 5;
+
+pub const KEY_LOW: usize = 6;
+
+pub const KEY_BAND: usize = 7;
+
+pub const KEY_TURN: usize = 8;
 
 pub fn flag_from(w: u64) -> bool
     ensures { λ r. ⌜ r ≡ flagFrom w ⌝ }
@@ -44,13 +129,13 @@ pub fn mode_from(tag: u64) -> DispatchMode
     DispatchMode::Borrow
 }
 
-fn order_of(w: [u64; 12]) -> ArbitrationOrder
+fn order_of(w: WindowWords) -> ArbitrationOrder
     ensures { λ r. ⌜ r ≡ orderOf w ⌝ }
 {
-    let priority_rank = byte_from(w[3]);
-    let budget_rank = byte_from(w[4]);
-    let fair_rank = byte_from(w[5]);
-    let borrow_rank = byte_from(w[6]);
+    let priority_rank = byte_from(w[PRIORITY_RANK]);
+    let budget_rank = byte_from(w[BUDGET_RANK]);
+    let fair_rank = byte_from(w[FAIR_RANK]);
+    let borrow_rank = byte_from(w[BORROW_RANK]);
     ArbitrationOrder {
         priority_rank,
         budget_rank,
@@ -59,30 +144,30 @@ fn order_of(w: [u64; 12]) -> ArbitrationOrder
     }
 }
 
-pub fn config_of(w: [u64; 12]) -> ArbitrationConfig
+pub fn config_of(w: WindowWords) -> ArbitrationConfig
     ensures { λ r. ⌜ r ≡ configOf w ⌝ }
 {
     let order = order_of(w);
-    let prefer_fair = flag_from(w[7]);
+    let prefer_fair = flag_from(w[PREFER_FAIR]);
     ArbitrationConfig {
-        period_ns: w[0],
-        priority_allowance_ns: w[1],
-        protected_floor_ns: w[2],
+        period_ns: w[WINDOW_PERIOD],
+        priority_allowance_ns: w[WINDOW_ALLOWANCE],
+        protected_floor_ns: w[WINDOW_FLOOR],
         order,
         prefer_fair,
     }
 }
 
-pub fn window_of(w: [u64; 12]) -> CpuWindow
+pub fn window_of(w: WindowWords) -> CpuWindow
     ensures { λ r. ⌜ r ≡ windowOf w ⌝ }
 {
     let config = config_of(w);
-    let epoch = epoch_from(w[8], w[9]);
+    let epoch = epoch_from(w[EPOCH_TAG], w[EPOCH]);
     CpuWindow {
         config,
         epoch,
-        priority_remaining_ns: w[10],
-        protected_remaining_ns: w[11],
+        priority_remaining_ns: w[ALLOWANCE_LEFT],
+        protected_remaining_ns: w[FLOOR_LEFT],
     }
 }
 
@@ -95,7 +180,7 @@ pub fn word_of_flag(flag: bool) -> u64
     0
 }
 
-pub fn with_config(w: [u64; 12], config: ArbitrationConfig) -> [u64; 12]
+pub fn with_config(w: WindowWords, config: ArbitrationConfig) -> WindowWords
     ensures { λ r. ⌜ windowOf r ≡ configured (windowOf w) config ⌝ }
 {
     let order = config.order;
@@ -105,36 +190,51 @@ pub fn with_config(w: [u64; 12], config: ArbitrationConfig) -> [u64; 12]
     let borrow_rank = word_of_byte(order.borrow_rank);
     let prefer_fair = word_of_flag(config.prefer_fair);
     let mut row = w;
-    row[0] = config.period_ns;
-    row[1] = config.priority_allowance_ns;
-    row[2] = config.protected_floor_ns;
-    row[3] = priority_rank;
-    row[4] = budget_rank;
-    row[5] = fair_rank;
-    row[6] = borrow_rank;
-    row[7] = prefer_fair;
+    row[WINDOW_PERIOD] = config.period_ns;
+    row[WINDOW_ALLOWANCE] = config.priority_allowance_ns;
+    row[WINDOW_FLOOR] = config.protected_floor_ns;
+    row[PRIORITY_RANK] = priority_rank;
+    row[BUDGET_RANK] = budget_rank;
+    row[FAIR_RANK] = fair_rank;
+    row[BORROW_RANK] = borrow_rank;
+    row[PREFER_FAIR] = prefer_fair;
     row
 }
 
 // What time changes in a window: its epoch, and what remains of allowance and floor.
 pub fn with_progress(
-    w: [u64; 12],
+    w: WindowWords,
     epoch: Epoch,
     priority_remaining_ns: u64,
     protected_remaining_ns: u64,
-) -> [u64; 12]
+) -> WindowWords
     ensures { λ r. ⌜ windowOf r ≡ progressed (windowOf w) epoch «priority_remaining_ns» «protected_remaining_ns» ⌝ }
 {
     let words = words_of_epoch(epoch);
     let mut row = w;
-    row[8] = words[0];
-    row[9] = words[1];
-    row[10] = priority_remaining_ns;
-    row[11] = protected_remaining_ns;
+    row[EPOCH_TAG] = words[0];
+    row[EPOCH] = words[1];
+    row[ALLOWANCE_LEFT] = priority_remaining_ns;
+    row[FLOOR_LEFT] = protected_remaining_ns;
     row
 }
 
-pub fn with_window(w: [u64; 12], window: CpuWindow) -> [u64; 12]
+// A window's epoch and remainders stored: a call changes nothing else of it.
+pub fn store_progress(window: &mut WindowWords, after: CpuWindow)
+    ensures { λ r. ⌜ windowOf (now (window .exit))
+        ≡ progressed (windowOf (now (window .entry))) (after .epoch) (after .«priority_remaining_ns»)
+        (after .«protected_remaining_ns») ⌝ }
+{
+    let epoch = after.epoch;
+    *window = with_progress(
+        *window,
+        epoch,
+        after.priority_remaining_ns,
+        after.protected_remaining_ns,
+    );
+}
+
+pub fn with_window(w: WindowWords, window: CpuWindow) -> WindowWords
     ensures { λ r. ⌜ windowOf r ≡ window ⌝ }
 {
     let config = window.config;
@@ -148,14 +248,14 @@ pub fn with_window(w: [u64; 12], window: CpuWindow) -> [u64; 12]
     )
 }
 
-pub fn demand_of(w: [u64; 5]) -> Demand
+pub fn demand_of(w: DemandWords) -> Demand
     ensures { λ r. ⌜ r ≡ demandOf w ⌝ }
 {
-    let protected = flag_from(w[0]);
-    let fair = flag_from(w[1]);
-    let window_sensitive = flag_from(w[2]);
-    let eligible_budget = flag_from(w[3]);
-    let any_budget = flag_from(w[4]);
+    let protected = flag_from(w[DEMAND_PROTECTED]);
+    let fair = flag_from(w[DEMAND_FAIR]);
+    let window_sensitive = flag_from(w[DEMAND_SENSITIVE]);
+    let eligible_budget = flag_from(w[DEMAND_ELIGIBLE]);
+    let any_budget = flag_from(w[DEMAND_ANY]);
     Demand {
         protected,
         fair,
@@ -165,39 +265,39 @@ pub fn demand_of(w: [u64; 5]) -> Demand
     }
 }
 
-pub fn candidate_of(w: [u64; 32]) -> Candidate
+pub fn candidate_of(w: Row) -> Candidate
     ensures { λ r. ⌜ r ≡ candidateOf w ⌝ }
 {
     let parameters = parameters_of(w);
-    let budget_available = flag_from(w[14]);
+    let budget_available = flag_from(w[CANDIDATE_AVAILABLE]);
     Candidate {
         parameters,
         fair_pass: Wide {
-            high: w[12],
-            low: w[13],
+            high: w[CANDIDATE_PASS_HIGH],
+            low: w[CANDIDATE_PASS_LOW],
         },
-        turn: w[16],
+        turn: w[CANDIDATE_TURN],
         budget_available,
     }
 }
 
-pub fn dispatch_key_of(w: [u64; 9]) -> DispatchKey
+pub fn dispatch_key_of(w: KeyWords) -> DispatchKey
     ensures { λ r. ⌜ r ≡ dispatchKeyOf w ⌝ }
 {
-    let urgency = byte_from(w[2]);
-    let rank = byte_from(w[3]);
-    let algorithm_rank = byte_from(w[4]);
-    let band = byte_from(w[7]);
+    let urgency = byte_from(w[KEY_URGENCY]);
+    let rank = byte_from(w[KEY_RANK]);
+    let algorithm_rank = byte_from(w[KEY_ALGORITHM_RANK]);
+    let band = byte_from(w[KEY_BAND]);
     DispatchKey {
         urgency,
         rank,
         algorithm_rank,
         algorithm: Wide {
-            high: w[5],
-            low: w[6],
+            high: w[KEY_HIGH],
+            low: w[KEY_LOW],
         },
         band,
-        turn: w[8],
+        turn: w[KEY_TURN],
     }
 }
 
@@ -213,7 +313,7 @@ fn word_of_mode(mode: DispatchMode) -> u64
     }
 }
 
-fn words_of_key(key: DispatchKey, mode: DispatchMode) -> [u64; 9]
+fn words_of_key(key: DispatchKey, mode: DispatchMode) -> KeyWords
     ensures { λ w. ⌜ keyOptionOf w ≡ KeyOption.Some key mode ⌝ }
 {
     let algorithm = key.algorithm;
@@ -235,11 +335,16 @@ fn words_of_key(key: DispatchKey, mode: DispatchMode) -> [u64; 9]
     ]
 }
 
-pub fn words_of_key_option(key: KeyOption) -> [u64; 9]
-    ensures { λ w. ⌜ keyOptionOf w ≡ key ⌝ }
+// A key stored, in a branch of its own for either kind, so that the compiler does not gather nine words first.
+pub fn store_key(answer: &mut KeyWords, key: KeyOption)
+    ensures { λ r. ⌜ keyOptionOf (now (answer .exit)) ≡ key ⌝ }
 {
     match key {
-        KeyOption::None => [0, 0, 0, 0, 0, 0, 0, 0, 0],
-        KeyOption::Some(its, mode) => words_of_key(its, mode),
+        KeyOption::None => {
+            *answer = [0, 0, 0, 0, 0, 0, 0, 0, 0];
+        }
+        KeyOption::Some(its, mode) => {
+            *answer = words_of_key(its, mode);
+        }
     }
 }

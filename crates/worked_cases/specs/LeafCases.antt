@@ -56,22 +56,47 @@ abbrev level : ArbitrationOrder
 level = record { «priority_rank» = 0; «budget_rank» = 1; «fair_rank» = 1; «borrow_rank» = 3 }
 
 abbrev settings : ArbitrationConfig
-settings = record { «period_ns» = 10000000; «priority_allowance_ns» = 2000000; «protected_floor_ns» = 3000000; order = rising; «prefer_fair» = false }
+settings =
+    record {
+      «period_ns» = 10000000;
+      «priority_allowance_ns» = 2000000;
+      «protected_floor_ns» = 3000000;
+      order = rising;
+      «prefer_fair» = false;
+    }
 
 -- A window with its floor untouched.
 abbrev fresh : CpuWindow
-fresh = record { config = settings; epoch = epoch.None; «priority_remaining_ns» = 2000000; «protected_remaining_ns» = 3000000 }
+fresh =
+    record {
+      config = settings;
+      epoch = epoch.None;
+      «priority_remaining_ns» = 2000000;
+      «protected_remaining_ns» = 3000000;
+    }
 
 abbrev dueNow : ℕ → ℕ
 dueNow now = bit (dueAt (refreshed fresh now) now true)
 
 abbrev fifoDemand : Demand
-fifoDemand = record { protected = false; fair = true; «window_sensitive» = false; «eligible_budget» = false; «any_budget» = true }
+fifoDemand =
+    record {
+      protected = false;
+      fair = true;
+      «window_sensitive» = false;
+      «eligible_budget» = false;
+      «any_budget» = true;
+    }
 
 -- An exhausted budget thread of a role.
 abbrev exhaustedThread : SchedulingRole → Candidate
 exhaustedThread r =
-    record { parameters = ofBudget share (record { 0 = 128 }) r; «fair_pass» = record { high = 0; low = 0 }; turn = 1; «budget_available» = false }
+    record {
+      parameters = ofBudget share (record { 0 = 128 }) r;
+      «fair_pass» = record { high = 0; low = 0 };
+      turn = 1;
+      «budget_available» = false;
+    }
 
 abbrev keyless : SchedulingRole → ℕ
 keyless r = hasKey (keyOf (refreshed fresh 15000000) 15000000 (exhaustedThread r) fifoDemand)
@@ -95,7 +120,8 @@ windowRows =
     -- Protected thread waiting, floor untouched: not due at 6,999,999; due at 7,000,000 and at 7,000,001.
     ∷ row (dueNow 6999999 ∷ dueNow 7000000 ∷ dueNow 7000001 ∷ []) (0 ∷ 1 ∷ 1 ∷ [])
     -- A protected thread accounted from 9,000,000 to 11,000,000 leaves a floor of 2,000,000.
-    ∷ row (floorLeft (call.accountCall fresh 9000000 11000000 (ofFifo (record { 0 = 1 }) (record { 0 = 128 }) role.Protected) mode.Protected)) (0 ∷ 2000000 ∷ [])
+    ∷ row (floorLeft (call.accountCall fresh 9000000 11000000
+    (ofFifo (record { 0 = 1 }) (record { 0 = 128 }) role.Protected) mode.Protected)) (0 ∷ 2000000 ∷ [])
     -- At 18,446,744,073,709,551,615 the period's end does not fit: no protection deadline, nothing due.
     ∷ row (timed (protectionDeadline (refreshed fresh 18446744073709551615) 18446744073709551615 true)) (0 ∷ [])
     ∷ row (dueNow 18446744073709551615 ∷ []) (0 ∷ [])

@@ -1,5 +1,5 @@
--- Document 01's sentences about state/runtime.rs on numbers: turns and preparing, accounting, the switch rule, the end of a turn, deadlines. What the source decides is what the running
--- Rust answers (host/kernel/tests/decisions.rs).
+-- Document 01's sentences about state/runtime.rs on numbers: turns and preparing, accounting, the switch rule, the end
+-- of a turn, deadlines. What the source decides is what the running Rust answers (host/kernel/tests/decisions.rs).
 use Prim.Native.Nat.{ℕ}
 use mathlib.Core.Bool.{Bool, true, false}
 use mathlib.Core.List.{List, [], _∷_, _++_}
@@ -52,7 +52,8 @@ preparedSeen (out (counted a c) t) = numbered a ∷ c .back ∷ recordOf t 0 .«
 
 -- The answer, what the window has left of allowance and floor, and the record's runtime.
 abbrev accountedSeen : {A : Type 0} → Out (With A) → List ℕ
-accountedSeen (out (with a w) t) = numbered a ∷ w .«priority_remaining_ns» ∷ w .«protected_remaining_ns» ∷ runtimesSeen (0 ∷ []) t
+accountedSeen (out (with a w) t) =
+    numbered a ∷ w .«priority_remaining_ns» ∷ w .«protected_remaining_ns» ∷ runtimesSeen (0 ∷ []) t
 
 abbrev finishedSeen : {A : Type 0} → Out (Answer A) → List ℕ
 finishedSeen (out a t) = numbered a ∷ runtimesSeen (0 ∷ []) t
@@ -70,69 +71,126 @@ abbrev fifo : SchedulingParameters
 fifo = ofFifo (record { 0 = 10 }) (record { 0 = 128 }) role.Ordinary
 
 abbrev fair : FairBackend → SchedulingParameters
-fair b = record { policy = policy.Fair; band = record { 0 = 128 }; role = role.Ordinary; weight = defaultWeight; «quantum_ns» = 5000000; «fair_backend» = b; budget = option.None }
+fair b = record {
+  policy = policy.Fair;
+  band = record { 0 = 128 };
+  role = role.Ordinary;
+  weight = defaultWeight;
+  «quantum_ns» = 5000000;
+  «fair_backend» = b;
+  budget = option.None;
+}
 
 -- A budget of 2,000,000 in 10,000,000 with a burst of 1,000,000.
 abbrev share : SchedulingRole → SchedulingParameters
-share r = ofBudget (record { «budget_ns» = 2000000; «period_ns» = 10000000; «burst_ns» = 1000000 }) (record { 0 = 128 }) r
+share r =
+    ofBudget (record { «budget_ns» = 2000000; «period_ns» = 10000000; «burst_ns» = 1000000 }) (record { 0 = 128 }) r
 
 -- In this epoch with so much left of budget and burst.
 abbrev left : ℕ → ℕ → ℕ → PolicyRuntime
-left e remaining burst = runtime.Budget (record { epoch = epoch.Some e; «remaining_ns» = remaining; «burst_remaining_ns» = burst })
+left e remaining burst =
+    runtime.Budget (record { epoch = epoch.Some e; «remaining_ns» = remaining; «burst_remaining_ns» = burst })
 
 -- A table of one record with turn 5.
 abbrev one : SchedulingParameters → PolicyRuntime → List ThreadRecord
 one p r = thread p r 5 ∷ []
 
 abbrev idle : SchedulingParameters
-idle = record { policy = policy.Idle; band = record { 0 = 255 }; role = role.Ordinary; weight = defaultWeight; «quantum_ns» = 0; «fair_backend» = backend.Stride; budget = option.None }
+idle = record {
+  policy = policy.Idle;
+  band = record { 0 = 255 };
+  role = role.Ordinary;
+  weight = defaultWeight;
+  «quantum_ns» = 0;
+  «fair_backend» = backend.Stride;
+  budget = option.None;
+}
 
 -- In epoch 1 with 1,500,000 left of the allowance.
 abbrev begun : CpuWindow
-begun = record { config = window .config; epoch = epoch.Some 1; «priority_remaining_ns» = 1500000; «protected_remaining_ns» = 3000000 }
+begun =
+    record {
+      config = window .config;
+      epoch = epoch.Some 1;
+      «priority_remaining_ns» = 1500000;
+      «protected_remaining_ns» = 3000000;
+    }
 
 -- A key of urgency 2 with this rank, algorithm and turn.
 abbrev ranked : ℕ → ℕ → ℕ → DispatchKey
-ranked rank n turn = record { urgency = 2; rank = rank; «algorithm_rank» = 1; algorithm = record { high = 0; low = n }; band = 128; turn = turn }
+ranked rank n turn =
+    record {
+      urgency = 2;
+      rank = rank;
+      «algorithm_rank» = 1;
+      algorithm = record { high = 0; low = n };
+      band = 128;
+      turn = turn;
+    }
 
 -- Whether a thread with the key of rank 2, algorithm 10, turn 5 gives way to this key, by expiry and yielding.
 abbrev givesWay : SchedulingParameters → DispatchKey → Bool → Bool → ℕ
-givesWay p a expired yielding = bit (shouldSwitch (ready.Some a) (key.Some (ranked 2 10 5) mode.Ordinary) p expired yielding false)
+givesWay p a expired yielding =
+    bit (shouldSwitch (ready.Some a) (key.Some (ranked 2 10 5) mode.Ordinary) p expired yielding false)
 
 -- Somebody competes, with or without a budget peer, and nobody is ready.
 abbrev contention : Bool → Contention
-contention peer = record { competition = true; «budget_peer» = peer; ready = false; demand = record { protected = false; fair = false; «window_sensitive» = false; «eligible_budget» = true; «any_budget» = false } }
+contention peer = record {
+  competition = true;
+  «budget_peer» = peer;
+  ready = false;
+  demand =
+      record {
+        protected = false;
+        fair = false;
+        «window_sensitive» = false;
+        «eligible_budget» = true;
+        «any_budget» = false;
+      };
+}
 
 -- The deadline of a budget thread in this epoch with so much left, and 300 of its burst.
 abbrev dueFor : ℕ → ModeOption → ℕ → ℕ → Bool → List ℕ
-dueFor now m e remaining peer = dueSeen (refreshDeadline (one (share role.Ordinary) (left e remaining 300)) 0 now m window (contention peer))
+dueFor now m e remaining peer =
+    dueSeen (refreshDeadline (one (share role.Ordinary) (left e remaining 300)) 0 now m window (contention peer))
 
 -- ---- The rows.
 abbrev turnRows : List Row
 turnRows =
     -- Front placement takes a front turn only for FIFO. Others keep their turn unless it is 0.
-    row (takenSeen (turnFor true (fifo .policy) 5 newTurns)) (0 ∷ 9223372036854775807 ∷ 9223372036854775808 ∷ 9223372036854775807 ∷ [])
+    row (takenSeen (turnFor true (fifo .policy) 5 newTurns))
+    (0 ∷ 9223372036854775807 ∷ 9223372036854775808 ∷ 9223372036854775807 ∷ [])
     ∷ row (takenSeen (turnFor true policy.Fair 5 newTurns)) (0 ∷ 5 ∷ 9223372036854775808 ∷ 9223372036854775808 ∷ [])
-    ∷ row (takenSeen (turnFor true policy.Budget 0 newTurns)) (0 ∷ 9223372036854775808 ∷ 9223372036854775809 ∷ 9223372036854775808 ∷ [])
+    ∷ row (takenSeen (turnFor true policy.Budget 0 newTurns))
+    (0 ∷ 9223372036854775808 ∷ 9223372036854775809 ∷ 9223372036854775808 ∷ [])
     -- TurnsSpent: the front turn would be 0 or less, or the back turn is 2^64 - 1.
     ∷ row (takenSeen (turnFor true (fifo .policy) 5 (counters 7 2))) (0 ∷ 1 ∷ 7 ∷ 1 ∷ [])
     ∷ row (takenSeen (turnFor true (fifo .policy) 5 (counters 7 1))) (8 ∷ [])
-    ∷ row (takenSeen (turnFor false policy.Fair 5 (counters 18446744073709551614 1))) (0 ∷ 18446744073709551614 ∷ 18446744073709551615 ∷ 1 ∷ [])
+    ∷ row (takenSeen (turnFor false policy.Fair 5 (counters 18446744073709551614 1)))
+    (0 ∷ 18446744073709551614 ∷ 18446744073709551615 ∷ 1 ∷ [])
     ∷ row (takenSeen (turnFor false policy.Fair 5 (counters 18446744073709551615 1))) (8 ∷ [])
     -- Preparing refreshes a budget; where the turn is refused the refresh is not kept either.
-    ∷ row (preparedSeen (prepareEnqueue (one (share role.Ordinary) (left 0 0 1)) 0 true 10000000 newTurns)) (0 ∷ 9223372036854775808 ∷ 5 ∷ 2 ∷ some 1 ++ 2000000 ∷ 1 ∷ [])
-    ∷ row (preparedSeen (prepareEnqueue (one (share role.Ordinary) (left 0 0 1)) 0 false 10000000 (counters 18446744073709551615 1))) (8 ∷ 18446744073709551615 ∷ 5 ∷ 2 ∷ some 0 ++ 0 ∷ 1 ∷ [])
+    ∷ row (preparedSeen (prepareEnqueue (one (share role.Ordinary) (left 0 0 1)) 0 true 10000000 newTurns))
+    (0 ∷ 9223372036854775808 ∷ 5 ∷ 2 ∷ some 1 ++ 2000000 ∷ 1 ∷ [])
+    ∷ row (preparedSeen (prepareEnqueue (one (share role.Ordinary) (left 0 0 1)) 0 false 10000000
+    (counters 18446744073709551615 1))) (8 ∷ 18446744073709551615 ∷ 5 ∷ 2 ∷ some 0 ++ 0 ∷ 1 ∷ [])
     ∷ []
 
 abbrev accountRows : List Row
 accountRows =
-    -- A protected thread from 9,000,000 to 11,000,000: its budget is charged from the edge on, its burst whole, and a floor of 2,000,000 is left.
-    row (accountedSeen (accountCurrent (one (share role.Protected) (left 0 2000000 1000000)) 0 window mode.Ordinary 9000000 11000000)) (0 ∷ 2000000 ∷ 2000000 ∷ 2 ∷ some 1 ++ 1000000 ∷ 0 ∷ [])
+    -- A protected thread from 9,000,000 to 11,000,000: its budget is charged from the edge on, its burst whole, and a
+    -- floor of 2,000,000 is left.
+    row (accountedSeen (accountCurrent (one (share role.Protected) (left 0 2000000 1000000)) 0 window mode.Ordinary
+    9000000 11000000)) (0 ∷ 2000000 ∷ 2000000 ∷ 2 ∷ some 1 ++ 1000000 ∷ 0 ∷ [])
     -- BackInTime leaves record and window as they were.
-    ∷ row (accountedSeen (accountCurrent (one (share role.Protected) (left 0 2000000 1000000)) 0 window mode.Ordinary 2 1)) (7 ∷ 2000000 ∷ 3000000 ∷ 2 ∷ some 0 ++ 2000000 ∷ 1000000 ∷ [])
+    ∷ row (accountedSeen (accountCurrent (one (share role.Protected) (left 0 2000000 1000000)) 0 window mode.Ordinary 2
+    1)) (7 ∷ 2000000 ∷ 3000000 ∷ 2 ∷ some 0 ++ 2000000 ∷ 1000000 ∷ [])
     -- Idle is accepted; a Fair record's pass and slice stay, and the window is still charged.
-    ∷ row (accountedSeen (accountCurrent (one idle runtime.Idle) 0 window mode.Priority 11000000 11500000)) (0 ∷ 1500000 ∷ 3000000 ∷ 3 ∷ [])
-    ∷ row (accountedSeen (accountCurrent (one (fair backend.Stride) (runtime.Fair (record { pass = record { high = 0; low = 7 }; «remaining_ns» = 8 }))) 0 begun mode.Priority 11500000 11600000))
+    ∷ row (accountedSeen (accountCurrent (one idle runtime.Idle) 0 window mode.Priority 11000000 11500000))
+    (0 ∷ 1500000 ∷ 3000000 ∷ 3 ∷ [])
+    ∷ row (accountedSeen (accountCurrent
+    (one (fair backend.Stride) (runtime.Fair (record { pass = record { high = 0; low = 7 }; «remaining_ns» = 8 }))) 0
+    begun mode.Priority 11500000 11600000))
     (0 ∷ 1400000 ∷ 3000000 ∷ 1 ∷ 0 ∷ 7 ∷ 8 ∷ [])
     -- A turn that ends makes the burst whole.
     ∷ row (finishedSeen (finishTurn (one (share role.Ordinary) (left 0 5 0)) 0)) (0 ∷ 2 ∷ some 0 ++ 5 ∷ 1000000 ∷ [])
@@ -140,26 +198,42 @@ accountRows =
 
 abbrev switchRows : List Row
 switchRows =
-    -- A fair thread with an expired slice under Stride yields only to a lesser whole key: not to a greater or the same; and to any where it yields.
-    row (givesWay (fair backend.Stride) (ranked 2 11 5) true false ∷ givesWay (fair backend.Stride) (ranked 2 10 5) true false ∷ givesWay (fair backend.Stride) (ranked 2 9 5) true false
-    ∷ givesWay (fair backend.Stride) (ranked 2 10 4) true false ∷ givesWay (fair backend.Stride) (ranked 2 9 5) false false ∷ givesWay (fair backend.Stride) (ranked 2 11 5) false true ∷ [])
+    -- A fair thread with an expired slice under Stride yields only to a lesser whole key: not to a greater or the same;
+    -- and to any where it yields.
+    row (givesWay (fair backend.Stride) (ranked 2 11 5) true false
+    ∷ givesWay (fair backend.Stride) (ranked 2 10 5) true false
+    ∷ givesWay (fair backend.Stride) (ranked 2 9 5) true false
+    ∷ givesWay (fair backend.Stride) (ranked 2 10 4) true false
+    ∷ givesWay (fair backend.Stride) (ranked 2 9 5) false false
+    ∷ givesWay (fair backend.Stride) (ranked 2 11 5) false true ∷ [])
     (0 ∷ 0 ∷ 1 ∷ 1 ∷ 0 ∷ 1 ∷ [])
-    -- Round robin yields on equal urgency, rank and algorithm rank: not while its slice lasts, nor to a lower rank, unless it yields; and to a higher rank always.
-    ∷ row (givesWay (fair backend.RoundRobin) (ranked 2 99 99) true false ∷ givesWay (fair backend.RoundRobin) (ranked 2 99 99) false false ∷ givesWay (fair backend.RoundRobin) (ranked 3 9 5) true false
-    ∷ givesWay (fair backend.RoundRobin) (ranked 3 9 5) false true ∷ givesWay (fair backend.RoundRobin) (ranked 1 99 99) false false ∷ []) (1 ∷ 0 ∷ 0 ∷ 1 ∷ 1 ∷ [])
-    -- A yielding FIFO thread gives way to an equal priority alone; a budget thread whose burst is spent to an equal band.
-    ∷ row (givesWay fifo (ranked 2 10 5) false true ∷ givesWay fifo (ranked 2 11 5) false true ∷ givesWay fifo (ranked 2 9 5) false false ∷ givesWay (share role.Ordinary) (ranked 2 99 99) true false ∷ []) (1 ∷ 0 ∷ 1 ∷ 1 ∷ [])
+    -- Round robin yields on equal urgency, rank and algorithm rank: not while its slice lasts, nor to a lower rank,
+    -- unless it yields; and to a higher rank always.
+    ∷ row (givesWay (fair backend.RoundRobin) (ranked 2 99 99) true false ∷ givesWay (fair backend.RoundRobin)
+    (ranked 2 99 99) false false ∷ givesWay (fair backend.RoundRobin) (ranked 3 9 5) true false
+    ∷ givesWay (fair backend.RoundRobin) (ranked 3 9 5) false true ∷ givesWay (fair backend.RoundRobin)
+    (ranked 1 99 99) false false ∷ []) (1 ∷ 0 ∷ 0 ∷ 1 ∷ 1 ∷ [])
+    -- A yielding FIFO thread gives way to an equal priority alone; a budget thread whose burst is spent to an equal
+    -- band.
+    ∷ row (givesWay fifo (ranked 2 10 5) false true ∷ givesWay fifo (ranked 2 11 5) false true
+    ∷ givesWay fifo (ranked 2 9 5) false false ∷ givesWay (share role.Ordinary) (ranked 2 99 99) true false ∷ [])
+    (1 ∷ 0 ∷ 1 ∷ 1 ∷ [])
     -- No ready thread, no switch; no key of its own, a switch.
-    ∷ row (bit (shouldSwitch ready.None (key.Some (ranked 2 10 5) mode.Ordinary) (fair backend.Stride) true true true) ∷ bit (shouldSwitch (ready.Some (ranked 3 1 1)) key.None (fair backend.Stride) false false false) ∷ [])
+    ∷ row (bit (shouldSwitch ready.None (key.Some (ranked 2 10 5) mode.Ordinary) (fair backend.Stride) true true true)
+    ∷ bit (shouldSwitch (ready.Some (ranked 3 1 1)) key.None (fair backend.Stride) false false false) ∷ [])
     (0 ∷ 1 ∷ [])
     ∷ []
 
 abbrev deadlineRows : List Row
 deadlineRows =
-    -- Without a budget peer a budget thread runs until its time is spent or its period ends; with one, at most its burst.
-    row (dueFor 1000 (modes.Some mode.Ordinary) 0 500 false ++ dueFor 1000 (modes.Some mode.Ordinary) 0 500 true ++ dueFor 9999900 (modes.Some mode.Ordinary) 0 500 false) (some 1500 ++ some 1300 ++ some 10000000)
-    -- Near 2^64 the period's end does not fit: without a budget peer it saturates and the expiry stands; with one there is no deadline.
-    ∷ row (dueFor 18446744073709551605 (modes.Some mode.Ordinary) 1844674407370 5 false ++ dueFor 18446744073709551605 (modes.Some mode.Ordinary) 1844674407370 5 true) (some 18446744073709551610 ++ none)
+    -- Without a budget peer a budget thread runs until its time is spent or its period ends; with one, at most its
+    -- burst.
+    row (dueFor 1000 (modes.Some mode.Ordinary) 0 500 false ++ dueFor 1000 (modes.Some mode.Ordinary) 0 500 true
+    ++ dueFor 9999900 (modes.Some mode.Ordinary) 0 500 false) (some 1500 ++ some 1300 ++ some 10000000)
+    -- Near 2^64 the period's end does not fit: without a budget peer it saturates and the expiry stands; with one there
+    -- is no deadline.
+    ∷ row (dueFor 18446744073709551605 (modes.Some mode.Ordinary) 1844674407370 5 false ++ dueFor 18446744073709551605
+    (modes.Some mode.Ordinary) 1844674407370 5 true) (some 18446744073709551610 ++ none)
     -- Without a key it is now, where anybody competes.
     ∷ row (dueFor 77 modes.None 0 0 false) (some 77)
     ∷ []

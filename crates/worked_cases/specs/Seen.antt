@@ -16,7 +16,7 @@ use Rattle.thread.specs.declared.QueueMembership.the-variants as membership
 use Rattle.thread.specs.declared.ThreadQueue.{ThreadQueue}
 use Rattle.thread.specs.declared.ThreadRecord.{ThreadRecord}
 use Rattle.rows.specs.Table.{recordOf}
-use Rattle.queue.specs.declared.CpuRunQueue.{CpuRunQueue}
+use Rattle.queue.specs.RunQueue.{CpuRunQueue}
 use Rattle.queue.specs.Queue.{realTimeLen, fairLen, budgetLen, rootOf}
 use Rattle.worked_cases.specs.Rows.{bit}
 
@@ -60,7 +60,9 @@ runtimeSeen (runtime.Budget b) = 2 ∷ budgetSeen b
 runtimeSeen runtime.Idle = 3 ∷ []
 
 abbrev recordSeen : ThreadRecord → List ℕ
-recordSeen r = runtimeSeen (r .runtime) ++ r .«ready_turn» ∷ linksSeen (r .«ready_tree») ++ queueLinksSeen (r .«queue_links») ++ r .cpu .0 ∷ []
+recordSeen r =
+    runtimeSeen (r .runtime) ++ r .«ready_turn» ∷ linksSeen (r .«ready_tree») ++ queueLinksSeen (r .«queue_links»)
+    ++ r .cpu .0 ∷ []
 
 abbrev pub tableSeen : List ThreadRecord → List ℕ
 tableSeen [] = []
@@ -92,7 +94,8 @@ rootsSeen (k ∷ rest) q = linkSeen (rootOf q k) ++ rootsSeen rest q
 -- All lists, lengths and roots, the epoch and the mark.
 abbrev pub queueSeen : CpuRunQueue → List ℕ
 queueSeen q =
-    listsSeen (q .realtime) ++ listSeen (q .fair) ++ lengthsSeen q ++ rootsSeen (0 ∷ 1 ∷ 2 ∷ 3 ∷ 4 ∷ 5 ∷ 6 ∷ 7 ∷ 8 ∷ 9 ∷ 10 ∷ 11 ∷ []) q
+    listsSeen (q .realtime) ++ listSeen (q .fair) ++ lengthsSeen q
+    ++ rootsSeen (0 ∷ 1 ∷ 2 ∷ 3 ∷ 4 ∷ 5 ∷ 6 ∷ 7 ∷ 8 ∷ 9 ∷ 10 ∷ 11 ∷ []) q
     ++ epochSeen (q .«budget_epoch») ++ bit (q .halted) ∷ []
 
 -- ---- A window: its epoch and what remains of the allowance and of the floor.

@@ -19,7 +19,14 @@ use Rattle.worked_cases.specs.Seen.{linkSeen, linksSeen}
 
 -- A FIFO record whose turn decides among those of one priority.
 abbrev turning : ℕ → ThreadRecord
-turning n = record { parameters = ofFifo (record { 0 = 1 }) (record { 0 = 1 }) role.Ordinary; runtime = runtime.Fifo; «ready_turn» = n; «ready_tree» = emptyLinks; «queue_links» = emptyQueueLinks; cpu = record { 0 = 0 } }
+turning n = record {
+  parameters = ofFifo (record { 0 = 1 }) (record { 0 = 1 }) role.Ordinary;
+  runtime = runtime.Fifo;
+  «ready_turn» = n;
+  «ready_tree» = emptyLinks;
+  «queue_links» = emptyQueueLinks;
+  cpu = record { 0 = 0 };
+}
 
 -- Records 0 to 7, the turn of each its number.
 abbrev eight : List ThreadRecord

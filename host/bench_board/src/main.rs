@@ -1,10 +1,16 @@
-//! The calls of a board on both sides: `bench_board --side port|rust --call CALL --kind KIND --queued N --calls C`, for counts of instructions, and `bench_board --times N`, for nanoseconds.
+//! The calls of a board on both sides: `bench_board --side port|rust --call CALL --kind KIND --queued N --calls C`, for
+//! counts of instructions, and `bench_board --times N`, for nanoseconds.
 //!
-//! SIDE is port (the port's exported entries, on lent words and rows) or rust (the kernel's Rust on its own queue and records, through its own access). CALL is turns (one thread is removed and enqueued again), front (the same at
-//! the front), select (selections within one period, a thread removed and enqueued between), period (each selection in another period, no thread exhausted), renewal (a selection at a change of period with every
-//! budget thread exhausted, each on a queue of its own) or cycle (a whole cycle of a board within one period, every thread but the running one prepared and enqueued before). KIND is stride (every thread in one tree), mixed (every policy and role) or budget. Threads and order of
-//! calls are the same for both sides, and so is what is printed: all numbers of named threads and deadlines together. `instructions` counts what the functions `bench_..` take. With --times each row is run on both sides, one after the
-//! other, N times; printed are the ratio of both sides' fastest runs, which other work on the machine disturbs least, and the median of the ratios of neighbouring runs with the least and the greatest.
+//! SIDE is port (the port's exported entries, on lent words and rows) or rust (the kernel's Rust on its own queue and
+//! records, through its own access). CALL is turns (one thread is removed and enqueued again), front (the same at the
+//! front), select (selections within one period, a thread removed and enqueued between), period (each selection in
+//! another period, no thread exhausted), renewal (a selection at a change of period with every budget thread exhausted,
+//! each on a queue of its own) or cycle (a whole cycle of a board within one period, every thread but the running one
+//! prepared and enqueued before). KIND is stride (every thread in one tree), mixed (every policy and role) or budget.
+//! Threads and order of calls are the same for both sides, and so is what is printed: all numbers of named threads and
+//! deadlines together. `instructions` counts what the functions `bench_..` take. With --times each row is run on both
+//! sides, one after the other, N times; printed are the ratio of both sides' fastest runs, which other work on the
+//! machine disturbs least, and the median of the ratios of neighbouring runs with the least and the greatest.
 
 mod sides;
 
@@ -230,7 +236,8 @@ fn main() -> ExitCode {
         Some(()) => ExitCode::SUCCESS,
         None => {
             eprintln!(
-                "usage: bench_board --side port|rust --call turns|front|select|period|renewal|cycle --kind stride|mixed|budget --queued N --calls C, or --times N"
+                "usage: bench_board --side port|rust --call turns|front|select|period|renewal|cycle --kind \
+                stride|mixed|budget --queued N --calls C, or --times N"
             );
             ExitCode::from(2)
         }

@@ -1,4 +1,5 @@
-//! The two sides of the benchmark: the port through its exported entries, and the kernel's Rust on its own queue and records, through its own access.
+//! The two sides of the benchmark: the port through its exported entries, and the kernel's Rust on its own queue and
+//! records, through its own access.
 
 use kernel::oracle::*;
 use tables::rows::row_of;
@@ -24,8 +25,9 @@ pub trait Side {
     fn remove(&mut self, id: u64);
     /// The number of the thread that a selection with no current thread names.
     fn select(&mut self, now: u64) -> u64;
-    /// A whole cycle up to a reading: the running thread is charged, selection and the switch rule choose, with a running thread that yields; whoever gives way is prepared and enqueued, the chosen one
-    /// removed; the deadline is chosen. The thread that then runs, and the deadline.
+    /// A whole cycle up to a reading: the running thread is charged, selection and the switch rule choose, with a
+    /// running thread that yields; whoever gives way is prepared and enqueued, the chosen one removed; the deadline is
+    /// chosen. The thread that then runs, and the deadline.
     fn cycle(&mut self, now: u64) -> (u64, u64);
 }
 
@@ -58,7 +60,7 @@ impl Port {
         made(board::select(
             queue, rows, path, 0, now, window, 1, current, answer,
         ));
-        let demand = &answer[11..16];
+        let demand = board::demand_in(answer);
         made(board::key(window, now, current, demand, &mut self.key));
     }
 
@@ -66,7 +68,7 @@ impl Port {
     fn choose(&mut self) -> [u64; 2] {
         let (mut expired, mut choice) = ([0], [0; 2]);
         made(board::expired(&self.rows, self.running, &mut expired));
-        let (ready, current) = (&self.answer[..9], &self.current);
+        let (ready, current) = (board::ready_in(&self.answer), &self.current);
         made(board::switch(
             ready,
             &self.key,
@@ -112,7 +114,7 @@ impl Port {
             lengths[0] + lengths[1],
             lengths[2],
             self.answer[0],
-            &self.answer[11..16],
+            board::demand_in(&self.answer),
             &mut due,
         ));
         due[1]

@@ -1,8 +1,9 @@
-//! A tree of N nodes, from which a thread is removed and inserted again, C times: `bench_rows --side SIDE --nodes N --calls C`,
-//! with `--kind fifo|stride|round-robin|budget` for the records' policy (stride where it is not given).
+//! A tree of N nodes, from which a thread is removed and inserted again, C times: `bench_rows --side SIDE --nodes N
+//! --calls C`, with `--kind fifo|stride|round-robin|budget` for the records' policy (stride where it is not given).
 //!
-//! SIDE is port (the port through C, on rows), rust (the kernel's Rust over a slice of nodes with their keys stored) or records (the
-//! kernel's Rust over its own records, whose keys it reads by `ready_index_key`). Keys and order of calls are the same for all;
+//! SIDE is port (the port through C, on rows), rust (the kernel's Rust over a slice of nodes with their keys stored) or
+//! records (the kernel's Rust over its own records, whose keys it reads by `ready_index_key`). Keys and order of calls
+//! are the same for all;
 //! `instructions` counts what `bench_insert` and `bench_remove` take.
 
 #[path = "../../compare_rows/src/calls.rs"]

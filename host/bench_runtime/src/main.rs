@@ -1,8 +1,10 @@
 //! One call on a table of 16 threads, C times: `bench_runtime --side port|rust --call CALL --kind KIND --calls C`.
 //!
-//! SIDE is port (the port through C, on lent rows and words) or rust (the kernel's Rust on its own records). CALL is prepare (`prepare_enqueue`), account (`account_current`),
-//! switch (`choose_ready` for a given selection, so with the current candidate, its key and whether its turn expired), deadline (`refresh_deadline` for a given selection, so
-//! with the current candidate and its key) or finish (`finish_turn`). KIND is the running thread's policy: fifo, fair or budget. `instructions` counts what `bench_call` takes.
+//! SIDE is port (the port through C, on lent rows and words) or rust (the kernel's Rust on its own records). CALL is
+//! prepare (`prepare_enqueue`), account (`account_current`), switch (`choose_ready` for a given selection, so with the
+//! current candidate, its key and whether its turn expired), deadline (`refresh_deadline` for a given selection, so
+//! with the current candidate and its key) or finish (`finish_turn`). KIND is the running thread's policy: fifo, fair
+//! or budget. `instructions` counts what `bench_call` takes.
 
 use std::env;
 use std::hint::black_box;
@@ -101,6 +103,7 @@ trait Side {
     fn call(&mut self, call: Call, reading: u64) -> u64;
 }
 
+/// What a board keeps and lends.
 struct Port {
     rows: Vec<Row>,
     window: WindowWords,
@@ -108,34 +111,38 @@ struct Port {
     last: u64,
     ready: KeyWords,
     demand: DemandWords,
+    current: Row,
+    key: KeyWords,
 }
 
 impl Port {
     /// The current candidate and its key, as a board asks for them.
-    fn key(&mut self, reading: u64) -> KeyWords {
-        let (mut row, mut key) = ([0; 32], [0; 9]);
-        board::candidate(&mut self.rows, 0, 1, reading, &mut row);
-        board::key(&mut self.window, reading, &row, &self.demand, &mut key);
-        key
+    fn look(&mut self, reading: u64) {
+        let (window, current) = (&mut self.window, &mut self.current);
+        board::candidate(&mut self.rows, 0, 1, reading, current);
+        board::key(window, reading, current, &self.demand, &mut self.key);
     }
 
+    // Apart from the small calls, as the source's are, so that these do not set up its frame.
+    #[inline(never)]
     fn switch(&mut self, reading: u64) -> u64 {
-        let key = self.key(reading);
+        self.look(reading);
         let (mut expired, mut choice) = ([0; 1], [0; 2]);
         board::expired(&self.rows, 0, &mut expired);
         let row = &self.rows[0];
-        board::switch(&self.ready, &key, row, expired[0], 0, 0, &mut choice);
+        board::switch(&self.ready, &self.key, row, expired[0], 0, 0, &mut choice);
         if expired[0] != 0 {
             board::finish(&mut self.rows, 0);
         }
         choice[0]
     }
 
+    #[inline(never)]
     fn deadline(&mut self, reading: u64) -> u64 {
-        let key = self.key(reading);
+        self.look(reading);
         let mut due = [0; 2];
         let (rows, window, demand) = (&mut self.rows, &mut self.window, &self.demand);
-        board::deadline(rows, 0, reading, &key, window, 1, 1, 1, demand, &mut due);
+        board::deadline(rows, 0, reading, &self.key, window, 1, 1, 1, demand, &mut due);
         due[1]
     }
 }
@@ -151,6 +158,8 @@ impl Side for Port {
             last: 0,
             ready,
             demand: demand_words(DEMAND),
+            current: [0; 32],
+            key: [0; 9],
         }
     }
 
@@ -235,7 +244,8 @@ fn main() -> ExitCode {
         }
         None => {
             eprintln!(
-                "usage: bench_runtime --side port|rust --call prepare|account|switch|deadline|finish --kind fifo|fair|budget --calls C"
+                "usage: bench_runtime --side port|rust --call prepare|account|switch|deadline|finish --kind \
+                fifo|fair|budget --calls C"
             );
             ExitCode::from(2)
         }

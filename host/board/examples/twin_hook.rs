@@ -1,5 +1,7 @@
-//! The calls of a board from Rust: one protected sway loop of either hook and a drive loop on one processor. The drive runs first; from 7,000,000 on the floor of 3,000,000 is all that is left of the period, so the
-//! loops are due, and the one that waited longer is named. `cargo run --example twin_hook`; what it prints stands in twin_hook.txt beside it.
+//! The calls of a board from Rust: one protected sway loop of either hook and a drive loop on one processor. The drive
+//! runs first; from 7,000,000 on the floor of 3,000,000 is all that is left of the period, so the loops are due, and
+//! the one that waited longer is named. `cargo run --example twin_hook`; what it prints stands in twin_hook.txt beside
+//! it.
 
 use board::{Path, QueueWords, Row, SelectionWords, WindowWords};
 
@@ -52,6 +54,7 @@ fn main() {
     println!("enqueue {} again: {again}", NAMES[1]);
     let beyond = board::remove(&mut queue, &mut table, &mut path, 3, 0);
     println!("remove thread 3: {beyond}");
-    let short = board::prepare(&mut table, 0, 0, 0, &mut turns[..1]);
-    println!("prepare with one counter: {short}");
+    let falling = [10_000_000, 2_000_000, 3_000_000, 0, 2, 1, 3, 0];
+    let unsound = board::window(&mut window, &falling);
+    println!("window whose ranks do not rise: {unsound}");
 }

@@ -1,6 +1,10 @@
-//! The C calls as crates/board exports them. A slice goes as its address and its length.
+//! The C calls as crates/board exports them. The table goes as its address and its count of rows, an array as its
+//! address.
 
-use crate::{Path, QueueWords, Row};
+use crate::{
+    ChoiceWords, ConfigWords, DeadlineWords, DemandWords, FlagWord, KeyWords, LengthWords, Path, QueueWords, Row,
+    SelectionWords, TurnWords, WindowWords,
+};
 
 unsafe extern "C" {
     pub fn board_new(q: *mut QueueWords) -> u64;
@@ -28,13 +32,8 @@ unsafe extern "C" {
         id: u64,
         cpu: u8,
     ) -> u64;
-    pub fn board_lengths(q: *const QueueWords, answer: *mut u64, answer_len: usize) -> u64;
-    pub fn board_window(
-        window: *mut u64,
-        window_len: usize,
-        config: *const u64,
-        config_len: usize,
-    ) -> u64;
+    pub fn board_lengths(q: *const QueueWords, answer: *mut LengthWords) -> u64;
+    pub fn board_window(window: *mut WindowWords, config: *const ConfigWords) -> u64;
     pub fn board_select(
         q: *mut QueueWords,
         t: *mut Row,
@@ -42,13 +41,10 @@ unsafe extern "C" {
         path: *mut Path,
         cpu: u8,
         now_ns: u64,
-        window: *mut u64,
-        window_len: usize,
+        window: *mut WindowWords,
         running: u64,
-        current: *const u64,
-        current_len: usize,
-        answer: *mut u64,
-        answer_len: usize,
+        current: *const Row,
+        answer: *mut SelectionWords,
     ) -> u64;
     pub fn board_prepare(
         t: *mut Row,
@@ -56,15 +52,13 @@ unsafe extern "C" {
         id: u64,
         front: u64,
         now_ns: u64,
-        turns: *mut u64,
-        turns_len: usize,
+        turns: *mut TurnWords,
     ) -> u64;
     pub fn board_account(
         t: *mut Row,
         rows: usize,
         id: u64,
-        window: *mut u64,
-        window_len: usize,
+        window: *mut WindowWords,
         mode: u64,
         start: u64,
         end: u64,
@@ -75,56 +69,37 @@ unsafe extern "C" {
         id: u64,
         running: u64,
         now_ns: u64,
-        current: *mut u64,
-        current_len: usize,
+        current: *mut Row,
     ) -> u64;
-    pub fn board_expired(
-        t: *const Row,
-        rows: usize,
-        id: u64,
-        answer: *mut u64,
-        answer_len: usize,
-    ) -> u64;
+    pub fn board_expired(t: *const Row, rows: usize, id: u64, answer: *mut FlagWord) -> u64;
     pub fn board_finish(t: *mut Row, rows: usize, id: u64) -> u64;
     pub fn board_key(
-        window: *mut u64,
-        window_len: usize,
+        window: *mut WindowWords,
         now_ns: u64,
-        current: *const u64,
-        current_len: usize,
-        demand: *const u64,
-        demand_len: usize,
-        key: *mut u64,
-        key_len: usize,
+        current: *const Row,
+        demand: *const DemandWords,
+        key: *mut KeyWords,
     ) -> u64;
     pub fn board_switch(
-        ready: *const u64,
-        ready_len: usize,
-        key: *const u64,
-        key_len: usize,
-        current: *const u64,
-        current_len: usize,
+        ready: *const KeyWords,
+        key: *const KeyWords,
+        current: *const Row,
         expired: u64,
         yielding: u64,
         tail: u64,
-        answer: *mut u64,
-        answer_len: usize,
+        answer: *mut ChoiceWords,
     ) -> u64;
     pub fn board_deadline(
         t: *mut Row,
         rows: usize,
         id: u64,
         now_ns: u64,
-        key: *const u64,
-        key_len: usize,
-        window: *mut u64,
-        window_len: usize,
+        key: *const KeyWords,
+        window: *mut WindowWords,
         competition: u64,
         budget_peer: u64,
         ready: u64,
-        demand: *const u64,
-        demand_len: usize,
-        answer: *mut u64,
-        answer_len: usize,
+        demand: *const DemandWords,
+        answer: *mut DeadlineWords,
     ) -> u64;
 }

@@ -1,6 +1,7 @@
-//! The calls of crates/board as safe functions on slices and arrays. Each answers document 01's number, 0 where the call was made; a slice of another length than its type below is answered
-//! with 10 and left as it is. What the words stand for: a row crates/codec/specs/Codec.antt; a window, candidate, demand and key crates/window_words/specs/WindowWords.antt; a selection, counters and
-//! a choice crates/board_words/specs/BoardWords.antt; a queue crates/lent_queue/specs/LentQueue.antt.
+//! The calls of crates/board as safe functions on slices and arrays. Each answers document 01's number, 0 where the
+//! call was made. What the words stand for: a row crates/codec/specs/Codec.antt; a window, candidate, demand and key
+//! crates/window_words/specs/WindowWords.antt; a selection, counters and a choice
+//! crates/board_words/specs/BoardWords.antt; a queue crates/lent_queue/specs/LentQueue.antt.
 
 mod declared;
 
@@ -16,11 +17,33 @@ pub type ConfigWords = [u64; 8];
 pub type WindowWords = [u64; 12];
 pub type DemandWords = [u64; 5];
 pub type KeyWords = [u64; 9];
-/// Whether a thread is named, its number, its key in seven, its policy in two; the demand's five; whether there is a lowest fair pass, its two halves. Words 0 to 8 serve as a ready key,
-/// 11 to 15 as a demand.
+/// Whether a thread is named, its number, its key in seven, its policy in two; the demand's five; whether there is a
+/// lowest fair pass, its two halves.
 pub type SelectionWords = [u64; 19];
+/// The counters at the back and at the front.
+pub type TurnWords = [u64; 2];
+/// How many FIFO threads, Fair and Budget ones together, and Budget ones are queued.
+pub type LengthWords = [u64; 3];
+/// Whether to switch, and whether the current thread then goes to the front.
+pub type ChoiceWords = [u64; 2];
+/// Whether there is a deadline, and when.
+pub type DeadlineWords = [u64; 2];
+pub type FlagWord = [u64; 1];
 
-// Each call takes plain numbers, arrays by address and slices by address and length; it keeps none of them and is total.
+/// A selection's thread as the ready thread of `switch`.
+#[inline]
+pub fn ready_in(selection: &SelectionWords) -> &KeyWords {
+    selection.first_chunk().expect("19 words begin with 9")
+}
+
+/// A selection's demand.
+#[inline]
+pub fn demand_in(selection: &SelectionWords) -> &DemandWords {
+    selection[11..].first_chunk().expect("5 words after 11 of 19")
+}
+
+// Each call takes plain numbers, arrays by address and the table by address and count; it keeps none of them and is
+// total.
 
 /// `CpuRunQueue::new`
 #[inline]
@@ -50,22 +73,21 @@ pub fn remove(q: &mut QueueWords, t: &mut [Row], path: &mut Path, id: u64, cpu: 
     unsafe { board_remove(q, t.as_mut_ptr(), t.len(), path, id, cpu) }
 }
 
-/// `CpuRunQueue::real_time_len`, `fair_len` and `budget_len`, into three words.
+/// `CpuRunQueue::real_time_len`, `fair_len` and `budget_len`.
 #[inline]
-pub fn lengths(q: &QueueWords, answer: &mut [u64]) -> u64 {
-    // SAFETY: addresses and length are those of what is lent.
-    unsafe { board_lengths(q, answer.as_mut_ptr(), answer.len()) }
+pub fn lengths(q: &QueueWords, answer: &mut LengthWords) -> u64 {
+    // SAFETY: addresses are those of what is lent.
+    unsafe { board_lengths(q, answer) }
 }
 
-/// `ArbitrationConfig::new`, then `CpuWindow::new`: a `WindowWords` of a `ConfigWords`.
+/// `ArbitrationConfig::new`, then `CpuWindow::new`.
 #[inline]
-pub fn window(window: &mut [u64], config: &[u64]) -> u64 {
-    let (w, w_len) = (window.as_mut_ptr(), window.len());
-    // SAFETY: addresses and lengths are those of what is lent.
-    unsafe { board_window(w, w_len, config.as_ptr(), config.len()) }
+pub fn window(window: &mut WindowWords, config: &ConfigWords) -> u64 {
+    // SAFETY: addresses are those of what is lent.
+    unsafe { board_window(window, config) }
 }
 
-/// `CpuRunQueue::peek_next`: a `WindowWords`, a candidate's `Row` where `running` is not 0, and a `SelectionWords`.
+/// `CpuRunQueue::peek_next`, with a candidate where `running` is not 0.
 #[allow(clippy::too_many_arguments)]
 #[inline]
 pub fn select(
@@ -74,52 +96,53 @@ pub fn select(
     path: &mut Path,
     cpu: u8,
     now_ns: u64,
-    window: &mut [u64],
+    window: &mut WindowWords,
     running: u64,
-    current: &[u64],
-    answer: &mut [u64],
+    current: &Row,
+    answer: &mut SelectionWords,
 ) -> u64 {
-    let (w, w_len) = (window.as_mut_ptr(), window.len());
-    let (c, c_len) = (current.as_ptr(), current.len());
-    let (a, a_len) = (answer.as_mut_ptr(), answer.len());
     let (rows, count) = (t.as_mut_ptr(), t.len());
-    // SAFETY: addresses, count and lengths are those of what is lent.
+    // SAFETY: addresses and count are those of what is lent.
     unsafe {
         board_select(
-            q, rows, count, path, cpu, now_ns, w, w_len, running, c, c_len, a, a_len,
+            q, rows, count, path, cpu, now_ns, window, running, current, answer,
         )
     }
 }
 
-/// `prepare_enqueue`, with the counters at the back and at the front.
+/// `prepare_enqueue`
 #[inline]
-pub fn prepare(t: &mut [Row], id: u64, front: u64, now_ns: u64, turns: &mut [u64]) -> u64 {
-    let (c, c_len) = (turns.as_mut_ptr(), turns.len());
-    // SAFETY: addresses, count and length are those of what is lent.
-    unsafe { board_prepare(t.as_mut_ptr(), t.len(), id, front, now_ns, c, c_len) }
+pub fn prepare(t: &mut [Row], id: u64, front: u64, now_ns: u64, turns: &mut TurnWords) -> u64 {
+    // SAFETY: addresses and count are those of what is lent.
+    unsafe { board_prepare(t.as_mut_ptr(), t.len(), id, front, now_ns, turns) }
 }
 
-/// `account_current` on a `WindowWords`.
+/// `account_current`
 #[inline]
-pub fn account(t: &mut [Row], id: u64, window: &mut [u64], mode: u64, start: u64, end: u64) -> u64 {
-    let (w, w_len) = (window.as_mut_ptr(), window.len());
-    // SAFETY: addresses, count and length are those of what is lent.
-    unsafe { board_account(t.as_mut_ptr(), t.len(), id, w, w_len, mode, start, end) }
+pub fn account(
+    t: &mut [Row],
+    id: u64,
+    window: &mut WindowWords,
+    mode: u64,
+    start: u64,
+    end: u64,
+) -> u64 {
+    // SAFETY: addresses and count are those of what is lent.
+    unsafe { board_account(t.as_mut_ptr(), t.len(), id, window, mode, start, end) }
 }
 
-/// `current_candidate`: a candidate's `Row`, which stays where the thread is not running.
+/// `current_candidate`: the candidate's row stays where the thread is not running.
 #[inline]
-pub fn candidate(t: &mut [Row], id: u64, running: u64, now_ns: u64, current: &mut [u64]) -> u64 {
-    let (c, c_len) = (current.as_mut_ptr(), current.len());
-    // SAFETY: addresses, count and length are those of what is lent.
-    unsafe { board_candidate(t.as_mut_ptr(), t.len(), id, running, now_ns, c, c_len) }
+pub fn candidate(t: &mut [Row], id: u64, running: u64, now_ns: u64, current: &mut Row) -> u64 {
+    // SAFETY: addresses and count are those of what is lent.
+    unsafe { board_candidate(t.as_mut_ptr(), t.len(), id, running, now_ns, current) }
 }
 
-/// `expired`, into one word.
+/// `expired`
 #[inline]
-pub fn expired(t: &[Row], id: u64, answer: &mut [u64]) -> u64 {
-    // SAFETY: addresses, count and length are those of what is lent.
-    unsafe { board_expired(t.as_ptr(), t.len(), id, answer.as_mut_ptr(), answer.len()) }
+pub fn expired(t: &[Row], id: u64, answer: &mut FlagWord) -> u64 {
+    // SAFETY: addresses and count are those of what is lent.
+    unsafe { board_expired(t.as_ptr(), t.len(), id, answer) }
 }
 
 /// `finish_turn`
@@ -129,84 +152,64 @@ pub fn finish(t: &mut [Row], id: u64) -> u64 {
     unsafe { board_finish(t.as_mut_ptr(), t.len(), id) }
 }
 
-/// `candidate_key`: the `KeyWords` of a candidate's `Row` under a `DemandWords`, by a `WindowWords`.
+/// `candidate_key`: the key of a candidate under a demand, by a window.
 #[inline]
 pub fn key(
-    window: &mut [u64],
+    window: &mut WindowWords,
     now_ns: u64,
-    current: &[u64],
-    demand: &[u64],
-    key: &mut [u64],
+    current: &Row,
+    demand: &DemandWords,
+    key: &mut KeyWords,
 ) -> u64 {
-    let (w, w_len) = (window.as_mut_ptr(), window.len());
-    let (c, c_len) = (current.as_ptr(), current.len());
-    let (d, d_len) = (demand.as_ptr(), demand.len());
-    let (k, k_len) = (key.as_mut_ptr(), key.len());
-    // SAFETY: addresses and lengths are those of what is lent.
-    unsafe { board_key(w, w_len, now_ns, c, c_len, d, d_len, k, k_len) }
+    // SAFETY: addresses are those of what is lent.
+    unsafe { board_key(window, now_ns, current, demand, key) }
 }
 
-/// The switch rule of `choose_ready` on two `KeyWords` and the current thread's `Row`: whether to switch and whether the current thread then goes to the front, into two words.
+/// The switch rule of `choose_ready` on two keys and the current thread's row.
 #[inline]
 pub fn switch(
-    ready: &[u64],
-    key: &[u64],
-    current: &[u64],
+    ready: &KeyWords,
+    key: &KeyWords,
+    current: &Row,
     expired: u64,
     yielding: u64,
     tail: u64,
-    answer: &mut [u64],
+    answer: &mut ChoiceWords,
 ) -> u64 {
-    let (r, r_len) = (ready.as_ptr(), ready.len());
-    let (k, k_len) = (key.as_ptr(), key.len());
-    let (c, c_len) = (current.as_ptr(), current.len());
-    let (a, a_len) = (answer.as_mut_ptr(), answer.len());
-    // SAFETY: addresses and lengths are those of what is lent.
-    unsafe {
-        board_switch(
-            r, r_len, k, k_len, c, c_len, expired, yielding, tail, a, a_len,
-        )
-    }
+    // SAFETY: addresses are those of what is lent.
+    unsafe { board_switch(ready, key, current, expired, yielding, tail, answer) }
 }
 
-/// `refresh_deadline` with the current thread's `KeyWords`, a `WindowWords` and a `DemandWords`: whether there is a deadline, and when, into two words.
+/// `refresh_deadline` with the current thread's key.
 #[allow(clippy::too_many_arguments)]
 #[inline]
 pub fn deadline(
     t: &mut [Row],
     id: u64,
     now_ns: u64,
-    key: &[u64],
-    window: &mut [u64],
+    key: &KeyWords,
+    window: &mut WindowWords,
     competition: u64,
     budget_peer: u64,
     ready: u64,
-    demand: &[u64],
-    answer: &mut [u64],
+    demand: &DemandWords,
+    answer: &mut DeadlineWords,
 ) -> u64 {
     let (rows, count) = (t.as_mut_ptr(), t.len());
-    let (k, k_len) = (key.as_ptr(), key.len());
-    let (w, w_len) = (window.as_mut_ptr(), window.len());
-    let (d, d_len) = (demand.as_ptr(), demand.len());
-    let (a, a_len) = (answer.as_mut_ptr(), answer.len());
-    // SAFETY: addresses, count and lengths are those of what is lent.
+    // SAFETY: addresses and count are those of what is lent.
     unsafe {
         board_deadline(
             rows,
             count,
             id,
             now_ns,
-            k,
-            k_len,
-            w,
-            w_len,
+            key,
+            window,
             competition,
             budget_peer,
             ready,
-            d,
-            d_len,
-            a,
-            a_len,
+            demand,
+            answer,
         )
     }
 }

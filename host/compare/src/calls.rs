@@ -1,5 +1,6 @@
-//! The port's calls on lent words, of its crates record_entries and window_entries. What the words stand for: crates/policy_words/specs/PolicyWords.antt for
-//! parameters and runtime in a row, crates/window_words/specs/WindowWords.antt and crates/record_entries/specs/RecordWords.antt for the others.
+//! The port's calls on lent words, of its crates record_entries and window_entries. What the words stand for:
+//! crates/policy_words/specs/PolicyWords.antt for parameters and runtime in a row,
+//! crates/window_words/specs/WindowWords.antt and crates/record_entries/specs/RecordWords.antt for the others.
 
 pub type Row = [u64; 32];
 pub type ParametersWords = [u64; 11];

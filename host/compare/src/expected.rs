@@ -101,7 +101,8 @@ pub fn policy_runtime_new(params: Params, fair: Runtime) -> Answer<Runtime> {
     }
 }
 
-/// What the source makes of the kinds: given a sound budget, `account` takes an empty interval where they agree, and nothing else.
+/// What the source makes of the kinds: given a sound budget, `account` takes an empty interval where they agree, and
+/// nothing else.
 pub fn kinds_agree(runtime: Runtime, params: Params) -> bool {
     let sound = Budget {
         budget: 1,

@@ -1,4 +1,5 @@
-//! The port's calls on the oracle's plain values. A refusal is its number in document 01, and leaves the answer's words untouched.
+//! The port's calls on the oracle's plain values. A refusal is its number in document 01, and leaves the answer's words
+//! untouched.
 
 use core::cmp::Ordering;
 

@@ -1,4 +1,5 @@
-//! A whole board on both sides: table, queue, window and turn counters go from call to call, each side's own; after each call all of it is compared.
+//! A whole board on both sides: table, queue, window and turn counters go from call to call, each side's own; after
+//! each call all of it is compared.
 
 use compare_queue::board::Call;
 use compare_runtime::checks::{Decision, port_deadline, port_switch};

@@ -1,8 +1,11 @@
-//! Compares the port with the kernel's own Rust over calls mixed as on a board: `compare_board [--seed N] [--seconds S | --minutes M]`.
+//! Compares the port with the kernel's own Rust over calls mixed as on a board: `compare_board [--seed N] [--seconds S
+//! | --minutes M]`.
 //!
-//! Threads are prepared and enqueued, chosen by selection and the switch rule, removed, charged with the window, and their deadlines set, over one table, one queue, one window and one pair
-//! of turn counters that go from call to call; sound boards to 4,096 records, damaged and halted ones. After each call its answer, counters or window, the queue and every record are compared; where
-//! document 01 adds a refusal, it decides; where demand 3's premises hold, a scan over all queued threads judges the selection too. The last line is `differs 0`, or `differs N` with the first
+//! Threads are prepared and enqueued, chosen by selection and the switch rule, removed, charged with the window, and
+//! their deadlines set, over one table, one queue, one window and one pair of turn counters that go from call to call;
+//! sound boards to 4,096 records, damaged and halted ones. After each call its answer, counters or window, the queue
+//! and every record are compared; where document 01 adds a refusal, it decides; where demand 3's premises hold, a scan
+//! over all queued threads judges the selection too. The last line is `differs 0`, or `differs N` with the first
 //! differing inputs above it and exit code 1.
 
 mod board;

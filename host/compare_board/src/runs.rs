@@ -1,4 +1,5 @@
-//! Runs of a board: threads wake, run to a deadline or a wake, give way, wait; and calls that no board should make between.
+//! Runs of a board: threads wake, run to a deadline or a wake, give way, wait; and calls that no board should make
+//! between.
 
 use compare_queue::board::{Board as Sides, Call};
 use compare_queue::damaged::damage_record;
@@ -64,7 +65,8 @@ fn tick(tally: &mut Tally, random: &mut Random, board: &mut Board, deadline: Opt
     board.now = end;
 }
 
-/// A call that a board should not make: a number outside the table, a thread that is queued already or not at all, another processor, a bad window.
+/// A call that a board should not make: a number outside the table, a thread that is queued already or not at all,
+/// another processor, a bad window.
 fn stray(tally: &mut Tally, random: &mut Random, board: &mut Board) {
     let id = place(random, board.run.count());
     match random.below(4) {

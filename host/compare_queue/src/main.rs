@@ -1,8 +1,8 @@
 //! Compares the port's run queue with the kernel's own Rust: `compare_queue [--seed N] [--seconds S]`.
 //!
-//! First tables at their limits and a queue of 4,096, then seeded random runs for S seconds. After each call the answer, the queue and every record are
-//! compared; where document 01 adds a refusal, it decides. The last line is `differs 0`, or `differs N` with the first differing
-//! inputs above it and exit code 1.
+//! First tables at their limits and a queue of 4,096, then seeded random runs for S seconds. After each call the
+//! answer, the queue and every record are compared; where document 01 adds a refusal, it decides. The last line is
+//! `differs 0`, or `differs N` with the first differing inputs above it and exit code 1.
 
 use std::process::ExitCode;
 

@@ -1,4 +1,5 @@
-//! The port's calls on plain values. A refusal is its number in document 01; the root or the list is then the caller's old one.
+//! The port's calls on plain values. A refusal is its number in document 01; the root or the list is then the caller's
+//! old one.
 
 use kernel::oracle::{List, Membership};
 

@@ -1,4 +1,5 @@
-//! What the port must answer: the kernel's own answer, and document 01's numbers where the port judges what it is handed and the source does not.
+//! What the port must answer: the kernel's own answer, and document 01's numbers where the port judges what it is
+//! handed and the source does not.
 
 use kernel::oracle::*;
 

@@ -1,10 +1,10 @@
-//! Preparing, accounting, the switch rule and deadlines on both sides: what their own comparison and that of whole boards share.
+//! Preparing, accounting, the switch rule and deadlines on both sides: what their own comparison and that of whole
+//! boards share.
 
 pub mod calls;
 pub mod checks;
 pub mod expected;
 pub mod inputs;
-pub mod lengths;
 pub mod port;
 pub mod runs;
 #[path = "../../compare/src/words.rs"]

@@ -24,7 +24,8 @@ fn answer<T>(number: u64, value: T) -> Answer<T> {
 pub fn new_window(config: Config, window: &mut Window) -> Answer<()> {
     let mut words = window_words(*window);
     let given = window_words(Window { config, ..*window });
-    let number = board::window(&mut words, &given[..8]);
+    let config = given.first_chunk().expect("12 words begin with 8");
+    let number = board::window(&mut words, config);
     *window = window_of(words);
     answer(number, ())
 }

@@ -1,4 +1,5 @@
-//! All small values; every boundary value with every other, thinned out where the product is too large; and seeded rounds.
+//! All small values; every boundary value with every other, thinned out where the product is too large; and seeded
+//! rounds.
 
 use kernel::oracle::*;
 
@@ -169,8 +170,8 @@ fn small_budget(picks: &mut impl Picks) -> Record {
     Record::new(params, Runtime::Budget(runtime), 1, 0)
 }
 
-/// All small values, none left out: a period of 4, readings below 10, budgets and bursts to 4 with any part of them left, windows with any part of allowance and
-/// floor left, counters at both ends of their range.
+/// All small values, none left out: a period of 4, readings below 10, budgets and bursts to 4 with any part of them
+/// left, windows with any part of allowance and floor left, counters at both ends of their range.
 pub fn small(tally: &mut Tally) {
     let alone = |record| Named {
         records: vec![record],

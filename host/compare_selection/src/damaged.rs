@@ -75,7 +75,8 @@ pub fn parts(tally: &mut Tally, random: &mut Random) {
     from(tally, random, &mut course, &mut board);
 }
 
-/// Queued records touched, and given to another processor: a budget thread then stands in the partner tree, a head is another's.
+/// Queued records touched, and given to another processor: a budget thread then stands in the partner tree, a head is
+/// another's.
 pub fn touched(tally: &mut Tally, random: &mut Random) {
     let (mut course, run) = sound::small(tally, random);
     let mut board = run.board;
@@ -93,7 +94,8 @@ pub fn touched(tally: &mut Tally, random: &mut Random) {
     from(tally, random, &mut course, &mut board);
 }
 
-/// Threads in trees of any shape: links at random among few records, every tree's root too, at times the same thread among the exhausted of every role.
+/// Threads in trees of any shape: links at random among few records, every tree's root too, at times the same thread
+/// among the exhausted of every role.
 pub fn tangled(tally: &mut Tally, random: &mut Random) {
     let mut course = Course::new(random);
     let count = 1 + random.below(6);
@@ -120,7 +122,8 @@ pub fn tangled(tally: &mut Tally, random: &mut Random) {
     from(tally, random, &mut course, &mut Board::of(marked, records));
 }
 
-/// Every word of a few rows, of the queue, of the window and of the current thread may be any number, also one that nothing encodes to.
+/// Every word of a few rows, of the queue, of the window and of the current thread may be any number, also one that
+/// nothing encodes to.
 pub fn words(tally: &mut Tally, random: &mut Random) {
     let (mut course, run) = sound::small(tally, random);
     let mut rows: Vec<_> = run.board.table.records.iter().map(row_of).collect();
@@ -151,7 +154,8 @@ fn any_words(random: &mut Random, peek: &mut Peek) {
     }
 }
 
-/// Trees that are lines of about MAX_PATH nodes, of fair threads and among the exhausted: a 40th entry is taken, a 41st is not.
+/// Trees that are lines of about MAX_PATH nodes, of fair threads and among the exhausted: a 40th entry is taken, a 41st
+/// is not.
 pub fn long_paths(tally: &mut Tally, random: &mut Random) {
     for height in [1, 40, 254, 255] {
         for linked in 37..=43 {

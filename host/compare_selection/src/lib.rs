@@ -1,4 +1,5 @@
-//! Selections on both sides, runs of them, and the scan over all queued threads: what the comparisons of selection and of whole boards share.
+//! Selections on both sides, runs of them, and the scan over all queued threads: what the comparisons of selection and
+//! of whole boards share.
 
 pub mod damaged;
 pub mod history;

@@ -1,9 +1,10 @@
 //! Compares the port's selection with the kernel's own Rust: `compare_selection [--seed N] [--seconds S]`.
 //!
-//! Runs mix enqueues at either end, removals and selections, on sound queues and on damaged ones. After each call answer, window, queue and every
-//! record are compared; where document 01 adds a refusal, it decides. On sound queues a plain scan over all queued threads judges each selection
-//! where demand 3's premises hold. What was noted beside the comparisons stands in brackets. The last line is `differs 0`, or `differs N` with the
-//! first differing inputs above it and exit code 1.
+//! Runs mix enqueues at either end, removals and selections, on sound queues and on damaged ones. After each call
+//! answer, window, queue and every record are compared; where document 01 adds a refusal, it decides. On sound queues a
+//! plain scan over all queued threads judges each selection where demand 3's premises hold. What was noted beside the
+//! comparisons stands in brackets. The last line is `differs 0`, or `differs N` with the first differing inputs above
+//! it and exit code 1.
 
 use std::process::ExitCode;
 

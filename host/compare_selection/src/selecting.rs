@@ -111,8 +111,8 @@ fn by_port(board: &mut Board, peek: &Peek) -> Selected {
     }
 }
 
-/// Makes the selection on both sides: answer, window, queue and every record are compared, and the board goes on from the source's.
-/// What the port answered.
+/// Makes the selection on both sides: answer, window, queue and every record are compared, and the board goes on from
+/// the source's. What the port answered.
 pub fn select(tally: &mut Tally, board: &mut Board, peek: &Peek) -> Selected {
     let shown = board.table.shown();
     let brought = (peek.cpu, peek.now, peek.window(), peek.current());

@@ -1,4 +1,5 @@
-//! Runs on sound queues: enqueues at either end, removals and selections mixed, records that are not queued changed between.
+//! Runs on sound queues: enqueues at either end, removals and selections mixed, records that are not queued changed
+//! between.
 
 use compare_queue::board::{Board, Call};
 use compare_queue::sound::{changed, place, processor, sensible};
@@ -16,7 +17,8 @@ use crate::selecting::Peek;
 pub struct Course {
     config: Config,
     backend: Backend,
-    /// One fair backend, one period, records fresh when they are enqueued and a clock that rises: demand 3's premises hold mostly.
+    /// One fair backend, one period, records fresh when they are enqueued and a clock that rises: demand 3's premises
+    /// hold mostly.
     steady: bool,
     /// They hold for every record and reading.
     strict: bool,
@@ -209,7 +211,8 @@ pub fn select(tally: &mut Tally, random: &mut Random, course: &mut Course, run: 
     course.window = run.select(tally, &peek).window;
 }
 
-/// One call; before it at times another record in the place of one that is not queued, with links and membership of any kind.
+/// One call; before it at times another record in the place of one that is not queued, with links and membership of any
+/// kind.
 fn step(
     tally: &mut Tally,
     random: &mut Random,
@@ -282,7 +285,8 @@ pub fn small(tally: &mut Tally, random: &mut Random) -> (Course, History) {
     (course, run)
 }
 
-/// Tables at the most records and beyond: selection is refused there, before a bad window and a halted queue are looked at, and in that order.
+/// Tables at the most records and beyond: selection is refused there, before a bad window and a halted queue are looked
+/// at, and in that order.
 pub fn limits(tally: &mut Tally, random: &mut Random) {
     let mut course = Course::new(random);
     for count in [4096, 4097, 5000] {

@@ -1,4 +1,5 @@
-//! A board over the unchanged source: the threads of a lift, and the cycle of wake, choose, switch, deadline and account.
+//! A board over the unchanged source: the threads of a lift, and the cycle of wake, choose, switch, deadline and
+//! account.
 
 use kernel::oracle::*;
 

@@ -1,5 +1,5 @@
-//! lift_check [PLACE]: the lifts of the program crates/scenario on the kernel's own Rust, their stretches compared with those stored at PLACE, else crates/scenario/stdout.
-//! The last line is 'differs N'.
+//! lift_check [PLACE]: the lifts of the program crates/scenario on the kernel's own Rust, their stretches compared with
+//! those stored at PLACE, else crates/scenario/stdout. The last line is 'differs N'.
 
 mod board;
 

@@ -1,4 +1,5 @@
-//! One call of each kind: brought, made by the kernel's own Rust with document 01's refusals, and written with its answer.
+//! One call of each kind: brought, made by the kernel's own Rust with document 01's refusals, and written with its
+//! answer.
 
 use compare_queue::board::{Board, Call};
 use compare_runtime::expected;

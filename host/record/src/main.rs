@@ -1,8 +1,10 @@
 //! Records calls with the answers of the kernel's own Rust: `record [--seed N] [--cases N] PATH`.
 //!
-//! Cases are histories of sound queues and of damaged ones, on tables of up to 32 records and at the limit of 4,096; in each, calls of every kind follow one another. A line of
-//! the list is a call with its answer, or the words that it is brought; after each call one number stands for all words of table, queue, window and answers. Queue calls and selections are
-//! made by the port too, through the packages of the comparisons. What was compared is printed; the list is written only where the last line is `differs 0`.
+//! Cases are histories of sound queues and of damaged ones, on tables of up to 32 records and at the limit of 4,096; in
+//! each, calls of every kind follow one another. A line of the list is a call with its answer, or the words that it is
+//! brought; after each call one number stands for all words of table, queue, window and answers. Queue calls and
+//! selections are made by the port too, through the packages of the comparisons. What was compared is printed; the list
+//! is written only where the last line is `differs 0`.
 
 mod calls;
 mod cases;
@@ -43,7 +45,9 @@ fn main() -> ExitCode {
         return ExitCode::from(2);
     };
     let head = format!(
-        "# Calls with the answers of the unchanged Rust, written by host/record --seed {} --cases {}; program replay runs them. The letters of the steps are those of\n# crates/cases/stdin. The text is in blocks of 65,536 bytes, each of whole cases, filled up with a comment.\n",
+        "# Calls with the answers of the unchanged Rust, written by host/record --seed {} --cases {}; \
+         program replay runs them. The letters of the steps are those of\n\
+         # crates/cases/stdin. The text is in blocks of 65,536 bytes, each of whole cases, filled up with a comment.\n",
         options.seed, options.cases
     );
     let run = cases::recorded(options.seed, options.cases, head);

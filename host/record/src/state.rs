@@ -73,7 +73,8 @@ impl State {
         }
     }
 
-    /// A new case. The machine starts anew with each block, so the case starts one where the block has no room for a case more.
+    /// A new case. The machine starts anew with each block, so the case starts one where the block has no room for a
+    /// case more.
     pub fn case(&mut self, label: &str, number: u64) {
         if self.lines.len() % BLOCK + ROOM > BLOCK {
             let rest = BLOCK - self.lines.len() % BLOCK;

@@ -1,4 +1,5 @@
-//! What the comparisons share: seeded values and records, tables as rows and as records, queues and windows as words, and the count of what differs.
+//! What the comparisons share: seeded values and records, tables as rows and as records, queues and windows as words,
+//! and the count of what differs.
 
 pub mod generator;
 pub mod make;

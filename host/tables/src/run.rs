@@ -23,7 +23,8 @@ fn options() -> Option<(u64, u64)> {
     Some((seed, seconds))
 }
 
-/// What is compared first, then rounds by their number for the given seconds, at least one; the last line is `differs N`.
+/// What is compared first, then rounds by their number for the given seconds, at least one; the last line is `differs
+/// N`.
 pub fn compare(
     program: &str,
     first: impl FnOnce(&mut Tally, &mut Random),

@@ -13,4 +13,4 @@ set-counts-spec =
     (λ c. search needs)
     (λ c. search needs)
     (λ c κs. search needs)
-    (λ c. search (stores) depth 8))
+    (λ c. search (stores, needs) depth 8))

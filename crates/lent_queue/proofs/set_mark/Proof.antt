@@ -14,4 +14,4 @@ set-mark-spec =
     (λ c. search needs)
     (λ c. search needs)
     (λ c κs. search needs)
-    (λ c. search (stores) depth 8))
+    (λ c. search (stores, needs) depth 8))

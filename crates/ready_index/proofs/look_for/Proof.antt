@@ -8,7 +8,8 @@ use Rattle.ready_index.proofs.look_for.Statement.{statement}
 use Rattle.ready_index.proofs.look_for.Tie as tie
 
 abbrev Inv-loop : tie.InvT-loop
-Inv-loop t key id current₀ room₀ current room = lookFor room (table t) key id current ≡ whole (lookFor 40 (table t) key id current₀)
+Inv-loop t key id current₀ room₀ current room =
+    lookFor room (table t) key id current ≡ whole (lookFor 40 (table t) key id current₀)
 
 abbrev μ-loop : tie.MeasureT-loop
 μ-loop t key id current₀ room₀ current room = room

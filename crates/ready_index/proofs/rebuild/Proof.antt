@@ -12,7 +12,8 @@ use Rattle.ready_index.proofs.rebuild.Statement.{statement}
 use Rattle.ready_index.proofs.rebuild.Tie as tie
 
 abbrev Inv-loop : tie.InvT-loop
-Inv-loop t₀ path start steps len₀ sub₀ t len sub = (start + len ≤ length path) × (length t ≡ length t₀) × (rebuild (stack path start len) (table t) sub ≡ whole (rebuild (stack path start steps) (table t₀) sub₀))
+Inv-loop t₀ path start steps len₀ sub₀ t len sub = (start + len ≤ length path) × (length t ≡ length t₀)
+    × (rebuild (stack path start len) (table t) sub ≡ whole (rebuild (stack path start steps) (table t₀) sub₀))
 
 abbrev μ-loop : tie.MeasureT-loop
 μ-loop t₀ path start steps len₀ sub₀ t len sub = len

@@ -8,12 +8,15 @@ use Rattle.rows.specs.Table.{table}
 use Rattle.ready_index.specs.Path.{stack}
 use Prim.Native.Nat.{_≤_, _-_}
 use Rattle.ready_index.specs.Index as index
-use Rattle.ready_index.specs.LoopLaws.{whole, search-set-out, arrived, searches, found-steps, missing-steps, last-steps}
+use Rattle.ready_index.specs.LoopLaws.{whole, search-set-out, arrived, searches, found-steps, missing-steps}
+use Rattle.ready_index.specs.LoopLaws.{last-steps}
 use Rattle.ready_index.proofs.search.Statement.{statement}
 use Rattle.ready_index.proofs.search.Tie as tie
 
 abbrev Inv-loop : tie.InvT-loop
-Inv-loop t path₀ key id current₀ len₀ path current len = (length path ≡ length path₀) × (len ≤ length path) × (index.search (length path - len) (table t) key id current (stack path 0 len) ≡ whole (index.search (length path₀) (table t) key id current₀ []))
+Inv-loop t path₀ key id current₀ len₀ path current len = (length path ≡ length path₀) × (len ≤ length path)
+    × (index.search (length path - len) (table t) key id current (stack path 0 len)
+    ≡ whole (index.search (length path₀) (table t) key id current₀ []))
 
 abbrev μ-loop : tie.MeasureT-loop
 μ-loop t path₀ key id current₀ len₀ path current len = length path - len

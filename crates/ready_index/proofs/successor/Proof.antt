@@ -1,4 +1,5 @@
--- The rest of the way down, from the steps stored so far, gives what the whole gives; the room falls, and the first part of the path stays.
+-- The rest of the way down, from the steps stored so far, gives what the whole gives; the room falls, and the first
+-- part of the path stays.
 use mathlib.Core.Path.{_≡_, refl}
 use mathlib.Core.List.{[]}
 use native.Mathlib.Omega.{arith}
@@ -8,12 +9,16 @@ use Rattle.rows.specs.Table.{table}
 use Rattle.ready_index.specs.Path.{stack}
 use Prim.Native.Nat.{_≤_, _-_, _+_}
 use Rattle.ready_index.specs.Index.{successor}
-use Rattle.ready_index.specs.LoopLaws.{whole, successor-set-out, arrived, successions, next-steps, none-steps, below-kept}
+use Rattle.ready_index.specs.LoopLaws.{whole, successor-set-out, arrived, successions, next-steps, none-steps}
+use Rattle.ready_index.specs.LoopLaws.{below-kept}
 use Rattle.ready_index.proofs.successor.Statement.{statement}
 use Rattle.ready_index.proofs.successor.Tie as tie
 
 abbrev Inv-loop : tie.InvT-loop
-Inv-loop t path₀ start node id₀ len₀ path id len = (length path ≡ length path₀) × (start + len ≤ length path) × (stack path 0 start ≡ stack path₀ 0 start) × (successor (length path - (start + len)) (table t) id (stack path start len) ≡ whole (successor (length path₀ - start) (table t) id₀ []))
+Inv-loop t path₀ start node id₀ len₀ path id len = (length path ≡ length path₀) × (start + len ≤ length path)
+    × (stack path 0 start ≡ stack path₀ 0 start)
+    × (successor (length path - (start + len)) (table t) id (stack path start len)
+    ≡ whole (successor (length path₀ - start) (table t) id₀ []))
 
 abbrev μ-loop : tie.MeasureT-loop
 μ-loop t path₀ start node id₀ len₀ path id len = length path - (start + len)
@@ -41,4 +46,9 @@ successor-spec =
     (λ c. search needs)
     (λ c. search needs)
     (λ c. simp length-set (omega arith))
-    (λ c. (simp length-set (omega arith), simp length-set (omega arith), search (needs, below-kept), search successions depth 10)))
+    (λ c. (
+      simp length-set (omega arith),
+      simp length-set (omega arith),
+      search (needs, below-kept),
+      search successions depth 10,
+    )))

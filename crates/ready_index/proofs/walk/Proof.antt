@@ -13,7 +13,9 @@ use Rattle.ready_index.proofs.walk.Statement.{statement}
 use Rattle.ready_index.proofs.walk.Tie as tie
 
 abbrev Inv-loop : tie.InvT-loop
-Inv-loop t path₀ key current₀ len₀ path current len = (length path ≡ length path₀) × (len ≤ length path) × (walk (length path - len) (table t) key current (stack path 0 len) ≡ whole (walk (length path₀) (table t) key current₀ []))
+Inv-loop t path₀ key current₀ len₀ path current len = (length path ≡ length path₀) × (len ≤ length path)
+    × (walk (length path - len) (table t) key current (stack path 0 len)
+    ≡ whole (walk (length path₀) (table t) key current₀ []))
 
 abbrev μ-loop : tie.MeasureT-loop
 μ-loop t path₀ key current₀ len₀ path current len = length path - len

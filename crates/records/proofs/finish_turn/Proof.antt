@@ -14,11 +14,14 @@ returns c = too-few _ _ _ _ (c .if1 .taken)
 
 returns-2 : tie.Need-returns-2
 returns-2 c =
-    let args = c .before .before .before .before .before .before .before .before .before .before .before .before .before .before .args in
+    let args = c .before .before .before .before .before .before .before .before .before .before .before .before .before
+    .before .args in
     let copying = c .before .before .before .before .before .before .before .before .before .to-rows in
     let core = c .before .before .before .before .before .before .finish-turn in
-    called (args .rows .now) (args .t .now) _ (λ (l : List ThreadRecord). finishTurn l (args .id .0)) (copying .last .1 .0) (core .last .0)
-    (c .before .before .before .before .before .before .before .before .before .before .before .before .before .if1 .left) (copying .ensures) (core .kept .0) (core .ensures) (c .before .before .from-rows .ensures)
+    called (args .rows .now) (args .t .now) _ (λ (l : List ThreadRecord). finishTurn l (args .id .0))
+    (copying .last .1 .0) (core .last .0)
+    (c .before .before .before .before .before .before .before .before .before .before .before .before .before .if1
+    .left) (copying .ensures) (core .kept .0) (core .ensures) (c .before .before .from-rows .ensures)
 
 pub finish-turn-spec : {M : Type 1} → statement M
 finish-turn-spec =

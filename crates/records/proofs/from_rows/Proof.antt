@@ -50,7 +50,8 @@ loop-again c =
     let inv = at-loop .loop .inv in
     let below = c .before .before .loop-test .taken in (
       add-one-le below,
-      record-copied (at-loop .loop .t) (at-loop .before .args .rows .now) i (c .decode .result) (omega (arith, below, inv .2)) (omega arith) (inv .1) (c .decode .ensures),
+      record-copied (at-loop .loop .t) (at-loop .before .args .rows .now) i (c .decode .result)
+          (omega (arith, below, inv .2)) (omega arith) (inv .1) (c .decode .ensures),
       length-set (at-loop .loop .t) i (c .decode .result) ∙ inv .2,
     )
 
@@ -60,9 +61,11 @@ same-length c = search needs
 returns : tie.Need-returns Inv-loop μ-loop
 returns c =
     let inv = c .before .loop .inv in
-    sym (all-copied (c .before .loop .t) (c .before .before .args .rows .now) (c .before .loop .i) (omega arith) (omega (arith, inv .2, c .loop-test .left)) (sym (inv .1)))
+    sym (all-copied (c .before .loop .t) (c .before .before .args .rows .now) (c .before .loop .i) (omega arith)
+    (omega (arith, inv .2, c .loop-test .left)) (sym (inv .1)))
 
 pub from-rows-spec : {M : Type 1} → statement M
 from-rows-spec =
     tie.close
-    (tie.spec Inv-loop μ-loop loop-holds mul-decode shared-slice-copy-out-decode decode-requires mul-t10 slice-set-from-t add-i loop-less loop-again same-length returns)
+    (tie.spec Inv-loop μ-loop loop-holds mul-decode shared-slice-copy-out-decode decode-requires mul-t10
+    slice-set-from-t add-i loop-less loop-again same-length returns)

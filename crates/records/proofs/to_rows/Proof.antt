@@ -50,7 +50,8 @@ loop-again c =
     let inv = at-loop .loop .inv in
     let below = c .before .before .loop-test .taken in (
       add-one-le below,
-      row-copied (at-loop .before .args .t .now) (at-loop .loop .rows) i (c .encode .result) (omega (arith, below, inv .2)) below (inv .1) (c .encode .ensures),
+      row-copied (at-loop .before .args .t .now) (at-loop .loop .rows) i (c .encode .result)
+          (omega (arith, below, inv .2)) below (inv .1) (c .encode .ensures),
       length-set (at-loop .loop .rows) i (c .encode .result) ∙ inv .2,
     )
 
@@ -60,9 +61,11 @@ same-length c = search needs
 returns : tie.Need-returns Inv-loop μ-loop
 returns c =
     let inv = c .before .loop .inv in
-    all-copied (c .before .before .args .t .now) (c .before .loop .rows) (c .before .loop .i) (omega (arith, inv .2, c .loop-test .left)) (c .loop-test .left) (inv .1)
+    all-copied (c .before .before .args .t .now) (c .before .loop .rows) (c .before .loop .i)
+    (omega (arith, inv .2, c .loop-test .left)) (c .loop-test .left) (inv .1)
 
 pub to-rows-spec : {M : Type 1} → statement M
 to-rows-spec =
     tie.close
-    (tie.spec Inv-loop μ-loop loop-holds mul-encode shared-slice-copy-out-encode encode-requires mul-t10 slice-set-from-rows add-i loop-less loop-again same-length returns)
+    (tie.spec Inv-loop μ-loop loop-holds mul-encode shared-slice-copy-out-encode encode-requires mul-t10
+    slice-set-from-rows add-i loop-less loop-again same-length returns)

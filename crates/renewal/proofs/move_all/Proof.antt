@@ -11,7 +11,8 @@ use Rattle.renewal.proofs.move_all.Tie as tie
 
 abbrev Inv-loop : tie.InvT-loop
 Inv-loop t₀ path₀ moves reading exhausted₀ ready₀ left₀ t path exhausted ready left =
-    (length t ≡ length t₀) × (moveAll left (table t) exhausted ready reading ≡ whole (moveAll moves (table t₀) exhausted₀ ready₀ reading))
+    (length t ≡ length t₀) × (moveAll left (table t) exhausted ready reading
+    ≡ whole (moveAll moves (table t₀) exhausted₀ ready₀ reading))
 
 abbrev μ-loop : tie.MeasureT-loop
 μ-loop t₀ path₀ moves reading exhausted₀ ready₀ left₀ t path exhausted ready left = left

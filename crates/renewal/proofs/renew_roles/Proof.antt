@@ -13,7 +13,9 @@ use Rattle.renewal.proofs.renew_roles.Tie as tie
 
 abbrev Inv-loop : tie.InvT-loop
 Inv-loop t₀ path₀ roots₀ reading moves₀ left₀ t path roots moves left =
-    (left ≤ 3) × (length roots ≡ length roots₀) × (length t ≡ length t₀) × (renewRoles left moves (table t) (rootsOf roots) reading ≡ whole (renewRoles 3 (length (table t₀)) (table t₀) (rootsOf roots₀) reading))
+    (left ≤ 3) × (length roots ≡ length roots₀) × (length t ≡ length t₀)
+    × (renewRoles left moves (table t) (rootsOf roots) reading
+    ≡ whole (renewRoles 3 (length (table t₀)) (table t₀) (rootsOf roots₀) reading))
 
 abbrev μ-loop : tie.MeasureT-loop
 μ-loop t₀ path₀ roots₀ reading moves₀ left₀ t path roots moves left = left

@@ -1,5 +1,5 @@
--- The words stand for the arguments, the call answers by its own contract, and its window and answer are stored.
-use Rattle.window_entries.specs.EntryLaws.{entries}
+-- The judgement, then the window as it is refreshed, and the key that is made of it.
+use Rattle.window_entries.specs.StepLaws.{steps}
 use borrow.Author.Needs.{needs}
 use Rattle.window_entries.proofs.window_candidate_key.Statement.{statement}
 use Rattle.window_entries.proofs.window_candidate_key.Tie as tie
@@ -9,8 +9,12 @@ window-candidate-key-spec =
     tie.close
     (tie.spec
     (λ c κs. search needs)
+    (λ c. search steps depth 8)
     (λ c κs. search needs)
     (λ c κs. search needs)
     (λ c κs. search needs)
     (λ c κs. search needs)
-    (λ c. search entries depth 8))
+    (λ c κs. search needs)
+    (λ c κs. search needs)
+    (λ c κs. search needs)
+    (λ c. search steps depth 8))

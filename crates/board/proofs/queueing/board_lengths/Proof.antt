@@ -1,5 +1,4 @@
--- The length decides; the three lengths are stored.
-use Rattle.board.specs.LengthLaws.{length-laws}
+-- The three lengths are stored.
 use Rattle.board.specs.BoardLaws.{board-laws}
 use borrow.Author.Needs.{needs}
 use Rattle.board.proofs.queueing.board_lengths.Statement.{statement}
@@ -9,11 +8,7 @@ pub board-lengths-spec : {M : Type 1} → statement M
 board-lengths-spec =
     tie.close
     (tie.spec
-    (λ c. (search (length-laws, board-laws) depth 12, search length-laws depth 8))
     (λ c κs. search needs)
     (λ c κs. search needs)
     (λ c κs. search needs)
-    (λ c. search needs)
-    (λ c κs. search needs)
-    (λ c. search needs)
-    (λ c. (search (length-laws, board-laws) depth 12, search length-laws depth 8)))
+    (λ c. search board-laws depth 8))

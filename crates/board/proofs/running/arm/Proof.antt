@@ -10,9 +10,12 @@ arm-spec =
     (tie.spec
     (λ c κs. search needs)
     (λ c κs. search needs)
+    (λ c. search needs)
     (λ c κs. search needs)
     (λ c κs. search needs)
     (λ c. search needs)
+    (λ c κs. search needs)
     (λ c. search needs)
+    (λ c. search board-laws depth 8)
     (λ c. search needs)
     (λ c. search board-laws depth 8))

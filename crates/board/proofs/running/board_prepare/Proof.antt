@@ -1,5 +1,4 @@
--- The lengths decide; the words stand for the arguments, the call answers by its own contract, and what it left is stored.
-use Rattle.board.specs.LengthLaws.{length-laws}
+-- The words stand for the arguments, the call answers by its own contract, and what it left is stored.
 use Rattle.board.specs.BoardLaws.{board-laws}
 use borrow.Author.Needs.{needs}
 use Rattle.board.proofs.running.board_prepare.Statement.{statement}
@@ -9,12 +8,14 @@ pub board-prepare-spec : {M : Type 1} → statement M
 board-prepare-spec =
     tie.close
     (tie.spec
-    (λ c. (search (length-laws, board-laws) depth 12, search length-laws depth 8))
-    (λ c κs. search needs)
-    (λ c κs. search needs)
     (λ c κs. search needs)
     (λ c κs. search needs)
     (λ c κs. search needs)
     (λ c. search needs)
+    (λ c κs. search needs)
     (λ c. search needs)
-    (λ c. (search (length-laws, board-laws) depth 12, search length-laws depth 8)))
+    (λ c κs. search needs)
+    (λ c. search needs)
+    (λ c. search board-laws depth 8)
+    (λ c. search needs)
+    (λ c. search board-laws depth 8))

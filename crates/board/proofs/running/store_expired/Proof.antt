@@ -1,4 +1,4 @@
--- The flag's word is copied, a refusal's number is told.
+-- The flag's word is stored, a refusal's number is told.
 use Rattle.board.specs.BoardLaws.{storing}
 use borrow.Author.Needs.{needs}
 use Rattle.board.proofs.running.store_expired.Statement.{statement}
@@ -12,8 +12,5 @@ store-expired-spec =
     (λ c κs. search needs)
     (λ c. search needs)
     (λ c κs. search needs)
-    (λ c. search needs)
-    (λ c κs. search needs)
-    (λ c. search needs)
     (λ c. search storing depth 8)
     (λ c. search storing depth 8))

@@ -1,5 +1,4 @@
--- The lengths decide; the call on what the words stand for, and what it left stored.
-use Rattle.board.specs.LengthLaws.{length-laws}
+-- The call on what the words stand for, and what it left stored.
 use Rattle.board.specs.BoardLaws.{board-laws}
 use borrow.Author.Needs.{needs}
 use Rattle.board.proofs.selecting.board_select.Statement.{statement}
@@ -9,15 +8,10 @@ pub board-select-spec : {M : Type 1} → statement M
 board-select-spec =
     tie.close
     (tie.spec
-    (λ c. (search (length-laws, board-laws) depth 12, search length-laws depth 8))
-    (λ c. (search (length-laws, board-laws) depth 12, search length-laws depth 8))
-    (λ c. (search (length-laws, board-laws) depth 12, search length-laws depth 8))
     (λ c κs. search needs)
     (λ c κs. search needs)
     (λ c κs. search needs)
     (λ c κs. search needs)
     (λ c κs. search needs)
     (λ c. search needs)
-    (λ c. search needs)
-    (λ c. search needs)
-    (λ c. (search (length-laws, board-laws) depth 12, search length-laws depth 8)))
+    (λ c. search board-laws depth 8))

@@ -1,4 +1,4 @@
--- The selection's words are copied, a refusal's number is told.
+-- The selection's words are stored, a refusal's number is told.
 use Rattle.board.specs.BoardLaws.{storing}
 use borrow.Author.Needs.{needs}
 use Rattle.board.proofs.selecting.store_answer.Statement.{statement}
@@ -12,8 +12,5 @@ store-answer-spec =
     (λ c κs. search needs)
     (λ c. search needs)
     (λ c κs. search needs)
-    (λ c. search needs)
-    (λ c κs. search needs)
-    (λ c. search needs)
     (λ c. search storing depth 8)
     (λ c. search storing depth 8))

@@ -12,6 +12,5 @@ store-made-spec =
     (λ c κs. search needs)
     (λ c. search needs)
     (λ c κs. search needs)
-    (λ c. search needs)
     (λ c. search storing depth 8)
     (λ c. search storing depth 8))

@@ -19,8 +19,14 @@ index-of-row-spec =
     (λ c. record { fits = role-fits _ _ (c .before .before .before .role-number .ensures) (omega arith) })
     (λ c. search (cases, by-tags) depth 8)
     (λ c κs. search needs)
-    (λ c. record { fits = role-fits _ _ (c .before .before .before .before .before .before .role-number .ensures) (omega arith) })
+    (λ c. record {
+      fits = role-fits _ _ (c .before .before .before .before .before .before .role-number .ensures)
+          (omega arith);
+    })
     (λ c. search (cases, by-tags) depth 8)
-    (λ c. record { fits = role-fits _ _ (c .before .before .before .before .before .before .role-number .ensures) (omega arith) })
+    (λ c. record {
+      fits = role-fits _ _ (c .before .before .before .before .before .before .role-number .ensures)
+          (omega arith);
+    })
     (λ c. search (cases, by-tags) depth 8)
     (λ c. search (cases, by-tags) depth 8))

@@ -1,5 +1,5 @@
 -- One law for each way through the judgement.
-use Rattle.runtime.specs.RuntimeLaws.{ways}
+use Rattle.runtime.specs.RuntimeLaws.{ways, good-row}
 use borrow.Author.Needs.{needs}
 use Rattle.runtime.proofs.account.finish_turn.Statement.{statement}
 use Rattle.runtime.proofs.account.finish_turn.Tie as tie
@@ -12,7 +12,7 @@ finish-turn-spec =
     (λ c κs. search needs)
     (λ c. search needs)
     (λ c. search ways depth 8)
-    (λ c κs. search needs)
+    (λ c κs. search (needs, good-row) depth 8)
     (λ c. search needs)
     (λ c. search ways depth 8)
     (λ c. search ways depth 8))

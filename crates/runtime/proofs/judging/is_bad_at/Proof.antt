@@ -1,5 +1,5 @@
--- Three words are enough where neither tag is a budget's.
-use Rattle.runtime.specs.RuntimeLaws.{good-by-tags}
+-- The runtime's tag decides: a budget by its policy and its budget, else three words where neither tag is a budget's.
+use Rattle.runtime.specs.RuntimeLaws.{bad-rows}
 use borrow.Author.Needs.{needs}
 use Rattle.runtime.proofs.judging.is_bad_at.Statement.{statement}
 use Rattle.runtime.proofs.judging.is_bad_at.Tie as tie
@@ -16,8 +16,16 @@ is-bad-at-spec =
     (λ c. search needs)
     (λ c. search needs)
     (λ c. search needs)
+    (λ c κs. search needs)
+    (λ c. search bad-rows depth 8)
+    (λ c. search bad-rows depth 8)
     (λ c. search needs)
-    (λ c. search good-by-tags depth 8)
+    (λ c. search needs)
+    (λ c. search needs)
+    (λ c. search needs)
+    (λ c. search needs)
+    (λ c. search needs)
+    (λ c. search bad-rows depth 8)
     (λ c. search needs)
     (λ c. search needs)
     (λ c κs. search needs)

@@ -15,7 +15,9 @@ use Rattle.selection.proofs.choosing.gather_heads.Tie as tie
 
 abbrev Inv-loop : tie.InvT-loop
 Inv-loop t₀ roots heads₀ cpu reading found₀ count₀ left₀ t heads found count left =
-    (count + left ≤ 12) × (length t ≡ length t₀) × (length heads ≡ 12) × (gatherNumbers left (table t) (rootsOf roots) cpu reading (take count heads) found ≡ whole (gatherNumbers 12 (table t₀) (rootsOf roots) cpu reading [] found₀))
+    (count + left ≤ 12) × (length t ≡ length t₀) × (length heads ≡ 12)
+    × (gatherNumbers left (table t) (rootsOf roots) cpu reading (take count heads) found
+    ≡ whole (gatherNumbers 12 (table t₀) (rootsOf roots) cpu reading [] found₀))
 
 abbrev μ-loop : tie.MeasureT-loop
 μ-loop t₀ roots heads₀ cpu reading found₀ count₀ left₀ t heads found count left = left

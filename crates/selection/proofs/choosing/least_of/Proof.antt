@@ -12,7 +12,8 @@ use Rattle.selection.proofs.choosing.least_of.Tie as tie
 
 abbrev Inv-loop : tie.InvT-loop
 Inv-loop t heads count reading demand window best₀ k₀ best k =
-    (k ≤ count) × (leastNumber (table t) (drop k (take count heads)) reading demand window best ≡ whole (leastNumber (table t) (take count heads) reading demand window best₀))
+    (k ≤ count) × (leastNumber (table t) (drop k (take count heads)) reading demand window best
+    ≡ whole (leastNumber (table t) (take count heads) reading demand window best₀))
 
 abbrev μ-loop : tie.MeasureT-loop
 μ-loop t heads count reading demand window best₀ k₀ best k = count - k

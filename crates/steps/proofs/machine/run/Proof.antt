@@ -7,7 +7,8 @@ use Rattle.steps.proofs.machine.run.Statement.{statement}
 use Rattle.steps.proofs.machine.run.Tie as tie
 
 abbrev Inv-loop : tie.InvT-loop
-Inv-loop words shown counts₀ q₀ t₀ differs₀ i₀ counts q t differs i = (differs ≤ i) × ((differs ≤ length words) × ((i ≤ suc (length words)) × (length t ≡ length t₀)))
+Inv-loop words shown counts₀ q₀ t₀ differs₀ i₀ counts q t differs i =
+    (differs ≤ i) × ((differs ≤ length words) × ((i ≤ suc (length words)) × (length t ≡ length t₀)))
 
 abbrev μ-loop : tie.MeasureT-loop
 μ-loop words shown counts₀ q₀ t₀ differs₀ i₀ counts q t differs i = length words - i

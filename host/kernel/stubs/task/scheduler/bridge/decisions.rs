@@ -206,7 +206,8 @@ pub fn deadline_rule(
     result.map(|()| processor.armed_deadline)
 }
 
-/// A processor that runs thread 0 of records that stay the source's own between calls, with a given selection: for counts of instructions.
+/// A processor that runs thread 0 of records that stay the source's own between calls, with a given selection: for
+/// counts of instructions.
 pub struct KeptScheduler(CpuScheduler);
 
 impl KeptScheduler {
@@ -274,7 +275,8 @@ impl KeptScheduler {
     }
 }
 
-/// A board over records and a queue that stay the source's own between calls, through the source's own access: for counts of instructions and times.
+/// A board over records and a queue that stay the source's own between calls, through the source's own access: for
+/// counts of instructions and times.
 pub struct KeptBoard(CpuScheduler);
 
 impl KeptBoard {

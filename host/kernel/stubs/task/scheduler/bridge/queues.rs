@@ -240,7 +240,8 @@ pub fn index_remove(root: &mut Option<u64>, records: &mut [Record], place: u64) 
     result
 }
 
-/// A tree over records that stay the source's own between calls, through the source's own access: for counts of instructions.
+/// A tree over records that stay the source's own between calls, through the source's own access: for counts of
+/// instructions.
 pub struct KeptTree {
     records: Vec<ThreadScheduleState>,
     tree: Tree<ThreadId>,
@@ -271,7 +272,8 @@ impl KeptTree {
     }
 }
 
-/// A run queue with its window over records that stay the source's own between calls, through the source's own access: for counts of instructions.
+/// A run queue with its window over records that stay the source's own between calls, through the source's own access:
+/// for counts of instructions.
 pub struct KeptQueue {
     records: Vec<ThreadScheduleState>,
     queue: CpuRunQueue,

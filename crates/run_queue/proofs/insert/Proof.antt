@@ -1,0 +1,15 @@
+-- The rows that the value was stored to, and read from.
+use Rattle.run_queue.specs.ValueLaws.{calls}
+use borrow.Author.Needs.{needs}
+use Rattle.run_queue.proofs.insert.Statement.{statement}
+use Rattle.run_queue.proofs.insert.Tie as tie
+
+pub insert-spec : {M : Type 1} → statement M
+insert-spec =
+    tie.close
+    (tie.spec
+    (λ c κs. search needs)
+    (λ c κs. search needs)
+    (λ c κs. search needs)
+    (λ c. search needs)
+    (λ c. search calls depth 8))
