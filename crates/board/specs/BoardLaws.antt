@@ -159,9 +159,11 @@ module _ {A : Type 0} (before : A) {y : Left A} where
   pub answer-is : {v x : Answer A} → v ≡ x → y ≡ answered before v → y ≡ answered before x
   answer-is e h = rw (sym e) h
 
+-- What the goal does not show becomes known premise by premise, here and of `chosen`, so that a search by the law alone
+-- comes to its end.
 pub window-made : (before : CpuWindow) {y : Left CpuWindow} {v : Answer CpuWindow} {c x : ArbitrationConfig}
-    → v ≡ madeWindow c → c ≡ x → y ≡ answered before v → y ≡ answered before (madeWindow x)
-window-made before e f h = rw (sym f, sym e) h
+    → y ≡ answered before v → v ≡ madeWindow c → c ≡ x → y ≡ answered before (madeWindow x)
+window-made before h e f = rw (sym f, sym e) h
 
 pub key-left : {r : ℕ} {k : KeyOption} {w : CpuWindow} (before : KeyOption) (x : With KeyOption)
     → window-entries.left r k w ≡ window-entries.leftOf before x → left r (k, w) ≡ keyLeft before x
@@ -250,9 +252,9 @@ candidate-given t id now {f} before h e k =
     rw (sym e, k) (ap told h ∙ candidate-told before (currentCandidate t id f now))
 
 pub chosen : {a b : ReadyKey} {k l : KeyOption} {p q : SchedulingParameters} {e y t e₁ y₁ t₁ : Bool} {c x : Choice}
-    → c ≡ chooseReady a k p e y t → a ≡ b → k ≡ l → p ≡ q → e ≡ e₁ → y ≡ y₁ → t ≡ t₁ → x ≡ c
+    → x ≡ c → c ≡ chooseReady a k p e y t → a ≡ b → k ≡ l → p ≡ q → e ≡ e₁ → y ≡ y₁ → t ≡ t₁
     → left 0 x ≡ left 0 (chooseReady b l q e₁ y₁ t₁)
-chosen h f g i j m n o = rw (sym f, sym g, sym i, sym j, sym m, sym n, sym h, o)
+chosen o h f g i j m n = rw (sym f, sym g, sym i, sym j, sym m, sym n, sym h, o)
 
 module _ (t : List ThreadRecord) (id now : ℕ) (before : Deadline) where
   pub deadline-given : {s : List ThreadRecord} {a : DeadlineAnswer} (m : ModeOption) (x : Contention)
@@ -305,7 +307,6 @@ pub ruleset board-laws = (
   lengths-stored,
   selected,
   answer-is,
-  window-made,
   key-left,
   prepared,
   not-prepared,
@@ -313,7 +314,6 @@ pub ruleset board-laws = (
   not-accounted,
   finished,
   candidate-given,
-  chosen,
   deadline-given,
   no-deadline-given,
   deadline-armed,

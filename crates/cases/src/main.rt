@@ -2,17 +2,15 @@
 // how many differ.
 const STDIN: i32 = 0;
 
-const STDOUT: i32 = 1;
-
 fn main() {
-    let mut text = io::large_buffer();
-    let n = io::read_full(STDIN, &mut text);
-    io::write_all(STDOUT, b"proved in the table of worked cases: ");
-    io::print_decimal(STDOUT, worked_cases::count());
-    io::write_all(STDOUT, b" rows");
-    let mut counts = [0u64; 12];
-    let differs = steps::run(&text[..n], true, &mut counts);
-    io::write_all(STDOUT, b"\ndiffers ");
-    io::print_decimal(STDOUT, differs);
-    io::write_all(STDOUT, b"\n");
+    let mut words = io::large_buffer();
+    let n = io::read_full(STDIN, &mut words);
+    text::print(
+        b"proved in the table of worked cases: %a rows",
+        &[worked_cases::count()],
+        b"",
+    );
+    let mut counts = [0u64; steps::ANSWERS];
+    let differs = steps::run(&words[..n], true, &mut counts);
+    text::print(b"\ndiffers %a\n", &[differs], b"");
 }

@@ -1,12 +1,11 @@
 -- What a read gives of the lent queue, and what a store of one row leaves of it.
 use Prim.Native.Nat.{ℕ, zero, suc, _+_, _<_, _≤_}
 use native.Mathlib.Omega.{arith}
-use native.Mathlib.Nat.{suc-add, zero-add, le-of-suc-le-suc, not-suc-le-zero}
 use mathlib.Core.Path.{_≡_, refl, sym, ap, _∙_}
 use mathlib.Core.Bool.{Bool}
 use mathlib.Core.List.{List, [], _∷_, map}
 use lib.ListN.{length, getD, set, take, drop, replicate, List·getD-map}
-use lib.Seq.{getD-set-same, getD-set-other}
+use lib.Seq.{getD-set-same, getD-set-other, getD-take, getD-drop, take-set-le, take-set-lt, drop-set-lt, drop-set-add}
 use Rattle.refusal.specs.Answer.{numberOf}
 use Rattle.refusal.specs.declared.Refusal.{Refusal}
 use Rattle.refusal.specs.Cases.{choose, ifEqual}
@@ -40,67 +39,30 @@ map-set f [] i a = refl
 map-set f (x ∷ l) zero a = refl
 map-set {A} {B} f (x ∷ l) (suc i) a = ap {B = List B} (λ r. f x ∷ r) (map-set f l i a)
 
-take-set : {A : Type 0} (n : ℕ) (l : List A) (i : ℕ) (a : A) → take n (set l i a) ≡ set (take n l) i a
-take-set zero l i a = refl
-take-set (suc n) [] i a = refl
-take-set (suc n) (x ∷ l) zero a = refl
-take-set {A} (suc n) (x ∷ l) (suc i) a = ap {B = List A} (λ r. x ∷ r) (take-set n l i a)
-
--- A store beyond the part that is taken.
-take-set-beyond : {A : Type 0} (n : ℕ) (l : List A) (i : ℕ) (a : A) → n ≤ i → take n (set l i a) ≡ take n l
-take-set-beyond zero l i a h = refl
-take-set-beyond (suc n) [] i a h = refl
-take-set-beyond (suc n) (x ∷ l) zero a h = absurd (not-suc-le-zero h)
-take-set-beyond {A} (suc n) (x ∷ l) (suc i) a h =
-    ap {B = List A} (λ r. x ∷ r) (take-set-beyond n l i a (le-of-suc-le-suc h))
-
--- A store before the part that is left.
-drop-set-before : {A : Type 0} (n : ℕ) (l : List A) (i : ℕ) (a : A) → i < n → drop n (set l i a) ≡ drop n l
-drop-set-before zero l i a h = absurd (not-suc-le-zero h)
-drop-set-before (suc n) [] i a h = refl
-drop-set-before (suc n) (x ∷ l) zero a h = refl
-drop-set-before (suc n) (x ∷ l) (suc i) a h = drop-set-before n l i a (le-of-suc-le-suc h)
-
-drop-set : {A : Type 0} (n : ℕ) (l : List A) (i : ℕ) (a : A) → drop n (set l (n + i) a) ≡ set (drop n l) i a
-drop-set zero l i a = rw (zero-add i)
-drop-set (suc n) [] i a = refl
-drop-set (suc n) (x ∷ l) i a = rw (suc-add n i) (drop-set n l i a)
-
-get-take : {A : Type 0} (n : ℕ) (l : List A) (i : ℕ) (d : A) → i < n → getD (take n l) i d ≡ getD l i d
-get-take zero l i d h = absurd (not-suc-le-zero h)
-get-take (suc n) [] i d h = refl
-get-take (suc n) (x ∷ l) zero d h = refl
-get-take (suc n) (x ∷ l) (suc i) d h = get-take n l i d (le-of-suc-le-suc h)
-
-get-drop : {A : Type 0} (n : ℕ) (l : List A) (i : ℕ) (d : A) → getD (drop n l) i d ≡ getD l (n + i) d
-get-drop zero l i d = rw (zero-add i)
-get-drop (suc n) [] i d = refl
-get-drop (suc n) (x ∷ l) i d = rw (suc-add n i) (get-drop n l i d)
-
 module _ (rows : List (List ℕ)) where
   -- A priority's list is its row.
   pub list-read : (p : ℕ) → p < priorities → listFrom (getD rows p []) ≡ getD (queueOf rows .realtime) p emptyQueue
   unfolding queueOf listFrom linkFrom ifEqual choose
   list-read p h =
-      sym (List·getD-map listFrom (take priorities rows) p [] ∙ ap listFrom (get-take priorities rows p [] h))
+      sym (List·getD-map listFrom (take priorities rows) p [] ∙ ap listFrom (getD-take priorities rows p [] h))
 
   -- A tree's root is its row.
   pub root-read : (k : ℕ) → k < treeCount
       → rootFrom (getD rows (rootRows + k) []) ≡ getD (queueOf rows .indices) k emptyRoot
   unfolding queueOf rootFrom linkFrom ifEqual choose
   root-read k h = sym (List·getD-map rootFrom (take treeCount (drop rootRows rows)) k []
-      ∙ ap rootFrom (get-take treeCount (drop rootRows rows) k [] h ∙ get-drop rootRows rows k []))
+      ∙ ap rootFrom (getD-take treeCount (drop rootRows rows) k [] h ∙ getD-drop rootRows rows k []))
 
   pub real-time-stored : (p : ℕ) (w : List ℕ) {l : ThreadQueue} → listFrom w ≡ l → p < priorities
       → queueOf (set rows p w) ≡ withRealtime (queueOf rows) p l
   unfolding queueOf withRealtime
   real-time-stored p w e h =
       rw (
-        take-set priorities rows p w,
+        take-set-lt priorities rows p w h,
         map-set listFrom (take priorities rows) p w,
         getD-set-other rows p marksRow w [] (λ e. omega arith),
         getD-set-other rows p fairRow w [] (λ e. omega arith),
-        drop-set-before rootRows rows p w (omega arith),
+        drop-set-lt rootRows rows p w (omega arith),
         e,
       )
 
@@ -110,10 +72,10 @@ module _ (rows : List (List ℕ)) where
   fair-stored w s e h =
       rw (
         s,
-        take-set-beyond priorities rows fairRow w (omega arith),
+        take-set-le priorities rows fairRow w (omega arith),
         getD-set-same rows fairRow w [] (omega arith),
         getD-set-other rows fairRow marksRow w [] (λ e. omega arith),
-        drop-set-before rootRows rows fairRow w (omega arith),
+        drop-set-lt rootRows rows fairRow w (omega arith),
         e,
       )
 
@@ -122,11 +84,11 @@ module _ (rows : List (List ℕ)) where
   unfolding queueOf withRoot rootFrom
   root-stored k w {root} e h =
       rw (
-        take-set-beyond priorities rows (rootRows + k) w (omega arith),
+        take-set-le priorities rows (rootRows + k) w (omega arith),
         getD-set-other rows (rootRows + k) marksRow w [] (λ e. omega arith),
         getD-set-other rows (rootRows + k) fairRow w [] (λ e. omega arith),
-        drop-set rootRows rows k w,
-        take-set treeCount (drop rootRows rows) k w,
+        drop-set-add rootRows rows k w,
+        take-set-lt treeCount (drop rootRows rows) k w h,
         map-set rootFrom (take treeCount (drop rootRows rows)) k w,
         stored,
       )
@@ -140,11 +102,11 @@ module _ (rows : List (List ℕ)) where
   marks-stored w s h =
       rw (
         s,
-        take-set-beyond priorities rows marksRow w (omega arith),
+        take-set-le priorities rows marksRow w (omega arith),
         getD-set-same rows marksRow w [] (omega arith),
         getD-set-other rows marksRow fairRow w [] (λ e. omega arith),
-        drop-set rootRows rows treeCount w,
-        take-set-beyond treeCount (drop rootRows rows) treeCount w (omega arith),
+        drop-set-add rootRows rows treeCount w,
+        take-set-le treeCount (drop rootRows rows) treeCount w (omega arith),
       )
 
   -- The row of counts, epoch and mark as it was but for the counts, or for the mark.
@@ -181,6 +143,12 @@ pub list-words : (w : List ℕ) {l : ThreadQueue} → linkFrom (word w headTag) 
     → linkFrom (word w tailTag) (word w tailWord) ≡ l .tail → word w lenWord ≡ l .len → listFrom w ≡ l
 unfolding listFrom
 list-words w head tail len = rw (head, tail, len)
+
+-- The links that a row's words stand for and its length are the row's list.
+pub list-made : (w : List ℕ) {head tail : Link} → head ≡ linkFrom (word w headTag) (word w headWord)
+    → tail ≡ linkFrom (word w tailTag) (word w tailWord)
+    → record { head = head; tail = tail; len = word w lenWord } ≡ listFrom w
+list-made w head tail = sym (list-words w (sym head) (sym tail) refl)
 
 -- The list, the root and the counts stored in this order are the parts stored.
 module _ (x : CpuRunQueue) (k : ℕ) (p : Parts) {x₁ x₂ x₃ : CpuRunQueue} where

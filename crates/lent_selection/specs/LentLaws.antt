@@ -6,6 +6,7 @@ use mathlib.Core.Bool.{Bool, true, false}
 use mathlib.Core.List.{List, [], _∷_, _++_}
 use lib.Dec.{ltb}
 use lib.ListN.{length, getD, set, take, drop, length-take, length-drop}
+use lib.Seq.{take-append-le, take-take, take-at, drop-at, getD-take, getD-drop, getD-append-add}
 use borrow.Author.Tests.{eq-eqb, ne-eqb}
 use Rattle.refusal.specs.Answer.{Answer, value, refused, numberOf, badConfig, queueHalted, badTable}
 use Rattle.refusal.specs.declared.Refusal.{Refusal}
@@ -44,68 +45,6 @@ use Rattle.lent_selection.specs.LentParts.{withIndices, withEpoch, withM
 use Rattle.lent_selection.specs.LentParts.{besideQueue, runningQueue, peekQueue}
 
 -- The rows of the roots put back: the other rows are as they were.
-module _ {A : Type 0} (a p z : List A) where
-  take-first : (n : ℕ) → n ≤ length a → take n (a ++ (p ++ z)) ≡ take n a
-  take-first n h = go a n h
-    where
-      go : (a : List A) (n : ℕ) → n ≤ length a → take n (a ++ (p ++ z)) ≡ take n a
-      go a zero h = refl
-      go [] (suc n) h = absurd (omega arith)
-      go (x ∷ a) (suc n) h = ap {B = List A} (λ r. x ∷ r) (go a n (omega arith))
-
-  read-first : (k : ℕ) (d : A) → k < length a → getD (a ++ (p ++ z)) k d ≡ getD a k d
-  read-first k d h = go a k h
-    where
-      go : (a : List A) (k : ℕ) → k < length a → getD (a ++ (p ++ z)) k d ≡ getD a k d
-      go [] k h = absurd (omega arith)
-      go (x ∷ a) zero h = refl
-      go (x ∷ a) (suc k) h = go a k (omega arith)
-
-  drop-first : drop (length a) (a ++ (p ++ z)) ≡ p ++ z
-  drop-first = go a
-    where
-      go : (a : List A) → drop (length a) (a ++ (p ++ z)) ≡ p ++ z
-      go [] = refl
-      go (x ∷ a) = go a
-
-  pub read-last : (k : ℕ) (d : A) → getD (a ++ (p ++ z)) (length a + (length p + k)) d ≡ getD z k d
-  read-last k d = go a
-    where
-      part : (p : List A) → getD (p ++ z) (length p + k) d ≡ getD z k d
-      part [] = let e : 0 + k ≡ k = omega arith in ap (λ n. getD z n d) e
-      part (x ∷ p) =
-          let e : suc (length p) + k ≡ suc (length p + k) = omega arith in ap (λ n. getD (x ∷ (p ++ z)) n d) e ∙ part p
-
-      go : (a : List A) → getD (a ++ (p ++ z)) (length a + (length p + k)) d ≡ getD z k d
-      go [] = let e : 0 + (length p + k) ≡ length p + k = omega arith in ap (λ n. getD (p ++ z) n d) e ∙ part p
-      go (x ∷ a) =
-          let e : suc (length a) + (length p + k) ≡ suc (length a + (length p + k)) = omega arith in
-          ap (λ n. getD (x ∷ (a ++ (p ++ z))) n d) e ∙ go a
-
-pub take-all : {A : Type 0} (p z : List A) → take (length p) (p ++ z) ≡ p
-take-all [] z = refl
-take-all {A} (x ∷ p) z = ap {B = List A} (λ r. x ∷ r) (take-all p z)
-
-pub read-dropped : {A : Type 0} (l : List A) (n k : ℕ) (d : A) → getD (drop n l) k d ≡ getD l (n + k) d
-read-dropped l zero k d = let e : k ≡ 0 + k = omega arith in ap (λ n. getD l n d) e
-read-dropped [] (suc n) k d = refl
-read-dropped (x ∷ l) (suc n) k d =
-    let e : suc (n + k) ≡ suc n + k = omega arith in read-dropped l n k d ∙ ap (λ m. getD (x ∷ l) m d) e
-
-read-taken : {A : Type 0} (l : List A) (n k : ℕ) (d : A) → k < n → getD (take n l) k d ≡ getD l k d
-read-taken l zero k d h = absurd (omega arith)
-read-taken [] (suc n) k d h = refl
-read-taken (x ∷ l) (suc n) zero d h = refl
-read-taken (x ∷ l) (suc n) (suc k) d h = read-taken l n k d (omega arith)
-
-take-taken : {A : Type 0} (l : List A) (n m : ℕ) → n ≤ m → take n (take m l) ≡ take n l
-take-taken l zero m h = refl
-take-taken [] (suc n) zero h = refl
-take-taken [] (suc n) (suc m) h = refl
-take-taken (x ∷ l) (suc n) zero h = absurd (omega arith)
-take-taken {A} (x ∷ l) (suc n) (suc m) h = ap {B = List A} (λ r. x ∷ r) (take-taken l n m (omega arith))
-
--- The queue with other rows for its roots.
 module _ (rows part : List (List ℕ)) (size : length rows ≡ queueRows) (of-part : length part ≡ treeCount) where
   abbrev front : List (List ℕ)
   front = take rootRows rows
@@ -121,28 +60,27 @@ module _ (rows part : List (List ℕ)) (size : length rows ≡ queueRows) (of-pa
 
   lists-kept : take priorities put ≡ take priorities rows
   lists-kept =
-      take-first front part rear priorities (let s : length front ≡ rootRows = front-size in omega arith)
-      ∙ take-taken rows priorities rootRows (omega arith)
+      take-append-le priorities front (part ++ rear) (let s : length front ≡ rootRows = front-size in omega arith)
+      ∙ take-take priorities rootRows rows (omega arith)
 
   fair-kept : getD put fairRow [] ≡ getD rows fairRow []
   fair-kept =
-      read-first front part rear fairRow [] (let s : length front ≡ rootRows = front-size in omega arith)
-      ∙ read-taken rows rootRows fairRow [] (omega arith)
+      sym (getD-take rootRows put fairRow [] (omega arith))
+      ∙ ap (λ l. getD l fairRow []) (take-at front (part ++ rear) rootRows front-size)
+      ∙ getD-take rootRows rows fairRow [] (omega arith)
 
   roots-put : take treeCount (drop rootRows put) ≡ part
   roots-put =
-      ap (λ n. take treeCount (drop n put)) (sym front-size)
-      ∙ ap (take treeCount) (drop-first front part rear)
-      ∙ ap (λ n. take n (part ++ rear)) (sym of-part)
-      ∙ take-all part rear
+      ap (take treeCount) (drop-at front (part ++ rear) rootRows front-size) ∙ take-at part rear treeCount of-part
 
   marks-kept : getD put marksRow [] ≡ getD rows marksRow []
   marks-kept =
       ap (λ n. getD put n []) (let s : length front ≡ rootRows = front-size in
       let p : marksRow ≡ length front + (length part + 0) = omega arith in p)
-      ∙ read-last front part rear 0 []
-      ∙ read-dropped (drop rootRows rows) treeCount 0 []
-      ∙ read-dropped rows rootRows treeCount []
+      ∙ getD-append-add front (part ++ rear) (length part + 0) []
+      ∙ getD-append-add part rear 0 []
+      ∙ getD-drop treeCount (drop rootRows rows) 0 []
+      ∙ getD-drop rootRows rows treeCount []
 
   pub roots-stored : queueOf put ≡ withIndices (queueOf rows) (rootsOf part)
   unfolding queueOf withIndices rootsOf

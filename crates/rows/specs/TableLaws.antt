@@ -8,6 +8,7 @@ use mathlib.Core.List.{List, [], _∷_}
 use lib.Dec.{ltb, eqb}
 use lib.ListN.{length, getD, set, length-set}
 use borrow.Author.Tests.{lt-ltb, le-ltb, ltb-true, ltb-false, eqb-true, eqb-false}
+use lib.Seq.{getD-set-same, getD-set-other, set-out}
 use Rattle.refusal.specs.Cases.{never, choose, ifLess}
 use Rattle.policy.specs.declared.SchedulingParameters.{SchedulingParameters}
 use Rattle.policy.specs.declared.SchedulingPolicy.the-variants as policy
@@ -32,24 +33,6 @@ use Rattle.rows.specs.Table.{recordAt, setLinks, setLeft, setRight, setH
 use Rattle.rows.specs.Table.{setTurn}
 use Rattle.rows.specs.TableCases.{onLinks}
 
--- One lemma about `set` at the same place, one at another, one beyond the end.
-get-set-same : {A : Type 0} (l : List A) (i : ℕ) (a d : A) → i < length l → getD (set l i a) i d ≡ a
-get-set-same [] i a d h = absurd (omega arith)
-get-set-same (x ∷ l) zero a d h = refl
-get-set-same (x ∷ l) (suc i) a d h = get-set-same l i a d (omega arith)
-
-get-set-other : {A : Type 0} (l : List A) (i j : ℕ) (a d : A) → (j ≡ i → ⊥) → getD (set l i a) j d ≡ getD l j d
-get-set-other [] i j a d h = refl
-get-set-other (x ∷ l) zero zero a d h = absurd (h refl)
-get-set-other (x ∷ l) zero (suc j) a d h = refl
-get-set-other (x ∷ l) (suc i) zero a d h = refl
-get-set-other (x ∷ l) (suc i) (suc j) a d h = get-set-other l i j a d (λ e. h (ap suc e))
-
-set-beyond : {A : Type 0} (l : List A) (i : ℕ) (a : A) → length l ≤ i → set l i a ≡ l
-set-beyond [] i a h = refl
-set-beyond (x ∷ l) zero a h = absurd (omega arith)
-set-beyond (x ∷ l) (suc i) a h = ap (_∷_ x) (set-beyond l i a (omega arith))
-
 module _ (t : List ThreadRecord) (i : ℕ) (f : ThreadRecord → ThreadRecord) where
   pub length-changed : length (changed t i f) ≡ length t
   unfolding changed
@@ -57,15 +40,15 @@ module _ (t : List ThreadRecord) (i : ℕ) (f : ThreadRecord → ThreadRecord) w
 
   pub record-same : i < length t → recordOf (changed t i f) i ≡ f (recordOf t i)
   unfolding changed recordOf
-  record-same h = get-set-same t i (f (getD t i (decoded []))) (decoded []) h
+  record-same h = getD-set-same t i (f (getD t i (decoded []))) (decoded []) h
 
   pub record-other : (j : ℕ) → (j ≡ i → ⊥) → recordOf (changed t i f) j ≡ recordOf t j
   unfolding changed recordOf
-  record-other j h = get-set-other t i j (f (getD t i (decoded []))) (decoded []) h
+  record-other j h = getD-set-other t i j (f (getD t i (decoded []))) (decoded []) h
 
   pub changed-beyond : length t ≤ i → changed t i f ≡ t
   unfolding changed
-  changed-beyond h = set-beyond t i (f (recordOf t i)) h
+  changed-beyond h = set-out t i (f (recordOf t i)) h
 
   -- Whether the store is made or not, the table is left as changed.
   pub after-storing : after (storing t i f) ≡ changed t i f

@@ -4,8 +4,9 @@ use Prim.Native.Nat.{ℕ, zero, suc, _+_, _<_, _≤_, min}
 use native.Mathlib.Omega.{arith}
 use mathlib.Core.Path.{_≡_, refl, sym, ap, _∙_}
 use mathlib.Core.Bool.{Bool, true, false}
-use mathlib.Core.List.{List, [], _∷_, _++_, map}
-use lib.ListN.{length, getD, set, take, drop, replicate, length-map, length-take, List·getD-map}
+use mathlib.Core.List.{List, [], _∷_, _++_, map, append-nil}
+use lib.ListN.{length, getD, set, take, drop, replicate, length-map, length-take, drop-of-length-le, List·getD-map}
+use lib.Seq.{take-all, take-at, drop-drop, drop-append-add, getD-drop, getD-append-add}
 use Rattle.refusal.specs.Answer.{Answer}
 use Rattle.refusal.specs.Cases.{choose, ifEqual}
 use Rattle.time.specs.declared.Epoch.{Epoch}
@@ -30,7 +31,7 @@ use Rattle.renewal.specs.Renewal.{rootAt}
 use Rattle.renewal.specs.RootRows.{rootsOf, roots-length}
 use Rattle.selection.specs.Peek.{Peeked, peeked, peekNext}
 use Rattle.lent_selection.specs.LentParts.{withIndices}
-use Rattle.lent_selection.specs.LentLaws.{read-last, take-all, read-dropped, roots-stored, part-size}
+use Rattle.lent_selection.specs.LentLaws.{roots-stored, part-size}
 use Rattle.run_queue.specs.Value.{listsOf, withLists, MarksAre}
 
 -- The first so many of one list over those of another.
@@ -46,21 +47,10 @@ over-next zero (x ∷ new) (y ∷ old) d h g = refl
 over-next {A} (suc k) (x ∷ new) (y ∷ old) d h g =
     ap {B = List A} (λ r. x ∷ r) (over-next k new old d (omega arith) (omega arith))
 
-drop-all : {A : Type 0} (k : ℕ) (old : List A) → length old ≤ k → drop k old ≡ []
-drop-all zero [] g = refl
-drop-all (suc k) [] g = refl
-drop-all zero (y ∷ old) g = absurd (omega arith)
-drop-all (suc k) (y ∷ old) g = drop-all k old (omega arith)
-
-take-whole : {A : Type 0} (k : ℕ) (new : List A) → length new ≤ k → take k new ++ [] ≡ new
-take-whole zero [] h = refl
-take-whole (suc k) [] h = refl
-take-whole zero (x ∷ new) h = absurd (omega arith)
-take-whole {A} (suc k) (x ∷ new) h = ap {B = List A} (λ r. x ∷ r) (take-whole k new (omega arith))
-
 over-all : {A : Type 0} (k : ℕ) (new old : List A) → length new ≤ k → length old ≤ k → overlaid k new old ≡ new
 unfolding overlaid
-over-all k new old h g = ap (λ z. take k new ++ z) (drop-all k old g) ∙ take-whole k new h
+over-all k new old h g =
+    ap (λ z. take k new ++ z) (drop-of-length-le old g) ∙ append-nil (take k new) ∙ take-all k new h
 
 -- A list laid over another of the same length, one after the other.
 module _ {A : Type 0} (new old : List A) where
@@ -109,35 +99,23 @@ pub list-got : {l : ThreadQueue} (rows : List (List ℕ)) (k : ℕ) → l ≡ li
 unfolding listsOf listFrom linkFrom ifEqual choose
 list-got rows k e = e ∙ sym (List·getD-map listFrom rows k [])
 
-drop-over : {A : Type 0} (p z : List A) (n : ℕ) → drop (length p + n) (p ++ z) ≡ drop n z
-drop-over [] z n = let e : 0 + n ≡ n = omega arith in ap (λ m. drop m z) e
-drop-over (x ∷ p) z n =
-    let e : suc (length p) + n ≡ suc (length p + n) = omega arith in ap (λ m. drop m (x ∷ (p ++ z))) e ∙ drop-over p z n
-
-drop-dropped : {A : Type 0} (l : List A) (n k : ℕ) → drop k (drop n l) ≡ drop (n + k) l
-drop-dropped l zero k = let e : k ≡ 0 + k = omega arith in ap (λ n. drop n l) e
-drop-dropped [] (suc n) k = drop-all k [] (omega arith) ∙ sym (drop-all (suc n + k) [] (omega arith))
-drop-dropped (x ∷ l) (suc n) k =
-    let e : suc (n + k) ≡ suc n + k = omega arith in drop-dropped l n k ∙ ap (λ m. drop m (x ∷ l)) e
-
 -- The queue with other rows for its lists.
 module _ (rows part : List (List ℕ)) (of-part : length part ≡ priorities) where
   abbrev rear : List (List ℕ)
   rear = drop priorities rows
 
   lists-put-there : take priorities (part ++ rear) ≡ part
-  lists-put-there = ap (λ n. take n (part ++ rear)) (sym of-part) ∙ take-all part rear
+  lists-put-there = take-at part rear priorities of-part
 
   row-kept : (k : ℕ) → getD (part ++ rear) (priorities + k) [] ≡ getD rows (priorities + k) []
   row-kept k =
       ap (λ n. getD (part ++ rear) (n + k) []) (sym of-part)
-      ∙ (let e : length part + k ≡ 0 + (length part + k) = omega arith in ap (λ n. getD (part ++ rear) n []) e)
-      ∙ read-last [] part rear k []
-      ∙ read-dropped rows priorities k []
+      ∙ getD-append-add part rear k []
+      ∙ getD-drop priorities rows k []
 
   roots-kept : drop rootRows (part ++ rear) ≡ drop rootRows rows
   roots-kept =
-      ap (λ n. drop (n + 1) (part ++ rear)) (sym of-part) ∙ drop-over part rear 1 ∙ drop-dropped rows priorities 1
+      ap (λ n. drop (n + 1) (part ++ rear)) (sym of-part) ∙ drop-append-add part rear 1 ∙ drop-drop 1 priorities rows
 
   lists-stored : queueOf (part ++ rear) ≡ withLists (queueOf rows) (listsOf part)
   unfolding queueOf withLists listsOf

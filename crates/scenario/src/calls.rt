@@ -1,32 +1,6 @@
-// The calls of crate board, on the letters' words and the rows of a run. Each answers document 01's number. A call
-// stands
-// alone in its function, since what its contract says is carried through all that follows.
-use crate::state::BACK;
-use crate::state::CONFIG;
-use crate::state::DEMAND;
-use crate::state::END;
-use crate::state::EXPIRED;
-use crate::state::FRONT;
-use crate::state::ITS_MODE;
-use crate::state::KEY;
-use crate::state::LENGTHS;
-use crate::state::READING;
-use crate::state::ROW;
-use crate::state::RUNNER;
-use crate::state::RUNS;
-use crate::state::SELECTED;
-use crate::state::START;
-use crate::state::STOP;
-use crate::state::SWITCHES;
-use crate::state::State;
-use crate::state::TAIL;
-use crate::state::THREAD;
-use crate::state::WINDOW;
-use crate::state::WORD;
-use crate::state::YIELDING;
-use crate::state::plus;
-use crate::words::copy;
-use crate::words::keep;
+// The calls of crate board on a run. Each leaves its answer and document 01's number; after a refusal none is made. A
+// call stands alone in its function, since what its contract says is carried through all that follows.
+use crate::run::Run;
 use board::board_account;
 use board::board_candidate;
 use board::board_deadline;
@@ -41,237 +15,271 @@ use board::board_remove;
 use board::board_select;
 use board::board_switch;
 use board::board_window;
+use board_words::CHOICE_WORDS;
+use board_words::FLAG_WORDS;
+use board_words::LENGTH_WORDS;
+use board_words::ReadyWords;
+use board_words::SELECTION_WORDS;
+use board_words::SelectionWords;
 use codec::Row;
 use lent_queue::QueueRows;
+use policy_words::DEADLINE_WORDS;
+use policy_words::ROW_WORDS;
+use ready_index::MAX_PATH;
+use ready_index::PATH_STEP_WORDS;
+use text::saturating_add;
+use window_words::ConfigWords;
+use window_words::DemandWords;
+use window_words::KEY_WORDS;
 
-const FAIR_LENGTH: usize = 61;
+// Words of a selection: whether there is a thread, and its number; whether there is a lowest fair pass, and its halves.
+pub const SELECTED: usize = 0;
 
-const BUDGET_LENGTH: usize = 62;
+pub const SELECTED_ID: usize = 1;
 
-// What a call leaves is kept by its type, which lending it as a list of words needs.
-fn keep_window(x: &mut State, words: &[u64; 12]) {
-    keep(x, WINDOW, words);
-}
+pub const PASS_TAG: usize = 16;
 
-pub fn keep_row(x: &mut State, words: &Row) {
-    keep(x, ROW, words);
-}
+pub const PASS_HIGH: usize = 17;
 
-fn keep_selection(x: &mut State, words: &[u64; 19]) {
-    keep(x, SELECTED, words);
-}
+pub const PASS_LOW: usize = 18;
 
-fn keep_key(x: &mut State, words: &[u64; 9]) {
-    keep(x, KEY, words);
-}
+// Of a choice and of a deadline: whether there is one; whether the running thread goes to the front; the deadline.
+pub const IS_THERE: usize = 0;
 
-fn keep_lengths(x: &mut State, words: &[u64; 3]) {
-    keep(x, LENGTHS, words);
-}
+pub const TO_FRONT: usize = 1;
 
-fn keep_two(x: &mut State, at: usize, words: &[u64; 2]) {
-    keep(x, at, words);
-}
+pub const WHEN: usize = 1;
 
-pub fn put(q: &mut QueueRows, t: &mut [Row], x: &State) -> u64 {
-    let mut path = [[0u64; 2]; 40];
-    let id = x[THREAD];
-    if x[END] != 0 {
-        return board_enqueue_front(q, t, &mut path, id, 0);
+// The lengths.
+pub const REAL_TIME: usize = 0;
+
+pub const FAIR: usize = 1;
+
+pub const BUDGET: usize = 2;
+
+pub fn enqueue(q: &mut QueueRows, t: &mut [Row], given: Run, id: u64) -> Run {
+    if given.number != 0 {
+        return given;
     }
-    board_enqueue(q, t, &mut path, id, 0)
+    let mut path = [[0u64; PATH_STEP_WORDS]; MAX_PATH];
+    let mut x = given;
+    x.number = board_enqueue(q, t, &mut path, id, 0);
+    x
 }
 
-pub fn remove(q: &mut QueueRows, t: &mut [Row], x: &State) -> u64 {
-    let mut path = [[0u64; 2]; 40];
-    board_remove(q, t, &mut path, x[THREAD], 0)
+pub fn enqueue_front(q: &mut QueueRows, t: &mut [Row], given: Run, id: u64) -> Run {
+    if given.number != 0 {
+        return given;
+    }
+    let mut path = [[0u64; PATH_STEP_WORDS]; MAX_PATH];
+    let mut x = given;
+    x.number = board_enqueue_front(q, t, &mut path, id, 0);
+    x
 }
 
-fn select_in(
-    q: &mut QueueRows,
-    t: &mut [Row],
-    now: u64,
-    window: &mut [u64; 12],
-    running: u64,
-    current: &Row,
-    answer: &mut [u64; 19],
-) -> u64 {
-    let mut path = [[0u64; 2]; 40];
-    board_select(q, t, &mut path, 0, now, window, running, current, answer)
+pub fn remove(q: &mut QueueRows, t: &mut [Row], given: Run, id: u64) -> Run {
+    if given.number != 0 {
+        return given;
+    }
+    let mut path = [[0u64; PATH_STEP_WORDS]; MAX_PATH];
+    let mut x = given;
+    x.number = board_remove(q, t, &mut path, id, 0);
+    x
 }
 
-pub fn select(q: &mut QueueRows, t: &mut [Row], x: &mut State) -> u64 {
-    let mut window = [0u64; 12];
-    let mut current = [0u64; 32];
-    let mut answer = [0u64; 19];
-    copy(&mut window, x, WINDOW);
-    copy(&mut current, x, ROW);
-    let number = select_in(
+// The demand, behind the thread.
+fn demand_in(w: SelectionWords) -> DemandWords {
+    [w[11], w[12], w[13], w[14], w[15]]
+}
+
+// With the candidate as the running thread, if one runs.
+pub fn select(q: &mut QueueRows, t: &mut [Row], given: Run, now: u64, runs: u64) -> Run {
+    if given.number != 0 {
+        return given;
+    }
+    let mut path = [[0u64; PATH_STEP_WORDS]; MAX_PATH];
+    let mut window = given.window;
+    let current = given.candidate;
+    let mut answer = [0u64; SELECTION_WORDS];
+    let mut x = given;
+    x.number = board_select(
         q,
         t,
-        x[READING],
+        &mut path,
+        0,
+        now,
         &mut window,
-        x[RUNS],
+        runs,
         &current,
         &mut answer,
     );
-    keep_window(x, &window);
-    keep_selection(x, &answer);
-    number
+    let demand = demand_in(answer);
+    x.window = window;
+    x.selected = answer;
+    x.demand = demand;
+    x
 }
 
-fn prepare_in(t: &mut [Row], x: &State, turns: &mut [u64; 2]) -> u64 {
-    board_prepare(t, x[THREAD], x[END], x[READING], turns)
+pub fn prepare(t: &mut [Row], given: Run, id: u64, front: u64, now: u64) -> Run {
+    if given.number != 0 {
+        return given;
+    }
+    let mut turns = given.turns;
+    let mut x = given;
+    x.number = board_prepare(t, id, front, now, &mut turns);
+    x.turns = turns;
+    x
 }
 
-pub fn prepare(t: &mut [Row], x: &mut State) -> u64 {
-    let mut turns = [x[BACK], x[FRONT]];
-    let number = prepare_in(t, x, &mut turns);
-    keep_two(x, BACK, &turns);
-    number
+pub fn account(t: &mut [Row], given: Run, id: u64, mode: u64, start: u64, end: u64) -> Run {
+    if given.number != 0 {
+        return given;
+    }
+    let mut window = given.window;
+    let mut x = given;
+    x.number = board_account(t, id, &mut window, mode, start, end);
+    x.window = window;
+    x
 }
 
-fn account_in(t: &mut [Row], x: &State, window: &mut [u64; 12]) -> u64 {
-    board_account(t, x[THREAD], window, x[ITS_MODE], x[START], x[STOP])
+pub fn finish(t: &mut [Row], given: Run, id: u64) -> Run {
+    if given.number != 0 {
+        return given;
+    }
+    let mut x = given;
+    x.number = board_finish(t, id);
+    x
 }
 
-pub fn account(t: &mut [Row], x: &mut State) -> u64 {
-    let mut window = [0u64; 12];
-    copy(&mut window, x, WINDOW);
-    let number = account_in(t, x, &mut window);
-    keep_window(x, &window);
-    number
-}
-
-pub fn finish(t: &mut [Row], x: &State) -> u64 {
-    board_finish(t, x[THREAD])
-}
-
-fn expired_in(t: &[Row], id: u64, answer: &mut [u64; 1]) -> u64 {
-    board_expired(t, id, answer)
-}
-
-pub fn expired(t: &[Row], x: &mut State) -> u64 {
-    let mut answer = [0u64; 1];
-    let number = expired_in(t, x[THREAD], &mut answer);
-    x[EXPIRED] = answer[0];
-    number
-}
-
-fn candidate_in(t: &mut [Row], x: &State, row: &mut Row) -> u64 {
-    board_candidate(t, x[RUNNER], x[RUNS], x[READING], row)
+pub fn expired(t: &[Row], given: Run, id: u64) -> Run {
+    if given.number != 0 {
+        return given;
+    }
+    let mut answer = [0u64; FLAG_WORDS];
+    let mut x = given;
+    x.number = board_expired(t, id, &mut answer);
+    x.expired = answer[0];
+    x
 }
 
 // The running thread, refreshed, as selection and keys take it.
-pub fn candidate(t: &mut [Row], x: &mut State) -> u64 {
-    let mut row = [0u64; 32];
-    let number = candidate_in(t, x, &mut row);
-    keep_row(x, &row);
-    number
+pub fn candidate(t: &mut [Row], given: Run, id: u64, runs: u64, now: u64) -> Run {
+    if given.number != 0 {
+        return given;
+    }
+    let mut row = [0u64; ROW_WORDS];
+    let mut x = given;
+    x.number = board_candidate(t, id, runs, now, &mut row);
+    x.candidate = row;
+    x
 }
 
-fn key_in(
-    now: u64,
-    window: &mut [u64; 12],
-    row: &Row,
-    demand: &[u64; 5],
-    answer: &mut [u64; 9],
-) -> u64 {
-    board_key(window, now, row, demand, answer)
+// A thread's key under the demand of the last selection.
+pub fn key(given: Run, row: Row, now: u64) -> Run {
+    if given.number != 0 {
+        return given;
+    }
+    let mut window = given.window;
+    let its_demand = given.demand;
+    let mut answer = [0u64; KEY_WORDS];
+    let mut x = given;
+    x.number = board_key(&mut window, now, &row, &its_demand, &mut answer);
+    x.window = window;
+    x.key = answer;
+    x
 }
 
-// The row's key under the demand of the last selection.
-pub fn key(x: &mut State) -> u64 {
-    let mut window = [0u64; 12];
-    let mut row = [0u64; 32];
-    let mut demand = [0u64; 5];
-    let mut answer = [0u64; 9];
-    copy(&mut window, x, WINDOW);
-    copy(&mut row, x, ROW);
-    copy(&mut demand, x, DEMAND);
-    let number = key_in(x[READING], &mut window, &row, &demand, &mut answer);
-    keep_window(x, &window);
-    keep_key(x, &answer);
-    number
+// The key of the running thread; none where there is none.
+pub fn runner_key(given: Run, runs: u64, now: u64) -> Run {
+    if given.number != 0 {
+        return given;
+    }
+    if runs != 0 {
+        let row = given.candidate;
+        return key(given, row, now);
+    }
+    let mut x = given;
+    x.key = [0; KEY_WORDS];
+    x
 }
 
-fn switch_in(x: &State, ready: &[u64; 9], key: &[u64; 9], row: &Row, answer: &mut [u64; 2]) -> u64 {
-    board_switch(ready, key, row, x[EXPIRED], x[YIELDING], x[TAIL], answer)
+// What the switch rule compares: a selection's first words.
+fn ready_in(w: SelectionWords) -> ReadyWords {
+    [w[0], w[1], w[2], w[3], w[4], w[5], w[6], w[7], w[8]]
 }
 
 // The switch rule between the last selection and the running thread.
-pub fn switch(x: &mut State) -> u64 {
-    let mut ready = [0u64; 9];
-    let mut key = [0u64; 9];
-    let mut row = [0u64; 32];
-    let mut answer = [0u64; 2];
-    copy(&mut ready, x, SELECTED);
-    copy(&mut key, x, KEY);
-    copy(&mut row, x, ROW);
-    let number = switch_in(x, &ready, &key, &row, &mut answer);
-    keep_two(x, SWITCHES, &answer);
-    number
+pub fn switch(given: Run, yielding: u64, tail: u64) -> Run {
+    if given.number != 0 {
+        return given;
+    }
+    let selected = given.selected;
+    let ready = ready_in(selected);
+    let its_key = given.key;
+    let row = given.candidate;
+    let mut answer = [0u64; CHOICE_WORDS];
+    let mut x = given;
+    x.number = board_switch(
+        &ready,
+        &its_key,
+        &row,
+        given.expired,
+        yielding,
+        tail,
+        &mut answer,
+    );
+    x.choice = answer;
+    x
 }
 
-fn lengths_in(q: &QueueRows, answer: &mut [u64; 3]) {
-    board_lengths(q, answer);
-}
-
-pub fn lengths(q: &QueueRows, x: &mut State) {
-    let mut answer = [0u64; 3];
-    lengths_in(q, &mut answer);
-    keep_lengths(x, &answer);
-}
-
-fn deadline_in(
-    t: &mut [Row],
-    x: &State,
-    key: &[u64; 9],
-    window: &mut [u64; 12],
-    demand: &[u64; 5],
-    answer: &mut [u64; 2],
-) -> u64 {
-    board_deadline(
-        t,
-        x[THREAD],
-        x[READING],
-        key,
-        window,
-        plus(x[LENGTHS], x[FAIR_LENGTH]),
-        x[BUDGET_LENGTH],
-        x[SELECTED],
-        demand,
-        answer,
-    )
+pub fn lengths(q: &QueueRows, given: Run) -> Run {
+    if given.number != 0 {
+        return given;
+    }
+    let mut answer = [0u64; LENGTH_WORDS];
+    board_lengths(q, &mut answer);
+    let mut x = given;
+    x.lengths = answer;
+    x
 }
 
 // There is competition where anybody is queued.
-pub fn deadline(t: &mut [Row], x: &mut State) -> u64 {
-    let mut key = [0u64; 9];
-    let mut window = [0u64; 12];
-    let mut demand = [0u64; 5];
-    let mut answer = [0u64; 2];
-    copy(&mut key, x, KEY);
-    copy(&mut window, x, WINDOW);
-    copy(&mut demand, x, DEMAND);
-    let number = deadline_in(t, x, &key, &mut window, &demand, &mut answer);
-    keep_window(x, &window);
-    x[SWITCHES] = answer[0];
-    x[WORD] = answer[1];
-    number
+fn competition(x: Run) -> u64 {
+    saturating_add(x.lengths[REAL_TIME], x.lengths[FAIR])
 }
 
-fn window_in(fresh: &mut [u64; 12], config: &[u64; 8]) -> u64 {
-    board_window(fresh, config)
+pub fn deadline(t: &mut [Row], given: Run, id: u64, now: u64) -> Run {
+    if given.number != 0 {
+        return given;
+    }
+    let others = competition(given);
+    let its_key = given.key;
+    let mut window = given.window;
+    let its_demand = given.demand;
+    let mut answer = [0u64; DEADLINE_WORDS];
+    let mut x = given;
+    x.number = board_deadline(
+        t,
+        id,
+        now,
+        &its_key,
+        &mut window,
+        others,
+        given.lengths[BUDGET],
+        given.selected[SELECTED],
+        &its_demand,
+        &mut answer,
+    );
+    x.window = window;
+    x.deadline = answer;
+    x
 }
 
-// A new window, by the numbers of its line.
-pub fn window(x: &mut State) -> u64 {
-    let mut fresh = [0u64; 12];
-    let mut config = [0u64; 8];
-    copy(&mut fresh, x, WINDOW);
-    copy(&mut config, x, CONFIG);
-    let number = window_in(&mut fresh, &config);
-    keep_window(x, &fresh);
-    number
+// A new window.
+pub fn window(given: Run, config: ConfigWords) -> Run {
+    let mut window = given.window;
+    let mut x = given;
+    x.number = board_window(&mut window, &config);
+    x.window = window;
+    x
 }

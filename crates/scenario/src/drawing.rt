@@ -4,28 +4,19 @@ use crate::printing::listed;
 use crate::printing::mode;
 use crate::printing::name;
 use crate::printing::plain;
-use crate::printing::print;
-use crate::state::CURRENT;
-use crate::state::DEMAND;
-use crate::state::HOOKS;
-use crate::state::KEY;
-use crate::state::KEY_MODE;
-use crate::state::LANES;
-use crate::state::NOW;
-use crate::state::OUTPUT;
-use crate::state::PICTURE;
-use crate::state::SHADED;
-use crate::state::SPAN;
-use crate::state::State;
-use crate::state::THREADS;
-use crate::state::UNIT;
-use crate::state::WINDOW;
-use crate::state::WINDOW_FLOOR;
-use crate::state::least;
-use crate::state::minus;
-use crate::state::more;
-use crate::state::plus;
-use crate::state::word;
+use crate::run::PICTURE;
+use crate::run::Run;
+use crate::run::at;
+use text::print;
+use text::print_page;
+use text::saturating_add;
+use time::min_of;
+use time::saturating_sub;
+use window_words::DEMAND_PROTECTED;
+use window_words::FLOOR_LEFT;
+use window_words::KEY_MODE;
+use window_words::KEY_TAG;
+use window_words::WINDOW_PERIOD;
 
 // As many pixels for the whole run.
 const WIDTH: u64 = 820;
@@ -35,37 +26,53 @@ const LEFT: u64 = 150;
 
 const TOP: u64 = 48;
 
+const LANES_TOP: u64 = 60;
+
+const LANE_HEIGHT: u64 = 34;
+
+// A bar that has room for its mode.
+const WIDE: u64 = 60;
+
+// The byte before the first hook's letter.
+const BEFORE_A: u64 = 64;
+
+const MOST_EDGES: u64 = 64;
+
 // Where a reading is, by the nanoseconds of a pixel.
 fn across(unit: u64, reading: u64) -> u64 {
     if unit == 0 {
         return LEFT;
     }
-    plus(LEFT, reading / unit)
+    saturating_add(LEFT, reading / unit)
 }
 
 // Where a lane is.
 fn down(lane: u64) -> u64 {
-    60 + 34 * (lane % 32)
+    LANES_TOP + LANE_HEIGHT * (lane % 32)
 }
 
-// A rectangle, filled as the words say.
 fn rectangle(x: u64, y: u64, width: u64, height: u64, fill: &[u8]) {
-    print(b"<rect x='%a' y='%b' width='%c' ", &[x, y, width], b"");
-    print(b"height='%a' fill='%@'/>", &[height], fill);
+    let mut out = [0u8; 512];
+    let n = text::rectangle(&mut out, 0, &[x, y, width, height], fill);
+    print_page(&out, n);
 }
 
-// Words at a place.
 fn label(x: u64, y: u64, words: &[u8]) {
-    print(b"<text x='%a' y='%b'>%@</text>\n", &[x, y], words);
+    let mut out = [0u8; 512];
+    let n = text::label(&mut out, 0, &[x, y], words);
+    print_page(&out, n);
 }
 
-// A mark that points down to a place.
 fn mark(x: u64, y: u64) {
-    print(b"<path d='M%a %b l-5 -9 h10 z'/>", &[x, y], b"");
+    let mut out = [0u8; 512];
+    let n = text::mark(&mut out, 0, &[x, y]);
+    print_page(&out, n);
 }
 
-fn new_line() {
-    plain(b"\n");
+fn dashes(x: u64, top: u64, bottom: u64) {
+    let mut out = [0u8; 512];
+    let n = text::dashes(&mut out, 0, &[x, top, bottom]);
+    print_page(&out, n);
 }
 
 // The end of the period that holds a reading; the last reading where it does not fit.
@@ -73,183 +80,163 @@ fn period_end(period: u64, reading: u64) -> u64 {
     if period == 0 {
         return reading;
     }
-    plus(minus(reading, reading % period), period)
+    saturating_add(saturating_sub(reading, reading % period), period)
 }
 
-fn shade_from(left: u64, right: u64, height: u64) {
+// Where protection is due.
+fn shaded(left: u64, right: u64, height: u64, now: u64) {
     rectangle(
         left,
         TOP,
-        minus(right, left),
+        saturating_sub(right, left),
         height,
         b"#d04040' fill-opacity='0.13",
     );
-    new_line();
-}
-
-fn due_at(x: u64, now: u64) {
     print(
-        b"<text x='%a' y='44' fill='#b03030'>protection due at %b</text>\n",
-        &[x, now],
+        b"\n<text x='%a' y='44' fill='#b03030'>protection due at %b</text>\n",
+        &[left, now],
         b"",
     );
 }
 
-// Where protection is due, from now to the period's end, once in a period.
-fn shade(x: &mut State) {
-    let now = x[NOW];
-    let end = period_end(x[WINDOW], now);
-    if end <= x[SHADED] {
-        return;
+// From now to the period's end, once in a period.
+fn shade(given: Run) -> Run {
+    let now = given.now;
+    let end = period_end(given.window[WINDOW_PERIOD], now);
+    if end <= given.shaded {
+        return given;
     }
-    x[SHADED] = end;
-    let left = across(x[UNIT], now);
-    let right = across(x[UNIT], least(end, x[SPAN]));
-    shade_from(left, right, minus(down(x[LANES]), TOP));
-    due_at(left, now);
+    let right = across(given.unit, min_of(end, given.span));
+    let height = saturating_sub(down(given.lanes), TOP);
+    shaded(across(given.unit, now), right, height, now);
+    let mut x = given;
+    x.shaded = end;
+    x
 }
 
 // Protection is due where a protected thread asks, and what is left of the period is no more than what is left of the
 // floor.
-fn is_due(x: &State) -> bool {
-    if x[DEMAND] == 0 {
+fn is_due(x: Run) -> bool {
+    if x.demand[DEMAND_PROTECTED] == 0 {
         return false;
     }
-    if x[WINDOW_FLOOR] == 0 {
+    if x.window[FLOOR_LEFT] == 0 {
         return false;
     }
-    minus(period_end(x[WINDOW], x[NOW]), x[WINDOW_FLOOR]) <= x[NOW]
-}
-
-fn white(x: u64, y: u64) {
-    print(
-        b"<text x='%a' y='%b' fill='white' font-size='11'>",
-        &[x, y],
-        b"",
-    );
+    let end = period_end(x.window[WINDOW_PERIOD], x.now);
+    saturating_sub(end, x.window[FLOOR_LEFT]) <= x.now
 }
 
 // The mode's name, where the bar has room for it.
 fn mode_in(left: u64, width: u64, y: u64, its_mode: u64) {
-    if width < 60 {
+    if width < WIDE {
         return;
     }
-    white(plus(left, 5), plus(y, 14));
+    print(
+        b"<text x='%a' y='%b' fill='white' font-size='11'>",
+        &[saturating_add(left, 5), saturating_add(y, 14)],
+        b"",
+    );
     mode(its_mode, b"%@</text>\n");
 }
 
-// A bar in the colour of a hook, by its letter.
+// A bar in the colour of a hook, by its letter, with a mark where it is chosen.
 fn bar_at(left: u64, width: u64, y: u64, hook: u64) {
     print(b"<rect x='%a' y='%b' width='%c' ", &[left, y, width], b"");
     listed(
         b"height='20' fill='%@'/>\n",
         b"#9a9a9a|#2878b8|#e07b20|#3a9a50",
-        minus(hook, 64) % 4,
+        saturating_sub(hook, BEFORE_A) % 4,
     );
     mark(left, y);
-    new_line();
+    plain(b"\n");
 }
 
-// A stretch of the running thread, with a mark where it is chosen.
-fn stretch(x: &State, end: u64) {
-    let id = x[CURRENT];
-    let left = across(x[UNIT], x[NOW]);
-    let width = minus(across(x[UNIT], end), left);
-    bar_at(left, width, down(id), word(x, HOOKS, id));
-    if x[KEY] != 0 {
-        mode_in(left, width, down(id), x[KEY_MODE]);
+// A stretch of the running thread.
+fn stretch(x: Run, end: u64) {
+    let id = x.current;
+    let left = across(x.unit, x.now);
+    let width = saturating_sub(across(x.unit, end), left);
+    let hooks = x.hooks;
+    bar_at(left, width, down(id), at(hooks, id));
+    if x.key[KEY_TAG] != 0 {
+        mode_in(left, width, down(id), x.key[KEY_MODE]);
     }
 }
 
-pub fn bar(x: &mut State, end: u64) {
-    if x[OUTPUT] != PICTURE {
-        return;
+pub fn bar(given: Run, end: u64) -> Run {
+    if given.output != PICTURE {
+        return given;
     }
-    if is_due(x) {
-        shade(x);
+    let mut x = given;
+    if is_due(given) {
+        x = shade(given);
     }
     stretch(x, end);
+    x
 }
 
 // The picture's size, from a run that was not drawn.
-pub fn measure(x: &mut State, span: u64, lanes: u64) {
-    x[SPAN] = span;
-    x[LANES] = lanes;
-    x[UNIT] = more(span / WIDTH);
-}
-
-fn root() {
-    plain(b"<svg xmlns='http://www.w3.org/2000/svg' version='1.1' width='1000' ");
+pub fn measured(given: Run, span: u64, lanes: u64) -> Run {
+    let mut x = given;
+    x.span = span;
+    x.lanes = lanes;
+    x.unit = saturating_add(span / WIDTH, 1);
+    x
 }
 
 fn sheet(height: u64) {
     print(
-        b"height='%a' font-family='sans-serif' font-size='12'>\n",
+        b"<svg xmlns='http://www.w3.org/2000/svg' version='1.1' width='1000' height='%a' ",
         &[height],
         b"",
     );
     print(
-        b"<rect width='1000' height='%a' fill='white'/>\n",
+        b"font-family='sans-serif' font-size='12'>\n<rect width='1000' height='%a' fill='white'/>\n",
         &[height],
         b"",
     );
 }
 
-pub fn begin(x: &State) {
-    root();
-    sheet(plus(down(x[LANES]), 70));
+// Up to the title.
+pub fn begin(x: Run) {
+    sheet(saturating_add(down(x.lanes), 70));
     plain(b"<text x='12' y='24' font-size='16'>");
 }
 
-fn lane_line(width: u64, y: u64) {
+// A lane's name and line.
+fn lane(x: Run, id: u64) {
+    let width = saturating_sub(across(x.unit, x.span), LEFT);
     print(
         b"<path d='M150 %a h%b' stroke='#d0d0d0'/>\n<text x='12' y='%a'>",
-        &[y, width],
+        &[saturating_add(down(id), 20), width],
         b"",
     );
-}
-
-// A lane's name and line.
-fn lane(x: &State, id: u64) {
-    lane_line(minus(across(x[UNIT], x[SPAN]), LEFT), plus(down(id), 20));
     name(x, id, b"%@</text>\n");
 }
 
-fn lanes(x: &State) {
-    let mut left: u64 = x[THREADS];
+fn lanes(x: Run) {
+    let mut left: u64 = x.threads;
     while 0 < left {
         left -= 1;
         lane(x, left);
     }
 }
 
-fn dashes(x: u64, bottom: u64) {
-    print(
-        b"<path d='M%a 48 V%b' stroke='black' stroke-dasharray='5 3'/>\n",
-        &[x, bottom],
-        b"",
-    );
-}
-
-fn under(x: u64, y: u64, reading: u64) {
-    print(
-        b"<text x='%a' y='%b' text-anchor='middle'>%c</text>\n",
-        &[x, y, reading],
-        b"",
-    );
-}
-
 // A period's edge, with its reading.
 fn edge(unit: u64, bottom: u64, reading: u64) {
     let x = across(unit, reading);
-    dashes(x, bottom);
-    under(x, plus(bottom, 14), reading);
+    dashes(x, TOP, bottom);
+    print(
+        b"\n<text x='%a' y='%b' text-anchor='middle'>%c</text>\n",
+        &[x, saturating_add(bottom, 14), reading],
+        b"",
+    );
 }
 
-// At most 64 edges.
 fn edges(unit: u64, bottom: u64, period: u64, span: u64) {
     let mut reading: u64 = 0;
-    let mut left: u64 = 64;
+    let mut left: u64 = MOST_EDGES;
     while 0 < left {
         if reading <= span {
             edge(unit, bottom, reading);
@@ -259,29 +246,21 @@ fn edges(unit: u64, bottom: u64, period: u64, span: u64) {
     }
 }
 
-fn hook_a(y: u64) {
-    rectangle(150, y, 14, 12, b"#2878b8");
-    label(169, plus(y, 10), b"hook A");
+// A colour and what it stands for.
+fn legend_of(x: u64, y: u64, fill: &[u8], words: &[u8]) {
+    rectangle(x, y, 14, 12, fill);
+    label(saturating_add(x, 19), saturating_add(y, 10), words);
 }
 
-fn hook_b(y: u64) {
-    rectangle(225, y, 14, 12, b"#e07b20");
-    label(244, plus(y, 10), b"hook B");
-}
-
-fn no_hook(y: u64) {
-    rectangle(300, y, 14, 12, b"#9a9a9a");
-    label(319, plus(y, 10), b"no hook");
+fn colours(y: u64) {
+    legend_of(150, y, b"#2878b8", b"hook A");
+    legend_of(225, y, b"#e07b20", b"hook B");
+    legend_of(300, y, b"#9a9a9a", b"no hook");
 }
 
 fn chosen(y: u64) {
-    mark(390, plus(y, 10));
-    label(400, plus(y, 10), b"chosen by a selection");
-}
-
-fn window(y: u64) {
-    rectangle(540, y, 14, 12, b"#d04040' fill-opacity='0.13");
-    label(559, plus(y, 10), b"protected window");
+    mark(390, y);
+    label(400, y, b"chosen by a selection");
 }
 
 fn period(y: u64) {
@@ -290,21 +269,23 @@ fn period(y: u64) {
         &[y],
         b"",
     );
-    label(692, plus(y, 10), b"edge of a period; times in nanoseconds");
+    label(
+        692,
+        saturating_add(y, 10),
+        b"edge of a period; times in nanoseconds",
+    );
 }
 
 fn legend(y: u64) {
-    hook_a(y);
-    hook_b(y);
-    no_hook(y);
-    chosen(y);
-    window(y);
+    colours(y);
+    chosen(saturating_add(y, 10));
+    legend_of(540, y, b"#d04040' fill-opacity='0.13", b"protected window");
     period(y);
 }
 
-pub fn end(x: &State) {
+pub fn end(x: Run) {
     lanes(x);
-    edges(x[UNIT], down(x[LANES]), x[WINDOW], x[SPAN]);
-    legend(plus(down(x[LANES]), 36));
+    edges(x.unit, down(x.lanes), x.window[WINDOW_PERIOD], x.span);
+    legend(saturating_add(down(x.lanes), 36));
     plain(b"</svg>\n");
 }

@@ -1,249 +1,256 @@
 // Why a thread is chosen: its key, the demand, the window, and each tree's threads in order with the key of its head.
+use crate::calls;
+use crate::calls::PASS_HIGH;
+use crate::calls::PASS_LOW;
+use crate::calls::PASS_TAG;
+use crate::calls::SELECTED;
+use crate::calls::SELECTED_ID;
 use crate::printing::is_text;
 use crate::printing::listed;
 use crate::printing::mode;
 use crate::printing::name;
 use crate::printing::plain;
 use crate::printing::say;
-use crate::state::BACK_PLACE;
-use crate::state::BACK_PLAYED;
-use crate::state::CHOICE;
-use crate::state::DEMAND;
-use crate::state::EXPLAINS;
-use crate::state::KEY;
-use crate::state::KEY_MODE;
-use crate::state::LEAST_PASS;
-use crate::state::MEMBER;
-use crate::state::PLACE;
-use crate::state::PLAYED;
-use crate::state::ROW;
-use crate::state::SELECTED;
-use crate::state::SELECTED_ID;
-use crate::state::STACK;
-use crate::state::State;
-use crate::state::TREE;
-use crate::state::WINDOW_EPOCH;
-use crate::state::WINDOW_RANKS;
-use crate::state::minus;
-use crate::state::more;
-use crate::state::plus;
-use crate::state::store;
-use crate::state::word;
-use crate::steps;
-use crate::words::keep;
-use crate::words::show;
+use crate::run::Run;
+use codec::LEFT;
+use codec::LEFT_TAG;
+use codec::RIGHT;
+use codec::RIGHT_TAG;
 use codec::Row;
+use lent_queue::HEAD;
+use lent_queue::HEAD_TAG;
 use lent_queue::QueueRows;
+use lent_queue::ROOT_ROWS;
+use window_words::ALLOWANCE_LEFT;
+use window_words::DEMAND_ANY;
+use window_words::DEMAND_ELIGIBLE;
+use window_words::DEMAND_FAIR;
+use window_words::DEMAND_PROTECTED;
+use window_words::DEMAND_SENSITIVE;
+use window_words::EPOCH;
+use window_words::EPOCH_TAG;
+use window_words::FLOOR_LEFT;
+use window_words::KEY_ALGORITHM_RANK;
+use window_words::KEY_BAND;
+use window_words::KEY_HIGH;
+use window_words::KEY_LOW;
+use window_words::KEY_MODE;
+use window_words::KEY_RANK;
+use window_words::KEY_TAG;
+use window_words::KEY_TURN;
+use window_words::KEY_URGENCY;
 
-// Of the way through a tree: the link to go down by, how many threads wait above, and from there on these.
-const LINK: usize = 416;
+const TREES: usize = 12;
 
-const LINKED: usize = 417;
+// A tree has no more levels than this.
+const LEVELS: usize = 28;
 
-const DEPTH: usize = 418;
-
-pub fn begin(x: &mut State) {
-    x[BACK_PLAYED] = x[PLAYED];
-    x[BACK_PLACE] = x[PLACE];
-    x[PLAYED] = steps::EXPLANATION;
-    x[PLACE] = 0;
-    x[TREE] = 0;
+// The way through a tree: the link to go down by, if there is one; the threads above that come later, and how many; the
+// thread that is come to, if there is one.
+struct Walk {
+    has_link: u64,
+    link: u64,
+    above: [u64; LEVELS],
+    depth: usize,
+    found: bool,
+    member: u64,
 }
 
-// In a run, where that is asked for.
-pub fn begin_in_run(x: &mut State) {
-    if x[EXPLAINS] != 0 {
-        say(x, b"at %n");
-        begin(x);
-    }
+// The words of a key behind its mode.
+fn key_parts(x: Run) {
+    let k = x.key;
+    say(
+        x,
+        b", urgency %a, rank %b, then algorithm rank %c, algorithm %d:%e, band %f, turn %g",
+        &[
+            k[KEY_URGENCY],
+            k[KEY_RANK],
+            k[KEY_ALGORITHM_RANK],
+            k[KEY_HIGH],
+            k[KEY_LOW],
+            k[KEY_BAND],
+            k[KEY_TURN],
+        ],
+    );
 }
 
-// The thread that selection names.
-pub fn named(x: &mut State) {
-    x[MEMBER] = x[SELECTED_ID];
-    if x[SELECTED] == 0 {
-        say(x, b": nobody\n");
-        x[PLACE] = steps::ASKED;
-    }
-}
-
-fn no_key() {
-    plain(b"no key");
-}
-
-fn parts(x: &State) {
-    say(x, b", urgency %q, rank %r, then algorithm rank %s, ");
-}
-
-fn other_parts(x: &State) {
-    say(x, b"algorithm %t:%u, band %v, turn %w");
-}
-
-// The key's words are those of the letters.
-fn key(x: &State) {
-    if x[KEY] == 0 {
-        no_key();
+fn key(x: Run) {
+    if x.key[KEY_TAG] == 0 {
+        plain(b"no key");
         return;
     }
-    mode(x[KEY_MODE], b"%@");
-    parts(x);
-    other_parts(x);
+    mode(x.key[KEY_MODE], b"%@");
+    key_parts(x);
 }
 
-fn member(x: &State) {
-    name(x, x[MEMBER], b"%@");
-}
-
-fn chosen_in(x: &State) {
+fn told_chosen(x: Run, id: u64) {
     plain(b": ");
-    member(x);
+    name(x, id, b"%@");
     plain(b", ");
     key(x);
     plain(b"\n");
 }
 
-pub fn chosen(x: &mut State) {
-    show(x, KEY_MODE);
-    if is_text(x) {
-        chosen_in(x);
+// The key of a thread; where the table has it not, that of no thread.
+fn with_key(t: &[Row], x: Run, id: u64, now: u64) -> Run {
+    let i = id as usize;
+    if i < t.len() {
+        return calls::key(x, t[i], now);
     }
+    let row = x.candidate;
+    calls::key(x, row, now)
 }
 
-fn demand(x: &State) {
-    say(x, b"  demand: protected %p, fair %q, ");
+// The thread that selection names.
+fn chosen(t: &[Row], given: Run, now: u64) -> Run {
+    if given.selected[SELECTED] == 0 {
+        say(given, b": nobody\n", &[0]);
+        return given;
+    }
+    let id = given.selected[SELECTED_ID];
+    let x = with_key(t, given, id, now);
+    if x.number != 0 {
+        return x;
+    }
+    if is_text(x) {
+        told_chosen(x, id);
+    }
+    x
 }
 
-fn other_demand(x: &State) {
+fn demand(x: Run) {
+    let d = x.demand;
     say(
         x,
-        b"window sensitive %r, eligible budget %s, any budget %t; ",
+        b"  demand: protected %a, fair %b, window sensitive %c, eligible budget %d, any budget %e; ",
+        &[
+            d[DEMAND_PROTECTED],
+            d[DEMAND_FAIR],
+            d[DEMAND_SENSITIVE],
+            d[DEMAND_ELIGIBLE],
+            d[DEMAND_ANY],
+        ],
     );
 }
 
-fn no_pass(x: &State) {
-    say(x, b"no fair pass\n");
+fn lowest(x: Run) {
+    let s = x.selected;
+    if s[PASS_TAG] == 0 {
+        say(x, b"no fair pass\n", &[0]);
+        return;
+    }
+    say(x, b"lowest fair pass %a:%b\n", &[s[PASS_HIGH], s[PASS_LOW]]);
 }
 
-fn lowest(x: &State) {
-    say(x, b"lowest fair pass %v:%w\n");
+fn window(x: Run) {
+    let w = [
+        x.window[EPOCH],
+        x.window[ALLOWANCE_LEFT],
+        x.window[FLOOR_LEFT],
+    ];
+    if x.window[EPOCH_TAG] == 0 {
+        say(
+            x,
+            b"  window: no epoch, allowance left %b, floor left %c\n",
+            &w,
+        );
+        return;
+    }
+    say(
+        x,
+        b"  window: epoch %a, allowance left %b, floor left %c\n",
+        &w,
+    );
 }
 
-// Demand and lowest pass.
-fn asked(x: &mut State) {
-    show(x, DEMAND);
+fn circumstances(x: Run) {
     demand(x);
-    other_demand(x);
-    if x[LEAST_PASS] == 0 {
-        no_pass(x);
-        return;
-    }
     lowest(x);
+    window(x);
 }
 
-fn no_epoch(x: &State) {
-    say(x, b"  window: no epoch, allowance left %v, floor left %w\n");
-}
-
-fn epoch(x: &State) {
-    say(x, b"  window: epoch %u, allowance left %v, floor left %w\n");
-}
-
-// Demand, lowest pass and window.
-pub fn circumstances(x: &mut State) {
-    asked(x);
-    show(x, WINDOW_RANKS);
-    if x[WINDOW_EPOCH] == 0 {
-        no_epoch(x);
-        return;
+// The way into a tree.
+fn root(q: &QueueRows, tree: usize) -> Walk {
+    let row = q[ROOT_ROWS + tree % TREES];
+    Walk {
+        has_link: row[HEAD_TAG],
+        link: row[HEAD],
+        above: [0; LEVELS],
+        depth: 0,
+        found: false,
+        member: 0,
     }
-    epoch(x);
 }
 
-// The root of a tree; after the last tree the explanation ends.
-pub fn root(q: &QueueRows, x: &mut State) {
-    let tree = x[TREE];
-    x[DEPTH] = 0;
-    x[LINK] = 0;
-    if 11 < tree {
-        x[PLAYED] = x[BACK_PLAYED];
-        x[PLACE] = x[BACK_PLACE];
-        return;
+// A step down on the left; a link outside the table, or below the last level, is none.
+fn down(t: &[Row], given: Walk) -> Walk {
+    let mut w = given;
+    let i = given.link as usize;
+    let depth = given.depth;
+    if given.has_link == 0 {
+        return w;
     }
-    let at = 257 + tree as usize;
-    let row = q[at];
-    x[LINK] = row[0];
-    x[LINKED] = row[1];
-}
-
-// A step down on the left; a link outside the table, or a 29th step, is none.
-fn down(t: &[Row], x: &mut State) {
-    let id = x[LINKED];
-    let i = id as usize;
-    if x[LINK] == 0 {
-        return;
-    }
-    x[LINK] = 0;
+    w.has_link = 0;
     if t.len() <= i {
-        return;
+        return w;
     }
-    let depth = x[DEPTH];
-    store(x, STACK, plus(depth, 3), id);
+    if LEVELS <= depth {
+        return w;
+    }
     let row = t[i];
-    x[DEPTH] = more(depth);
-    x[LINK] = row[17];
-    x[LINKED] = row[18];
+    w.above[depth] = given.link;
+    w.depth = depth + 1;
+    w.has_link = row[LEFT_TAG];
+    w.link = row[LEFT];
+    w
 }
 
-fn descend(t: &[Row], x: &mut State) {
-    let mut left: u64 = 28;
+fn descended(t: &[Row], given: Walk) -> Walk {
+    let mut w = given;
+    let mut left: usize = LEVELS;
     while 0 < left {
-        down(t, x);
+        w = down(t, w);
         left -= 1;
     }
+    w
 }
 
 // What is on the right of a thread comes after it.
-fn turn(t: &[Row], x: &mut State, id: u64) {
-    let i = id as usize;
+fn turned(t: &[Row], given: Walk) -> Walk {
+    let mut w = given;
+    let i = given.member as usize;
     if i < t.len() {
         let row = t[i];
-        x[LINK] = row[19];
-        x[LINKED] = row[20];
+        w.has_link = row[RIGHT_TAG];
+        w.link = row[RIGHT];
     }
+    w
+}
+
+// The thread above that comes next.
+fn popped(given: Walk) -> Walk {
+    let mut w = given;
+    let depth = given.depth;
+    w.found = false;
+    if depth == 0 {
+        return w;
+    }
+    if LEVELS < depth {
+        return w;
+    }
+    w.found = true;
+    w.member = given.above[depth - 1];
+    w.depth = depth - 1;
+    w
 }
 
 // The next thread of the tree, if there is one.
-pub fn walk(t: &[Row], x: &mut State) {
-    descend(t, x);
-    let depth = x[DEPTH];
-    x[CHOICE] = 0;
-    if depth == 0 {
-        return;
+fn next(t: &[Row], w: Walk) -> Walk {
+    let a = popped(descended(t, w));
+    if a.found {
+        return turned(t, a);
     }
-    let id = word(x, STACK, plus(depth, 2));
-    x[DEPTH] = minus(depth, 1);
-    x[CHOICE] = 1;
-    x[MEMBER] = id;
-    turn(t, x, id);
-}
-
-fn keep_row(x: &mut State, row: Row) {
-    keep(x, ROW, &row);
-}
-
-pub fn load(t: &[Row], x: &mut State) {
-    let i = x[MEMBER] as usize;
-    if i < t.len() {
-        keep_row(x, t[i]);
-    }
-}
-
-// An empty tree is passed over.
-pub fn if_any(x: &mut State) {
-    if x[CHOICE] == 0 {
-        x[TREE] = more(x[TREE]);
-        x[PLACE] = steps::NEXT_TREE;
-    }
+    a
 }
 
 fn policy(n: u64) {
@@ -258,38 +265,82 @@ fn role(n: u64) {
     listed(b", %@: ", b"ordinary|priority|protected", n);
 }
 
-fn head_in(x: &State) {
-    policy(x[TREE] / 3);
-    role(x[TREE] % 3);
-    member(x);
+fn told_head(x: Run, tree: u64, id: u64) {
+    policy(tree / 3);
+    role(tree % 3);
+    name(x, id, b"%@");
     plain(b" (");
     key(x);
     plain(b")");
 }
 
-pub fn head(x: &mut State) {
-    show(x, KEY_MODE);
+fn told_behind(x: Run, id: u64) {
     if is_text(x) {
-        head_in(x);
+        plain(b", then ");
+        name(x, id, b"%@");
     }
 }
 
-// The tree's line ends after its last thread.
-pub fn if_more(x: &mut State) {
-    if x[CHOICE] == 0 {
-        say(x, b"\n");
+fn behind(t: &[Row], x: Run, before: Walk) -> Walk {
+    let w = next(t, before);
+    if w.found {
+        told_behind(x, w.member);
     }
-    if_any(x);
+    w
 }
 
-fn behind_in(x: &State) {
-    plain(b", then ");
-    member(x);
+// The threads behind the head, as many as there are records at most.
+fn others(t: &[Row], x: Run, head: Walk) {
+    let mut w = head;
+    let mut left: usize = t.len();
+    while 0 < left {
+        if w.found {
+            w = behind(t, x, w);
+        }
+        left -= 1;
+    }
+    say(x, b"\n", &[0]);
 }
 
-pub fn behind(x: &mut State) {
+// A tree that is not empty.
+fn tree(q: &QueueRows, t: &[Row], given: Run, number: usize, now: u64) -> Run {
+    if given.number != 0 {
+        return given;
+    }
+    let head = next(t, root(q, number));
+    if !head.found {
+        return given;
+    }
+    let x = with_key(t, given, head.member, now);
+    if x.number != 0 {
+        return x;
+    }
     if is_text(x) {
-        behind_in(x);
+        told_head(x, number as u64, head.member);
     }
-    x[PLACE] = steps::NEXT_THREAD;
+    others(t, x, head);
+    x
+}
+
+fn trees(q: &QueueRows, t: &[Row], given: Run, now: u64) -> Run {
+    let mut x = given;
+    let mut number: usize = 0;
+    while number < TREES {
+        x = tree(q, t, x, number, now);
+        number += 1;
+    }
+    x
+}
+
+// Of the last selection.
+pub fn explain(q: &QueueRows, t: &[Row], given: Run, now: u64) -> Run {
+    if given.number != 0 {
+        return given;
+    }
+    let x = chosen(t, given, now);
+    if x.number != 0 {
+        return x;
+    }
+    circumstances(x);
+    trees(q, t, x, now)
 }

@@ -1,34 +1,28 @@
 // Runs scenarios, lines of threads, a window and calls, on the proved core, and prints each answer, or a picture of the
 // run. FORMAT.md has the lines.
-mod answers;
 mod calls;
 mod drawing;
 mod explaining;
-mod machine;
+mod lines;
 mod matching;
+mod performing;
 mod printing;
 mod reading;
+mod run;
 mod running;
-mod state;
 mod statements;
-mod steps;
+mod threads;
 mod words;
 
 use board::board_new;
+use lent_queue::QUEUE_ROW_WORDS;
+use lent_queue::QUEUE_ROWS;
 use lent_queue::QueueRows;
-use state::BACK;
-use state::CURRENT;
-use state::FRONT;
-use state::IDLE;
-use state::MODE;
-use state::NOTHING;
-use state::NOW;
-use state::OUTPUT;
-use state::PICTURE;
-use state::RUNNING;
-use state::State;
-use state::TEXT;
-use state::THREADS;
+use policy_words::ROW_WORDS;
+use run::NOTHING;
+use run::PICTURE;
+use run::Run;
+use run::TEXT;
 
 const STDIN: i32 = 0;
 
@@ -36,56 +30,40 @@ const STDOUT: i32 = 1;
 
 const NEW_LINE: u8 = 10;
 
-const HALF: u64 = 9_223_372_036_854_775_808;
-
-const NOBODY: u64 = 18_446_744_073_709_551_615;
-
-// Counters of 2^63, the mode Ordinary, and no thread.
-fn new_board(x: &mut State, output: u64) {
-    x[BACK] = HALF;
-    x[FRONT] = HALF;
-    x[MODE] = 3;
-    x[IDLE] = NOBODY;
-    x[CURRENT] = NOBODY;
-    x[RUNNING] = 1;
-    x[OUTPUT] = output;
-}
+// One record more than a call takes.
+const TABLE_ROWS: usize = 4097;
 
 fn new_queue(q: &mut QueueRows) {
     board_new(q);
 }
 
-fn lines(x: &mut State, text: &[u8]) {
-    let mut q = [[0u64; 5]; 270];
-    let mut t = [[0u64; 32]; 4097];
+// Each line in turn, on a new board.
+fn lines_of(given: Run, text: &[u8]) -> Run {
+    let mut q = [[0u64; QUEUE_ROW_WORDS]; QUEUE_ROWS];
+    let mut t = [[0u64; ROW_WORDS]; TABLE_ROWS];
     new_queue(&mut q);
+    let mut x = given;
     let mut at: usize = 0;
     while at < text.len() {
         let end = text::end_of(text, at, NEW_LINE);
-        machine::line(&mut q, &mut t, x, &text[at..end]);
+        x = lines::line(&mut q, &mut t, x, &text[at..end]);
         at = end + 1;
     }
+    x
 }
 
 fn print(text: &[u8]) {
-    let mut x = [0u64; 448];
-    new_board(&mut x, TEXT);
-    lines(&mut x, text);
+    lines_of(run::new(TEXT), text);
 }
 
 // Twice: the first run tells how long the second one is, and how many threads it has.
 fn picture(name: &[u8], text: &[u8]) {
-    let mut first = [0u64; 448];
-    new_board(&mut first, NOTHING);
-    lines(&mut first, text);
-    let mut x = [0u64; 448];
-    new_board(&mut x, PICTURE);
-    drawing::measure(&mut x, first[NOW], first[THREADS]);
-    drawing::begin(&x);
+    let first = lines_of(run::new(NOTHING), text);
+    let second = drawing::measured(run::new(PICTURE), first.now, first.threads);
+    drawing::begin(second);
     io::write_all(STDOUT, name);
     io::write_all(STDOUT, b"</text>\n");
-    lines(&mut x, text);
-    drawing::end(&x);
+    drawing::end(lines_of(second, text));
 }
 
 // A file's text is printed under its name, or drawn.

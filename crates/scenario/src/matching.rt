@@ -1,51 +1,59 @@
-// What follows a statement's name, by its pattern: each letter takes a word, or two, and the letter's word is set. A
-// wrong word, or one too many, makes the line malformed.
+// What a line says: its statement, and a value for each thing that follows by the statement's pattern. A wrong word, or
+// one too many, makes the line malformed.
 use crate::reading::NAME;
 use crate::reading::NONE;
 use crate::reading::PLACE;
 use crate::reading::PLAIN;
+use crate::reading::SPACE;
 use crate::reading::Word;
-use crate::reading::half;
-use crate::reading::middle;
+use crate::reading::first_half;
+use crate::reading::second_half;
 use crate::reading::word_after;
-use crate::state::AT;
-use crate::state::BACKEND;
-use crate::state::BAD;
-use crate::state::CHOICE;
-use crate::state::CONFIG;
-use crate::state::END;
-use crate::state::FAIR;
-use crate::state::HOOK;
-use crate::state::ITS_MODE;
-use crate::state::NAMES;
-use crate::state::NAMES_END;
-use crate::state::NEW_NAME;
-use crate::state::NEW_NAME_END;
-use crate::state::ROLE;
-use crate::state::RUNNER;
-use crate::state::RUNS;
-use crate::state::State;
-use crate::state::THREAD;
-use crate::state::THREADS;
-use crate::state::store;
-use crate::state::word;
+use crate::run::MOST_THREADS;
+use crate::run::NOBODY;
+use crate::run::Run;
+use crate::run::at;
 use crate::statements;
-use crate::statements::NO_NAME;
-use crate::statements::find;
+use crate::statements::NO_STATEMENT;
+use crate::statements::Pattern;
+use text::place_of;
 
-const NOBODY: u64 = 18_446_744_073_709_551_615;
+// The values in the order of the pattern.
+pub type Values = [u64; 8];
 
-fn is_name(x: &State, i: u64, first: u64, second: u64) -> bool {
-    if word(x, NAMES, i) != first {
+// The last one is whether a `current` is given.
+pub const GIVEN: usize = 7;
+
+// What is found so far: the statement, the halves of a new name, the values, where the next word is looked for, and
+// whether the line is malformed.
+pub struct Match {
+    pub statement: u64,
+    pub name: u64,
+    pub name_end: u64,
+    pub values: Values,
+    pub end: usize,
+    pub bad: bool,
+}
+
+// What a word gives.
+struct Given {
+    number: u64,
+    bad: bool,
+}
+
+fn is_name(x: Run, i: u64, first: u64, second: u64) -> bool {
+    let names = x.names;
+    let names_end = x.names_end;
+    if at(names, i) != first {
         return false;
     }
-    word(x, NAMES_END, i) == second
+    at(names_end, i) == second
 }
 
 // The first thread with a name, by its halves.
-fn named(x: &State, first: u64, second: u64) -> u64 {
+fn named(x: Run, first: u64, second: u64) -> u64 {
     let mut found = NOBODY;
-    let mut left: u64 = x[THREADS];
+    let mut left: u64 = x.threads;
     while 0 < left {
         left -= 1;
         if is_name(x, left, first, second) {
@@ -55,246 +63,265 @@ fn named(x: &State, first: u64, second: u64) -> u64 {
     found
 }
 
-fn thread_named(x: &State, line: &[u8], start: usize, end: usize) -> u64 {
-    let mid = middle(start, end);
-    named(x, half(line, start, mid), half(line, mid, end))
-}
-
-fn thread(x: &mut State, line: &[u8], w: Word) -> u64 {
+fn thread(x: Run, line: &[u8], w: Word) -> Given {
     if w.kind == PLACE {
-        return w.number;
+        return Given {
+            number: w.number,
+            bad: false,
+        };
     }
-    let id = thread_named(x, line, w.start, w.end);
     if w.kind != NAME {
-        x[BAD] = 1;
+        return Given {
+            number: 0,
+            bad: true,
+        };
     }
-    if id == NOBODY {
-        x[BAD] = 1;
-    }
-    id
-}
-
-fn modes(piece: &[u8]) -> u64 {
-    find(b"strict priority protected ordinary borrow", piece)
-}
-
-// A role is named as a mode is; there is no strict and no borrowing one.
-fn role(piece: &[u8]) -> u64 {
-    let n = modes(piece);
-    match n {
-        1 | 2 | 3 => n,
-        _ => NO_NAME,
+    let first = first_half(line, w);
+    let second = second_half(line, w);
+    let number = named(x, first, second);
+    Given {
+        number,
+        bad: number == NOBODY,
     }
 }
 
-fn option_in(piece: &[u8], slot: usize) -> u64 {
-    match slot {
-        ITS_MODE => modes(piece),
-        ROLE => role(piece),
-        END => find(b"back front", piece),
-        BACKEND => find(b"stride round-robin", piece),
-        CHOICE => find(b"off on", piece),
-        _ => word_in(piece, slot),
+fn number(w: Word) -> Given {
+    Given {
+        number: w.number,
+        bad: w.kind != PLAIN,
     }
 }
 
-fn word_in(piece: &[u8], slot: usize) -> u64 {
-    match slot {
-        AT => find(b"at", piece),
-        HOOK => find(b"hook", piece),
-        RUNNER => find(b"current", piece),
-        _ => given_once(find(b"prefer-fair", piece)),
+// A hook's letter.
+fn hook(line: &[u8], w: Word) -> Given {
+    let half = first_half(line, w);
+    Given {
+        number: half % 256,
+        bad: w.kind != NAME,
+    }
+}
+
+// The place of a word among so many.
+fn one_of(list: &[u8], count: usize, word: &[u8]) -> Given {
+    let n = place_of(list, SPACE, word);
+    Given {
+        number: n as u64,
+        bad: count <= n,
     }
 }
 
 // An option that is 1 where it stands.
-fn given_once(n: u64) -> u64 {
-    if n == 0 {
-        return 1;
+fn standing(list: &[u8], word: &[u8]) -> Given {
+    let option = one_of(list, 1, word);
+    Given {
+        number: 1,
+        bad: option.bad,
     }
-    n
 }
 
-// The place of an option's word among those that may stand there.
-fn option(line: &[u8], slot: usize, start: usize, end: usize) -> u64 {
+fn word_in(word: &[u8], kind: u64) -> Given {
+    match kind {
+        statements::AT => standing(b"at", word),
+        statements::HOOK => standing(b"hook", word),
+        statements::CURRENT => standing(b"current", word),
+        _ => standing(b"prefer-fair", word),
+    }
+}
+
+fn option_in(word: &[u8], kind: u64) -> Given {
+    match kind {
+        statements::MODE => one_of(b"strict priority protected ordinary borrow", 5, word),
+        statements::ROLE => one_of(b"ordinary priority protected", 3, word),
+        statements::END => one_of(b"back front", 2, word),
+        statements::BACKEND => one_of(b"stride round-robin", 2, word),
+        statements::CHOICE => one_of(b"off on", 2, word),
+        _ => word_in(word, kind),
+    }
+}
+
+// A word of a list.
+fn option(line: &[u8], start: usize, end: usize, kind: u64) -> Given {
     if end < start {
-        return NO_NAME;
+        return Given {
+            number: 0,
+            bad: true,
+        };
     }
     if line.len() < end {
-        return NO_NAME;
+        return Given {
+            number: 0,
+            bad: true,
+        };
     }
-    option_in(&line[start..end], slot)
+    option_in(&line[start..end], kind)
 }
 
-fn chosen(x: &mut State, line: &[u8], w: Word, slot: usize) -> u64 {
-    let n = option(line, slot, w.start, w.end);
-    if n == NO_NAME {
-        x[BAD] = 1;
-    }
-    n
-}
-
-fn number(x: &mut State, w: Word) -> u64 {
-    if w.kind != PLAIN {
-        x[BAD] = 1;
-    }
-    w.number
-}
-
-fn hook(x: &mut State, line: &[u8], w: Word) -> u64 {
-    if w.kind != NAME {
-        x[BAD] = 1;
-    }
-    half(line, w.start, middle(w.start, w.end)) % 256
-}
-
-// What a word gives for a letter.
-fn value(x: &mut State, line: &[u8], w: Word, slot: usize) -> u64 {
-    match slot {
-        THREAD | RUNNER => thread(x, line, w),
-        HOOK => hook(x, line, w),
-        AT | BACKEND | END | FAIR | ITS_MODE | CHOICE | ROLE => chosen(x, line, w, slot),
-        _ => number(x, w),
+fn value(x: Run, line: &[u8], w: Word, kind: u64) -> Given {
+    match kind {
+        statements::NUMBER => number(w),
+        statements::A_THREAD | statements::CURRENT => thread(x, line, w),
+        statements::HOOK => hook(line, w),
+        _ => option(line, w.start, w.end, kind),
     }
 }
 
-fn set(x: &mut State, slot: usize, k: usize, value: u64) {
-    if slot < 64 {
-        x[slot] = value;
-    }
-    store(x, CONFIG, k as u64, value);
-}
-
-fn is_optional(slot: usize) -> bool {
-    match slot {
-        RUNNER | FAIR | HOOK => true,
+fn is_optional(kind: u64) -> bool {
+    match kind {
+        statements::CURRENT | statements::HOOK | statements::PREFER_FAIR => true,
         _ => false,
     }
 }
 
 // `current` and `hook` stand before what they are of.
-fn announced(x: &mut State, line: &[u8], w: Word, slot: usize) -> Word {
-    match slot {
-        RUNNER => {
-            x[RUNS] = 1;
-            chosen(x, line, w, slot);
-            word_after(line, w.end)
-        }
-        HOOK => {
-            chosen(x, line, w, slot);
-            word_after(line, w.end)
-        }
-        _ => w,
+fn is_announced(kind: u64) -> bool {
+    match kind {
+        statements::CURRENT | statements::HOOK => true,
+        _ => false,
     }
 }
 
-// A letter of a pattern takes its words; where the next one is looked for.
-fn taken(x: &mut State, line: &[u8], at: usize, slot: usize, k: usize) -> usize {
-    if slot == 0 {
-        return at;
+fn with(m: Match, k: usize, value: u64) -> Match {
+    let mut after = m;
+    if k < 8 {
+        after.values[k] = value;
     }
-    let w = word_after(line, at);
+    after
+}
+
+fn taken_value(m: Match, k: usize, end: usize, value: Given) -> Match {
+    let mut after = with(m, k, value.number);
+    after.end = end;
+    if value.bad {
+        after.bad = true;
+    }
+    after
+}
+
+// The word before.
+fn announced(m: Match, line: &[u8], w: Word, kind: u64) -> Match {
+    let before = option(line, w.start, w.end, kind);
+    taken_value(m, GIVEN, w.end, before)
+}
+
+fn missing(m: Match, kind: u64) -> Match {
+    let mut after = m;
+    if !is_optional(kind) {
+        after.bad = true;
+    }
+    after
+}
+
+// One thing of a pattern takes its words.
+fn taken(x: Run, line: &[u8], m: Match, kind: u64, k: usize) -> Match {
+    let w = word_after(line, m.end);
+    if kind == 0 {
+        return m;
+    }
     if w.kind == NONE {
-        if !is_optional(slot) {
-            x[BAD] = 1;
-        }
-        return at;
+        return missing(m, kind);
     }
-    let its = announced(x, line, w, slot);
-    let v = value(x, line, its, slot);
-    set(x, slot, k, v);
-    its.end
+    if is_announced(kind) {
+        let after = announced(m, line, w, kind);
+        let its = word_after(line, w.end);
+        return taken_value(after, k, its.end, value(x, line, its, kind));
+    }
+    taken_value(m, k, w.end, value(x, line, w, kind))
 }
 
-fn each(x: &mut State, line: &[u8], from: usize, pattern: [usize; 8]) -> usize {
-    let mut at = from;
+fn each(x: Run, line: &[u8], before: Match, pattern: Pattern) -> Match {
+    let mut m = before;
     let mut k: usize = 0;
     while k < 8 {
-        at = taken(x, line, at, pattern[k], k);
+        m = taken(x, line, m, pattern[k], k);
         k += 1;
     }
-    at
+    m
 }
 
-// A thread's name is new, and there is room for it.
-fn declared(x: &mut State, line: &[u8], w: Word) {
-    let mid = middle(w.start, w.end);
-    x[NEW_NAME] = half(line, w.start, mid);
-    x[NEW_NAME_END] = half(line, mid, w.end);
-    if thread_named(x, line, w.start, w.end) != NOBODY {
-        x[BAD] = 1;
-    }
-    if w.kind != NAME {
-        x[BAD] = 1;
-    }
-    if 31 < x[THREADS] {
-        x[BAD] = 1;
-    }
-}
-
-fn piece_statement(piece: &[u8], of: u64) -> u64 {
+fn statement_in(word: &[u8], of: u64) -> u64 {
     match of {
-        statements::THREADS => statements::policy(piece),
-        statements::WORDS => statements::place(piece),
-        _ => statements::statement(piece),
+        statements::THREAD => statements::policy(word),
+        statements::WORD => statements::place(word),
+        _ => statements::statement(word),
     }
 }
 
 // The statement that a word names, by itself or after `thread` or `word`.
-fn statement(line: &[u8], start: usize, end: usize, of: u64) -> u64 {
+fn statement(line: &[u8], w: Word, of: u64) -> u64 {
+    let start = w.start;
+    let end = w.end;
     if end < start {
-        return NO_NAME;
+        return NO_STATEMENT;
     }
     if line.len() < end {
-        return NO_NAME;
+        return NO_STATEMENT;
     }
-    piece_statement(&line[start..end], of)
+    statement_in(&line[start..end], of)
 }
 
-// What a line is: its statement, and where its words end.
-pub struct Match {
-    pub statement: u64,
-    pub end: usize,
-}
-
-// With the statement's own words behind its name.
-fn sought(x: &mut State, line: &[u8], first: Word) -> Match {
-    let name = statement(line, first.start, first.end, NO_NAME);
-    let second = word_after(line, first.end);
-    if name == statements::THREADS {
-        declared(x, line, second);
-        let third = word_after(line, second.end);
-        return Match {
-            statement: statement(line, third.start, third.end, name),
-            end: third.end,
-        };
-    }
-    if name == statements::WORDS {
-        return Match {
-            statement: statement(line, second.start, second.end, name),
-            end: second.end,
-        };
-    }
+fn begun(statement: u64, end: usize) -> Match {
     Match {
-        statement: name,
-        end: first.end,
+        statement,
+        name: 0,
+        name_end: 0,
+        values: [0; 8],
+        end,
+        bad: false,
     }
 }
 
-// The statement that a line is, with its letters' words set; none where it is malformed.
-pub fn matched(x: &mut State, line: &[u8], first: Word) -> u64 {
-    x[BAD] = 0;
-    let m = sought(x, line, first);
-    if m.statement == NO_NAME {
-        return NO_NAME;
+// A thread's name is new, and there is room for it.
+fn is_new(x: Run, w: Word, first: u64, second: u64) -> bool {
+    if w.kind != NAME {
+        return false;
     }
-    let end = each(x, line, m.end, statements::pattern(m.statement));
-    let rest = word_after(line, end);
+    if MOST_THREADS <= x.threads {
+        return false;
+    }
+    named(x, first, second) == NOBODY
+}
+
+fn declared(x: Run, line: &[u8], name: Word) -> Match {
+    let policy = word_after(line, name.end);
+    let first = first_half(line, name);
+    let second = second_half(line, name);
+    let mut m = begun(statement(line, policy, statements::THREAD), policy.end);
+    m.name = first;
+    m.name_end = second;
+    m.bad = !is_new(x, name, first, second);
+    m
+}
+
+// A statement by its own words.
+fn sought(x: Run, line: &[u8], first: Word) -> Match {
+    let found = statement(line, first, NO_STATEMENT);
+    let second = word_after(line, first.end);
+    match found {
+        statements::THREAD => declared(x, line, second),
+        statements::WORD => begun(statement(line, second, found), second.end),
+        _ => begun(found, first.end),
+    }
+}
+
+fn malformed(m: Match) -> Match {
+    let mut after = m;
+    after.statement = NO_STATEMENT;
+    after
+}
+
+// What a line says; no statement where it is malformed.
+pub fn matched(x: Run, line: &[u8], first: Word) -> Match {
+    let begun = sought(x, line, first);
+    if begun.statement == NO_STATEMENT {
+        return begun;
+    }
+    let m = each(x, line, begun, statements::pattern(begun.statement));
+    let rest = word_after(line, m.end);
     if rest.kind != NONE {
-        return NO_NAME;
+        return malformed(m);
     }
-    if x[BAD] != 0 {
-        return NO_NAME;
+    if m.bad {
+        return malformed(m);
     }
-    m.statement
+    m
 }

@@ -1,12 +1,9 @@
-// Templates (crate text), with the words of the letters for values; names of threads; and words of lists.
-use crate::state::NAMES;
-use crate::state::NAMES_END;
-use crate::state::OUTPUT;
-use crate::state::State;
-use crate::state::TEXT;
-use crate::state::THREADS;
-use crate::state::least;
-use crate::state::word;
+// What is printed: words of lists, names of threads, parts of a line. Templates are those of crate text.
+use crate::run::Run;
+use crate::run::TEXT;
+use crate::run::at;
+use text::print;
+use time::min_of;
 
 const STDOUT: i32 = 1;
 
@@ -17,20 +14,20 @@ const UNDERLINE: u8 = 95;
 // Between the words of a list.
 const BAR: u8 = 124;
 
-// What divides the first byte of a half of a name from the others.
-const FIRST: u64 = 72_057_594_037_927_936;
+const NAME_BYTES: usize = 16;
 
-fn write(out: &[u8], n: usize) {
-    if n <= out.len() {
-        io::write_all(STDOUT, &out[0..n]);
-    }
+// No list has as many words.
+const BEYOND: u64 = 63;
+
+pub fn is_text(x: Run) -> bool {
+    x.output == TEXT
 }
 
-// A template with its values and its word.
-pub fn print(template: &[u8], values: &[u64], word: &[u8]) {
-    let mut out = [0u8; 512];
-    let n = text::fill(&mut out, 0, template, values, word);
-    write(&out, n);
+// A template with its values, in a text.
+pub fn say(x: Run, template: &[u8], values: &[u64]) {
+    if x.output == TEXT {
+        print(template, values, b"");
+    }
 }
 
 // Words alone.
@@ -38,85 +35,56 @@ pub fn plain(words: &[u8]) {
     io::write_all(STDOUT, words);
 }
 
-fn tell(s: &[u64], template: &[u8]) {
-    if s.len() == 448 {
-        print(template, &s[32..64], template);
+// An underline of a name stands for a space.
+fn spaced_byte(byte: u8) -> u8 {
+    if byte == UNDERLINE {
+        return SPACE;
+    }
+    byte
+}
+
+fn spaced(name: &mut [u8]) {
+    let mut i: usize = 0;
+    while i < name.len() {
+        name[i] = spaced_byte(name[i]);
+        i += 1;
     }
 }
 
-pub fn is_text(x: &State) -> bool {
-    x[OUTPUT] == TEXT
-}
-
-// In a text.
-pub fn say(x: &State, template: &[u8]) {
-    if is_text(x) {
-        tell(x, template);
-    }
-}
-
-// A byte of a name, if there is one; an underline stands for a space.
-fn put(out: &mut [u8], at: usize, byte: u64) -> usize {
-    let mut b = (byte % 256) as u8;
-    if b == UNDERLINE {
-        b = SPACE;
-    }
-    if b == 0 {
-        return at;
-    }
-    if out.len() <= at {
-        return at;
-    }
-    out[at] = b;
-    at + 1
-}
-
-// The bytes of a half of a name, the first ones first.
-fn half(out: &mut [u8], at: usize, h: u64) -> usize {
-    let mut rest = h;
-    let mut end = at;
-    let mut left: u64 = 8;
-    while 0 < left {
-        end = put(out, end, rest / FIRST);
-        rest = (rest % FIRST) * 256;
-        left -= 1;
-    }
-    end
-}
-
-fn spelled(out: &[u8], n: usize, template: &[u8]) {
-    if n <= out.len() {
-        print(template, &[0], &out[0..n]);
+fn spelled(name: &[u8], end: usize, template: &[u8]) {
+    if end <= name.len() {
+        print(template, &[0], &name[0..end]);
     }
 }
 
 fn known(first: u64, second: u64, template: &[u8]) {
-    let mut out = [0u8; 16];
-    let k = half(&mut out, 0, first);
-    let n = half(&mut out, k, second);
-    spelled(&out, n, template);
-}
-
-fn unknown(id: u64) {
-    print(b"#%a", &[id], b"");
+    let mut name = [0u8; NAME_BYTES];
+    let middle = text::put_packed(&mut name, 0, first);
+    let end = text::put_packed(&mut name, middle, second);
+    spaced(&mut name);
+    spelled(&name, end, template);
 }
 
 // The name of a thread; # and its number where it has none.
-pub fn name(x: &State, id: u64, template: &[u8]) {
-    if x[THREADS] <= id {
-        unknown(id);
+pub fn name(x: Run, id: u64, template: &[u8]) {
+    if x.threads <= id {
+        print(b"#%a", &[id], b"");
         return;
     }
-    known(word(x, NAMES, id), word(x, NAMES_END, id), template);
+    let names = x.names;
+    let names_end = x.names_end;
+    known(at(names, id), at(names_end, id), template);
 }
 
-// Where the next word of a list starts.
-fn after(list: &[u8], at: usize) -> usize {
-    let end = text::end_of(list, at, BAR);
-    if end < list.len() {
-        return end + 1;
+// A part of a line as it is.
+pub fn quote(line: &[u8], start: usize, end: usize) {
+    if end < start {
+        return;
     }
-    list.len()
+    if line.len() < end {
+        return;
+    }
+    io::write_all(STDOUT, &line[start..end]);
 }
 
 fn part(template: &[u8], list: &[u8], start: usize, end: usize) {
@@ -131,13 +99,8 @@ fn part(template: &[u8], list: &[u8], start: usize, end: usize) {
 
 // The n-th word of a list.
 pub fn listed(template: &[u8], list: &[u8], n: u64) {
-    let mut at: usize = 0;
-    let mut left: u64 = least(n, 63);
-    while 0 < left {
-        at = after(list, at);
-        left -= 1;
-    }
-    part(template, list, at, text::end_of(list, at, BAR));
+    let word = text::nth(list, BAR, min_of(n, BEYOND) as usize);
+    part(template, list, word.start, word.end);
 }
 
 pub fn mode(n: u64, template: &[u8]) {
@@ -148,13 +111,12 @@ pub fn mode(n: u64, template: &[u8]) {
     );
 }
 
-// A part of a line as it is.
-pub fn quote(line: &[u8], start: usize, end: usize) {
-    if end < start {
-        return;
-    }
-    if line.len() < end {
-        return;
-    }
-    io::write_all(STDOUT, &line[start..end]);
+// A refusal by its name and document 01's number.
+pub fn refusal(number: u64) {
+    listed(
+        b": refused, %@ ",
+        b"made|Damaged|BadState|Already|NoThread|BadConfig|BadBudget|BackInTime|TurnsSpent|Halted|BadTable|BadRecord",
+        number,
+    );
+    print(b"(%a)\n", &[number], b"");
 }

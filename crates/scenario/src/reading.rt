@@ -19,6 +19,14 @@ const MARK: u8 = 35;
 
 const MOST: u64 = 18_446_744_073_709_551_615;
 
+const NAME_BYTES: usize = 15;
+
+// Half a name, as it is kept.
+const HALF_BYTES: usize = 8;
+
+// No text is as long.
+const BEYOND: usize = 65_536;
+
 // What a word is, the number that it is, and where it stands.
 pub struct Word {
     pub kind: u64,
@@ -34,14 +42,14 @@ fn numeral(marked: bool) -> u64 {
     PLAIN
 }
 
-fn kind(marked: bool, length: usize) -> u64 {
+fn other(marked: bool, length: usize) -> u64 {
     if marked {
         return UNKNOWN;
     }
-    if length < 16 {
-        return NAME;
+    if NAME_BYTES < length {
+        return UNKNOWN;
     }
-    UNKNOWN
+    NAME
 }
 
 fn none(end: usize) -> Word {
@@ -69,7 +77,7 @@ fn valued(piece: &[u8], marked: bool, start: usize, end: usize) -> Word {
             end,
         },
         Decimal::None => Word {
-            kind: kind(marked, piece.len()),
+            kind: other(marked, piece.len()),
             number: 0,
             start,
             end,
@@ -77,30 +85,28 @@ fn valued(piece: &[u8], marked: bool, start: usize, end: usize) -> Word {
     }
 }
 
+fn is_number(piece: &[u8]) -> bool {
+    match text::number(piece) {
+        Decimal::Number(_) => true,
+        Decimal::Above => true,
+        Decimal::None => false,
+    }
+}
+
 fn word_from(line: &[u8], start: usize, marked: bool) -> Word {
     let end = text::end_of(line, start, SPACE);
-    if end < start {
-        return none(line.len());
-    }
     if line.len() < end {
         return none(line.len());
     }
     valued(&line[start..end], marked, start, end)
 }
 
-fn is_digit(byte: u8) -> bool {
-    if byte < 48 {
-        return false;
-    }
-    byte < 58
-}
-
-// After a mark.
+// After a mark: a number, which a digit starts, or a comment.
 fn marked(line: &[u8], at: usize) -> Word {
     if line.len() <= at {
         return none(line.len());
     }
-    if is_digit(line[at]) {
+    if is_number(&line[at..at + 1]) {
         return word_from(line, at, true);
     }
     none(line.len())
@@ -139,34 +145,29 @@ pub fn last_end(line: &[u8], from: usize) -> usize {
     last
 }
 
-// A half of a name with one byte more; a full half stays.
-fn longer(half: u64, byte: u8) -> u64 {
-    if 72_057_594_037_927_935 < half {
-        return half;
-    }
-    half * 256 + byte as u64
-}
-
-// The bytes of a name from one place up to another, as a number, the first ones highest; eight at most.
-pub fn half(line: &[u8], from: usize, to: usize) -> u64 {
-    let mut h: u64 = 0;
-    let mut i = from;
-    while i < to {
-        if i < line.len() {
-            h = longer(h, line[i]);
-        }
-        i += 1;
-    }
-    h
-}
-
 // Where the second half of a name starts.
-pub fn middle(start: usize, end: usize) -> usize {
-    if end < start {
-        return end;
+fn after(start: usize) -> usize {
+    if BEYOND < start {
+        return start;
     }
-    if end - start < 8 {
-        return end;
+    start + HALF_BYTES
+}
+
+// The bytes of a name from a place on, as far as a half takes them.
+fn packed(line: &[u8], from: usize, end: usize) -> u64 {
+    if end < from {
+        return 0;
     }
-    start + 8
+    if line.len() < end {
+        return 0;
+    }
+    text::packed(&line[from..end])
+}
+
+pub fn first_half(line: &[u8], w: Word) -> u64 {
+    packed(line, w.start, w.end)
+}
+
+pub fn second_half(line: &[u8], w: Word) -> u64 {
+    packed(line, after(w.start), w.end)
 }

@@ -1,229 +1,307 @@
-// A run: the board's own cycle until a reading. Each function sets the words of what comes next.
+// A run: the board's own cycle until a reading. Who wakes is enqueued; else it is chosen who runs, and that one runs to
+// its deadline, to the end of its work or to what comes next.
+use crate::calls;
+use crate::calls::IS_THERE;
+use crate::calls::SELECTED_ID;
+use crate::calls::TO_FRONT;
+use crate::calls::WHEN;
 use crate::drawing::bar;
+use crate::explaining::explain;
 use crate::printing::is_text;
 use crate::printing::mode;
 use crate::printing::name;
 use crate::printing::plain;
-use crate::printing::print;
+use crate::printing::refusal;
 use crate::printing::say;
-use crate::state::AMOUNT;
-use crate::state::CURRENT;
-use crate::state::END;
-use crate::state::EXPIRED;
-use crate::state::IDLE;
-use crate::state::ITS_MODE;
-use crate::state::KEY;
-use crate::state::KEY_MODE;
-use crate::state::KEY_RANK;
-use crate::state::KEY_URGENCY;
-use crate::state::LENGTH;
-use crate::state::MODE;
-use crate::state::NOW;
-use crate::state::PLACE;
-use crate::state::PLAYED;
-use crate::state::READING;
-use crate::state::RUNNER;
-use crate::state::RUNNING;
-use crate::state::RUNS;
-use crate::state::SELECTED_ID;
-use crate::state::START;
-use crate::state::STOP;
-use crate::state::SWITCHES;
-use crate::state::State;
-use crate::state::THREAD;
-use crate::state::TO_FRONT;
-use crate::state::UNTIL;
-use crate::state::WAKE_AT;
-use crate::state::WAKE_WHO;
-use crate::state::WAKE_WORK;
-use crate::state::WAKES;
-use crate::state::WOKEN;
-use crate::state::WORD;
-use crate::state::WORK;
-use crate::state::least;
-use crate::state::minus;
-use crate::state::more;
-use crate::state::plus;
-use crate::state::store;
-use crate::state::word;
-use crate::steps;
+use crate::run::Run;
+use crate::run::at;
+use crate::run::with;
+use codec::Row;
+use lent_queue::QueueRows;
+use text::print;
+use text::saturating_add;
+use time::min_of;
+use time::saturating_sub;
+use window_words::KEY_MODE;
+use window_words::KEY_RANK;
+use window_words::KEY_TAG;
+use window_words::KEY_URGENCY;
 
-// Beyond every script.
-const OVER: u64 = 99;
-
-// A run begins.
-pub fn run(x: &mut State) {
-    x[UNTIL] = x[AMOUNT];
-    x[PLAYED] = steps::CYCLE;
-    x[PLACE] = 0;
-    say(
-        x,
-        b":\n  reading  thread          why             urgency rank       for  deadline\n",
-    );
-}
+// A run of more wakes and stretches is stopped.
+const MOST_CYCLES: u64 = 4096;
 
 // The reading of the wake that comes next; after the last one the end.
-fn coming(x: &State) -> u64 {
-    if x[WAKES] <= x[WOKEN] {
-        return x[UNTIL];
+fn coming(x: Run) -> u64 {
+    if x.wakes <= x.woken {
+        return x.until;
     }
-    least(word(x, WAKE_AT, x[WOKEN]), x[UNTIL])
+    let readings = x.wake_at;
+    min_of(at(readings, x.woken), x.until)
 }
 
-// A thread wakes: it has work, and goes into the queue.
-fn wake(x: &mut State) {
-    let at = x[WOKEN];
-    let id = word(x, WAKE_WHO, at);
-    let work = word(x, WAKE_WORK, at);
-    x[WOKEN] = more(at);
-    store(x, WORK, id, work);
-    x[THREAD] = id;
-    x[END] = 0;
+fn with_work(given: Run, id: u64, left: u64) -> Run {
+    let work = given.work;
+    let after = with(work, id, left);
+    let mut x = given;
+    x.work = after;
+    x
 }
 
-// The running thread is the one that the next calls are about.
-pub fn point(x: &mut State) {
-    x[RUNNER] = x[CURRENT];
-    x[THREAD] = x[CURRENT];
-    x[RUNS] = x[RUNNING];
+// A thread has work again.
+fn awake(given: Run, id: u64) -> Run {
+    let n = given.woken;
+    let works = given.wake_work;
+    let mut x = with_work(given, id, at(works, n));
+    x.woken = saturating_add(n, 1);
+    x
 }
 
-// The end, a wake, or a stretch.
-pub fn event(x: &mut State) {
-    x[READING] = x[NOW];
-    if x[UNTIL] <= x[NOW] {
-        x[PLACE] = OVER;
-        return;
+// It goes into the queue.
+fn wake(q: &mut QueueRows, t: &mut [Row], given: Run) -> Run {
+    let who = given.wake_who;
+    let id = at(who, given.woken);
+    let a = awake(given, id);
+    let b = calls::prepare(t, a, id, 0, a.now);
+    calls::enqueue(q, t, b, id)
+}
+
+// A selection beside the running thread, explained where that is asked for.
+fn selected(q: &mut QueueRows, t: &mut [Row], x: Run) -> Run {
+    let a = calls::candidate(t, x, x.current, x.running, x.now);
+    let b = calls::select(q, t, a, x.now, x.running);
+    if b.number != 0 {
+        return b;
     }
-    if coming(x) <= x[NOW] {
-        wake(x);
-        return;
+    if b.explains == 0 {
+        return b;
     }
-    x[PLACE] = steps::CHOOSES;
-    point(x);
+    say(b, b"at %a", &[b.now]);
+    explain(q, t, b, b.now)
 }
 
-pub fn again(x: &mut State) {
-    x[PLACE] = 0;
+// A turn that is spent ends.
+fn finished(t: &mut [Row], x: Run) -> Run {
+    if x.expired == 0 {
+        return x;
+    }
+    calls::finish(t, x, x.current)
 }
 
-// What follows is for a spent turn.
-pub fn if_expired(x: &mut State) {
-    if x[EXPIRED] == 0 {
-        x[PLACE] = more(x[PLACE]);
-    }
+// By the switch rule.
+fn chosen(t: &mut [Row], x: Run) -> Run {
+    let a = calls::candidate(t, x, x.current, x.running, x.now);
+    let b = calls::runner_key(a, x.running, x.now);
+    let c = calls::expired(t, b, x.current);
+    let d = calls::switch(c, 0, 0);
+    finished(t, d)
 }
 
-fn stay(x: &mut State) {
-    x[PLACE] = steps::ARMS;
-    if x[RUNNING] == 0 {
-        x[CURRENT] = x[IDLE];
-        x[RUNNING] = 1;
+// Nobody takes over; a thread that waits gives way to the idle one.
+fn stayed(given: Run) -> Run {
+    let mut x = given;
+    if given.running == 0 {
+        x.current = given.idle;
+        x.running = 1;
     }
+    x
 }
 
 // Whoever gives way is enqueued again, unless its work is done or it is the idle thread.
-fn gives_way(x: &State) -> bool {
-    if x[RUNNING] == 0 {
+fn gives_way(x: Run) -> bool {
+    if x.running == 0 {
         return false;
     }
-    x[CURRENT] != x[IDLE]
+    x.current != x.idle
+}
+
+fn enqueued(q: &mut QueueRows, t: &mut [Row], x: Run, front: u64) -> Run {
+    if front == 0 {
+        return calls::enqueue(q, t, x, x.current);
+    }
+    calls::enqueue_front(q, t, x, x.current)
+}
+
+fn gave_way(q: &mut QueueRows, t: &mut [Row], x: Run) -> Run {
+    if !gives_way(x) {
+        return x;
+    }
+    let a = calls::prepare(t, x, x.current, x.choice[TO_FRONT], x.now);
+    enqueued(q, t, a, x.choice[TO_FRONT])
+}
+
+// The chosen thread leaves the queue and runs.
+fn taken(q: &mut QueueRows, t: &mut [Row], given: Run) -> Run {
+    if given.number != 0 {
+        return given;
+    }
+    let id = given.selected[SELECTED_ID];
+    let mut x = given;
+    x.current = id;
+    x.running = 1;
+    calls::remove(q, t, x, id)
 }
 
 // As chosen.
-pub fn follow(x: &mut State) {
-    if x[SWITCHES] == 0 {
-        stay(x);
-        return;
+fn followed(q: &mut QueueRows, t: &mut [Row], x: Run) -> Run {
+    if x.number != 0 {
+        return x;
     }
-    if gives_way(x) {
-        x[END] = x[TO_FRONT];
-        return;
+    if x.choice[IS_THERE] == 0 {
+        return stayed(x);
     }
-    x[PLACE] = steps::TAKES;
+    let a = gave_way(q, t, x);
+    taken(q, t, a)
 }
 
-// The chosen thread runs.
-pub fn take(x: &mut State) {
-    let id = x[SELECTED_ID];
-    x[CURRENT] = id;
-    x[RUNNING] = 1;
-    x[THREAD] = id;
+// The running thread's key and deadline.
+fn armed(q: &mut QueueRows, t: &mut [Row], x: Run) -> Run {
+    let a = calls::candidate(t, x, x.current, x.running, x.now);
+    let b = calls::select(q, t, a, x.now, x.running);
+    let c = calls::runner_key(b, x.running, x.now);
+    let d = calls::lengths(q, c);
+    calls::deadline(t, d, x.current, x.now)
 }
 
-// How far the running thread gets: to its deadline, to the end of its work, or to what comes next.
-fn reached(x: &State) -> u64 {
-    let work = word(x, WORK, x[CURRENT]);
-    let done = least(plus(x[NOW], work), coming(x));
-    if x[SWITCHES] == 0 {
+// How far the running thread gets.
+fn reached(x: Run) -> u64 {
+    let work = x.work;
+    let done = min_of(saturating_add(x.now, at(work, x.current)), coming(x));
+    if x.deadline[IS_THERE] == 0 {
         return done;
     }
-    least(x[WORD], done)
+    min_of(x.deadline[WHEN], done)
 }
 
 // What the running thread has left; it waits from there on where that is nothing.
-fn worked(x: &mut State, length: u64) {
-    let id = x[CURRENT];
-    let left = minus(word(x, WORK, id), length);
-    store(x, WORK, id, left);
+fn worked(given: Run, length: u64) -> Run {
+    let id = given.current;
+    let work = given.work;
+    let left = saturating_sub(at(work, id), length);
+    let mut x = with_work(given, id, left);
     if left == 0 {
-        x[RUNNING] = 0;
+        x.running = 0;
     }
+    x
 }
 
-fn no_key() {
-    plain(b"no key                -    -");
-}
-
-fn key(its_mode: u64, urgency: u64, rank: u64) {
-    mode(its_mode, b"%16@");
-    print(b"%7a%5b", &[urgency, rank], b"");
-}
-
-fn why(x: &State) {
-    if x[KEY] == 0 {
-        no_key();
+fn why(x: Run) {
+    if x.key[KEY_TAG] == 0 {
+        plain(b"no key                -    -");
         return;
     }
-    key(x[KEY_MODE], x[KEY_URGENCY], x[KEY_RANK]);
+    mode(x.key[KEY_MODE], b"%16@");
+    print(b"%7a%5b", &[x.key[KEY_URGENCY], x.key[KEY_RANK]], b"");
 }
 
-fn deadline(length: u64, there_is: u64, deadline: u64) {
-    if there_is == 0 {
+fn until(x: Run, length: u64) {
+    if x.deadline[IS_THERE] == 0 {
         print(b"%10a      none\n", &[length], b"");
         return;
     }
-    print(b"%10a%10b\n", &[length, deadline], b"");
-}
-
-fn start(reading: u64) {
-    print(b"%9a  ", &[reading], b"");
+    print(b"%10a%10b\n", &[length, x.deadline[WHEN]], b"");
 }
 
 // A line: who runs from when, why, for how long, and until which deadline at the latest.
-fn line(x: &State) {
-    start(x[READING]);
-    name(x, x[THREAD], b"%16@");
+fn told(x: Run, length: u64) {
+    print(b"%9a  ", &[x.now], b"");
+    name(x, x.current, b"%16@");
     why(x);
-    deadline(x[LENGTH], x[SWITCHES], x[WORD]);
+    until(x, length);
 }
 
-// A stretch: its line or its bar, and what is then charged.
-pub fn stretch(x: &mut State) {
-    let now = x[NOW];
-    let end = reached(x);
-    let length = minus(end, now);
-    x[LENGTH] = length;
+// The mode under which the running thread is charged: that of its key, or the last one.
+fn charged_mode(x: Run) -> u64 {
+    if x.key[KEY_TAG] == 0 {
+        return x.mode;
+    }
+    x.key[KEY_MODE]
+}
+
+// A stretch, printed or drawn; then its time is charged.
+fn stretch(t: &mut [Row], given: Run) -> Run {
+    if given.number != 0 {
+        return given;
+    }
+    let end = reached(given);
+    let length = saturating_sub(end, given.now);
+    if is_text(given) {
+        told(given, length);
+    }
+    let mut x = worked(bar(given, end), length);
+    x.mode = charged_mode(given);
+    x.now = end;
+    calls::account(t, x, given.current, x.mode, given.now, end)
+}
+
+// It is chosen who runs.
+fn decided(q: &mut QueueRows, t: &mut [Row], x: Run) -> Run {
+    let a = selected(q, t, x);
+    let b = chosen(t, a);
+    followed(q, t, b)
+}
+
+// A wake or a stretch.
+fn cycle(q: &mut QueueRows, t: &mut [Row], x: Run) -> Run {
+    if coming(x) <= x.now {
+        return wake(q, t, x);
+    }
+    let a = decided(q, t, x);
+    let b = armed(q, t, a);
+    stretch(t, b)
+}
+
+fn is_over(x: Run) -> bool {
+    if x.number != 0 {
+        return true;
+    }
+    x.until <= x.now
+}
+
+fn cycles(q: &mut QueueRows, t: &mut [Row], given: Run) -> Run {
+    let mut x = given;
+    let mut left: u64 = MOST_CYCLES;
+    while 0 < left {
+        if is_over(x) {
+            return x;
+        }
+        x = cycle(q, t, x);
+        left -= 1;
+    }
+    x
+}
+
+// A refusal ends a run, with its line named again; so does its length.
+fn ended(x: Run) {
+    say(x, b"line %a", &[x.line]);
+    if x.number == 0 {
+        say(x, b": stopped\n", &[0]);
+        return;
+    }
     if is_text(x) {
-        line(x);
+        refusal(x.number);
     }
-    if x[KEY] != 0 {
-        x[MODE] = x[KEY_MODE];
+}
+
+// After this the line has its end.
+fn closed(given: Run) -> Run {
+    let mut x = given;
+    if x.number == 0 {
+        if x.until <= x.now {
+            return x;
+        }
     }
-    bar(x, end);
-    worked(x, length);
-    x[ITS_MODE] = x[MODE];
-    x[START] = now;
-    x[STOP] = end;
-    x[NOW] = end;
+    ended(x);
+    x.number = 0;
+    x
+}
+
+pub fn run(q: &mut QueueRows, t: &mut [Row], given: Run, until: u64) -> Run {
+    let mut x = given;
+    x.until = until;
+    say(
+        x,
+        b":\n  reading  thread          why             urgency rank       for  deadline\n",
+        &[0],
+    );
+    closed(cycles(q, t, x))
 }

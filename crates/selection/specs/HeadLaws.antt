@@ -6,6 +6,7 @@ use mathlib.Core.Bool.{Bool, true, false}
 use mathlib.Core.List.{List, [], _∷_, _++_}
 use lib.Dec.{eqb}
 use lib.ListN.{length, getD, set, take, drop}
+use lib.Seq.{take-suc-set}
 use Rattle.refusal.specs.Answer.{Answer, value, refused, numberOf, damaged}
 use Rattle.refusal.specs.declared.Refusal.{Refusal}
 use Rattle.refusal.specs.Cases.{choose, given, ifEqual}
@@ -135,13 +136,8 @@ ready-by-words w c e =
     go false false false false = refl
 
 -- The numbers that are held, with one more.
-held-more : (l : List ℕ) (k id : ℕ) → k < length l → take (suc k) (set l k id) ≡ take k l ++ (id ∷ [])
-held-more [] k id h = absurd (omega arith)
-held-more (x ∷ l) zero id h = refl
-held-more (x ∷ l) (suc k) id h = ap (λ r. x ∷ r) (held-more l k id (omega arith))
-
 one-more : (l : List ℕ) (k id : ℕ) → k < length l → take (k + 1) (set l k id) ≡ take k l ++ (id ∷ [])
-one-more l k id h = let one : k + 1 ≡ suc k = omega arith in rw one (held-more l k id h)
+one-more l k id h = let one : k + 1 ≡ suc k = omega arith in rw one (take-suc-set l k id h)
 
 -- The trees that are left go by the head of the next one.
 module _ (t : List ThreadRecord) (rows : List (List ℕ)) (c : CpuIndex) (now : ℕ) (g : Gathered) where

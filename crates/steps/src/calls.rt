@@ -1,4 +1,5 @@
 // What a step's letter stands for.
+use crate::answers::NONE;
 use crate::leaves::budget;
 use crate::leaves::expiry;
 use crate::leaves::leaf;
@@ -33,7 +34,7 @@ use crate::letters::SET_QUEUE;
 use crate::letters::SUM;
 use crate::queues::moved;
 use crate::queues::selected;
-use crate::report::NONE;
+use crate::reading::Numbers;
 use crate::runtimes::runtime;
 use crate::sums::sum;
 use crate::trees::tree;
@@ -46,7 +47,7 @@ use codec::Row;
 use lent_queue::QueueRows;
 
 // What is done on the table and the scratch.
-fn tabled(t: &mut [Row], n: usize, letter: u64, a: [u64; 6]) -> u64 {
+fn tabled(t: &mut [Row], n: usize, letter: u64, a: Numbers) -> u64 {
     match letter {
         PREPARE | ACCOUNT | FINISH | CHOOSE | DEADLINE => runtime(t, n, letter, a),
         REFRESH | CHARGE | END | RUNTIME => leaf(t, letter, a),
@@ -60,7 +61,7 @@ fn tabled(t: &mut [Row], n: usize, letter: u64, a: [u64; 6]) -> u64 {
     }
 }
 
-fn among(q: &mut QueueRows, t: &mut [Row], n: usize, letter: u64, a: [u64; 6]) -> u64 {
+fn among(q: &mut QueueRows, t: &mut [Row], n: usize, letter: u64, a: Numbers) -> u64 {
     if t.len() < n {
         return NONE;
     }
@@ -68,7 +69,7 @@ fn among(q: &mut QueueRows, t: &mut [Row], n: usize, letter: u64, a: [u64; 6]) -
 }
 
 // The answer of a step on the first n records.
-pub fn called(q: &mut QueueRows, t: &mut [Row], n: usize, letter: u64, a: [u64; 6]) -> u64 {
+pub fn called(q: &mut QueueRows, t: &mut [Row], n: usize, letter: u64, a: Numbers) -> u64 {
     match letter {
         ENQUEUE | FRONT | REMOVE => among(q, t, n, letter, a),
         SELECT | LOWEST | PEEK => selected(q, t, n, letter, a),

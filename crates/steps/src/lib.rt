@@ -1,4 +1,5 @@
 // Cases as lines of text: calls with the answers that document 01 or the Rust gives, run on the code and compared.
+mod answers;
 mod calls;
 mod leaves;
 mod letters;
@@ -6,7 +7,6 @@ mod machine;
 mod places;
 mod queues;
 mod reading;
-mod report;
 mod runtimes;
 mod sums;
 mod trees;
@@ -14,4 +14,6 @@ mod values;
 mod windows;
 mod words;
 
+pub use machine::ANSWERS;
+pub use machine::Counts;
 pub use machine::run;

@@ -9,6 +9,7 @@ use crate::letters::SIZE;
 use crate::letters::arity;
 use crate::letters::is_call;
 use crate::letters::is_silent;
+use crate::places::ROWS;
 use crate::places::records;
 use crate::places::set_records;
 use crate::places::set_window;
@@ -16,13 +17,19 @@ use crate::reading::BAD;
 use crate::reading::COUNT;
 use crate::reading::FIRST;
 use crate::reading::LETTER;
+use crate::reading::MOST_NUMBERS;
+use crate::reading::Numbers;
+use crate::reading::StepWords;
 use crate::reading::parsed;
-use crate::report::more;
-use crate::report::number;
-use crate::report::tell;
 use board::board_new;
 use codec::Row;
+use lent_queue::QUEUE_ROW_WORDS;
+use lent_queue::QUEUE_ROWS;
 use lent_queue::QueueRows;
+use policy_words::ROW_WORDS;
+use text::print;
+use text::print_page;
+use text::saturating_add;
 
 // The nine records that a case starts with stand here in the table; the rows behind them, up to 4,096, clear as many
 // after the nine.
@@ -34,8 +41,14 @@ const NUMBER_SIGN: u64 = 35;
 
 const EQUALS: u64 = 61;
 
-// What a line brings: whether its answer differs from what is said, and the number that a call answered, 12 where it
-// is none.
+// Document 01's numbers, 0 among them, and how many calls answered each; a number that no call answers.
+pub const ANSWERS: usize = 12;
+
+pub type Counts = [u64; ANSWERS];
+
+const NO_CALL: u64 = 12;
+
+// What a line brings: whether its answer differs from what is said, and the number that a call answered, if it is one.
 struct Event {
     differs: bool,
     number: u64,
@@ -44,24 +57,24 @@ struct Event {
 impl Event {
     const NOTHING: Self = Self {
         differs: false,
-        number: 12,
+        number: NO_CALL,
     };
 }
 
 // What the step says: its last number.
-fn said(s: [u64; 11]) -> u64 {
+fn said(s: StepWords) -> u64 {
     let count = s[COUNT];
     if count == 0 {
         return 0;
     }
-    if 8 < count {
+    if MOST_NUMBERS < count {
         return 0;
     }
     let at = count as usize;
     s[FIRST + at - 1]
 }
 
-fn is_malformed(s: [u64; 11]) -> bool {
+fn is_malformed(s: StepWords) -> bool {
     if s[BAD] != 0 {
         return true;
     }
@@ -71,19 +84,24 @@ fn is_malformed(s: [u64; 11]) -> bool {
     s[COUNT] != arity(s[LETTER])
 }
 
-fn numbers(s: [u64; 11]) -> [u64; 6] {
-    [s[3], s[4], s[5], s[6], s[7], s[8]]
+fn numbers(s: StepWords) -> Numbers {
+    [
+        s[FIRST],
+        s[FIRST + 1],
+        s[FIRST + 2],
+        s[FIRST + 3],
+        s[FIRST + 4],
+        s[FIRST + 5],
+    ]
 }
 
 fn show(got: u64, wanted: u64, silent: bool) {
     if silent {
-        tell(b", a word is");
+        print(b", a word is", &[], b"");
     }
-    tell(b" ");
-    number(got);
+    print(b" %a", &[got], b"");
     if got != wanted {
-        tell(b", but what is said is ");
-        number(wanted);
+        print(b", but what is said is %a", &[wanted], b"");
     }
 }
 
@@ -92,7 +110,7 @@ fn answered(letter: u64, got: u64) -> u64 {
     if is_call(letter) {
         return got;
     }
-    12
+    NO_CALL
 }
 
 // Every answer is shown, of words and where nothing is to be shown only those that differ, there on a line of their
@@ -103,7 +121,7 @@ fn judge(letter: u64, got: u64, wanted: u64, shown: bool) -> Event {
     if differs {
         show(got, wanted, silent);
         if !shown {
-            tell(b"\n");
+            print(b"\n", &[], b"");
         }
     } else if shown {
         if !silent {
@@ -117,7 +135,7 @@ fn judge(letter: u64, got: u64, wanted: u64, shown: bool) -> Event {
 }
 
 // A step on as many records as the case has.
-fn step(q: &mut QueueRows, t: &mut [Row], s: [u64; 11], shown: bool) -> Event {
+fn step(q: &mut QueueRows, t: &mut [Row], s: StepWords, shown: bool) -> Event {
     let letter = s[LETTER];
     if letter == SIZE {
         set_records(t, s[FIRST]);
@@ -129,7 +147,7 @@ fn step(q: &mut QueueRows, t: &mut [Row], s: [u64; 11], shown: bool) -> Event {
 }
 
 fn restore(t: &mut [Row]) {
-    if t.len() < 4097 {
+    if t.len() < ROWS {
         return;
     }
     let mut i: usize = 0;
@@ -147,13 +165,13 @@ fn new_case(q: &mut QueueRows, t: &mut [Row]) {
     set_records(t, 9);
 }
 
-// The label without its sign.
+// The label without its sign, whole.
 fn show_label(line: &[u8]) {
-    tell(b"\n");
+    print(b"\n", &[], b"");
     if 0 < line.len() {
-        tell(&line[1..]);
+        print_page(&line[1..], line.len() - 1);
     }
-    tell(b":");
+    print(b":", &[], b"");
 }
 
 fn case(q: &mut QueueRows, t: &mut [Row], line: &[u8], shown: bool) -> Event {
@@ -165,14 +183,14 @@ fn case(q: &mut QueueRows, t: &mut [Row], line: &[u8], shown: bool) -> Event {
 }
 
 fn malformed() -> Event {
-    tell(b", a malformed line");
+    print(b", a malformed line", &[], b"");
     Event {
         differs: true,
-        number: 12,
+        number: NO_CALL,
     }
 }
 
-fn parsed_step(q: &mut QueueRows, t: &mut [Row], s: [u64; 11], shown: bool) -> Event {
+fn parsed_step(q: &mut QueueRows, t: &mut [Row], s: StepWords, shown: bool) -> Event {
     if is_malformed(s) {
         return malformed();
     }
@@ -205,23 +223,23 @@ fn with(differs: u64, event: Event) -> u64
     ensures { λ r. ⌜ r ≤ differs + 1 ⌝ }
 {
     if event.differs {
-        return more(differs);
+        return saturating_add(differs, 1);
     }
     differs
 }
 
-fn count(counts: &mut [u64; 12], number: u64) {
-    if number < 12 {
-        counts[number as usize] = more(counts[number as usize]);
+fn count(counts: &mut Counts, number: u64) {
+    if number < NO_CALL {
+        counts[number as usize] = saturating_add(counts[number as usize], 1);
     }
 }
 
 // How many answers differ, one at most for each line; `counts` has how many calls answered 0 and each refusal.
-pub fn run(words: &[u8], shown: bool, counts: &mut [u64; 12]) -> u64
+pub fn run(words: &[u8], shown: bool, counts: &mut Counts) -> u64
     ensures { λ r. ⌜ r ≤ length (now (words .entry)) ⌝ }
 {
-    let mut q = [[0u64; 5]; 270];
-    let mut t = [[0u64; 32]; 4106];
+    let mut q = [[0u64; QUEUE_ROW_WORDS]; QUEUE_ROWS];
+    let mut t = [[0u64; ROW_WORDS]; ROWS];
     let mut differs: u64 = 0;
     let mut i: usize = 0;
     while i < words.len() {

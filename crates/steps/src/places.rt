@@ -2,7 +2,13 @@
 // does not exist reads as zeros and takes nothing.
 ghost use mathlib.Core.Path.{_≡_};
 ghost use lib.ListN.{length};
+use board_words::SelectionWords;
 use codec::Row;
+use policy_words::ROW_WORDS;
+use time::min_of;
+use window_words::DemandWords;
+use window_words::KeyWords;
+use window_words::WindowWords;
 
 // The table's rows are 0 to 4,096, one more than a call takes.
 const MOST: usize = 4097;
@@ -26,14 +32,14 @@ pub const WINDOW: usize = 4104;
 // The number of records is the first word here.
 const COUNT: usize = 4105;
 
-// Beyond every row.
-const NOWHERE: usize = 4106;
+// How many rows there are; none stands there.
+pub const ROWS: usize = 4106;
 
 pub fn row_at(t: &[Row], at: usize) -> Row {
     if at < t.len() {
         return t[at];
     }
-    [0; 32]
+    [0; ROW_WORDS]
 }
 
 // What then stands there.
@@ -41,7 +47,7 @@ pub fn store(t: &mut [Row], at: usize, k: usize, word: u64) -> u64 {
     if t.len() <= at {
         return 0;
     }
-    if 31 < k {
+    if ROW_WORDS <= k {
         return 0;
     }
     t[at][k] = word;
@@ -55,13 +61,13 @@ pub fn two(row: Row) -> [u64; 2]
     [row[0], row[1]]
 }
 
-pub fn five(row: Row) -> [u64; 5]
+pub fn five(row: Row) -> DemandWords
     ensures { λ r. ⌜ 5 ≡ length r ⌝ }
 {
     [row[0], row[1], row[2], row[3], row[4]]
 }
 
-pub fn nine(row: Row) -> [u64; 9]
+pub fn nine(row: Row) -> KeyWords
     ensures { λ r. ⌜ 9 ≡ length r ⌝ }
 {
     [
@@ -77,7 +83,7 @@ pub fn nine(row: Row) -> [u64; 9]
     ]
 }
 
-pub fn twelve(row: Row) -> [u64; 12]
+pub fn twelve(row: Row) -> WindowWords
     ensures { λ r. ⌜ 12 ≡ length r ⌝ }
 {
     [
@@ -109,30 +115,31 @@ pub fn set_two(t: &mut [Row], at: usize, words: &[u64; 2]) {
     put(t, at, words);
 }
 
-pub fn set_nine(t: &mut [Row], at: usize, words: &[u64; 9]) {
+pub fn set_nine(t: &mut [Row], at: usize, words: &KeyWords) {
     put(t, at, words);
 }
 
-pub fn set_window(t: &mut [Row], words: &[u64; 12]) {
+pub fn set_window(t: &mut [Row], words: &WindowWords) {
     put(t, WINDOW, words);
 }
 
-pub fn set_selection(t: &mut [Row], words: &[u64; 19]) {
+pub fn set_selection(t: &mut [Row], words: &SelectionWords) {
     put(t, SELECTION, words);
 }
 
 pub fn record(i: u64) -> usize {
-    if i < 4097 {
-        return i as usize;
+    let at = i as usize;
+    if at < MOST {
+        return at;
     }
-    NOWHERE
+    ROWS
 }
 
 pub fn scratch(i: u64) -> usize {
     if i < 8 {
         return CURRENT + i as usize;
     }
-    NOWHERE
+    ROWS
 }
 
 pub fn set_records(t: &mut [Row], n: u64) {
@@ -142,8 +149,5 @@ pub fn set_records(t: &mut [Row], n: u64) {
 // How many records the case has.
 pub fn records(t: &[Row]) -> usize {
     let row = row_at(t, COUNT);
-    if row[0] < 4097 {
-        return row[0] as usize;
-    }
-    MOST
+    min_of(row[0], MOST as u64) as usize
 }

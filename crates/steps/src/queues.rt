@@ -1,4 +1,6 @@
 // Calls on the queue, with the answer as one number.
+use crate::answers::NONE;
+use crate::answers::refused;
 use crate::letters::ENQUEUE;
 use crate::letters::FRONT;
 use crate::letters::PEEK;
@@ -10,17 +12,19 @@ use crate::places::row_at;
 use crate::places::set_selection;
 use crate::places::set_window;
 use crate::places::twelve;
-use crate::report::NONE;
-use crate::report::refused;
+use crate::reading::Numbers;
 use board::board_enqueue;
 use board::board_enqueue_front;
 use board::board_remove;
 use board::board_select;
+use board_words::SELECTION_WORDS;
 use codec::Row;
 use lent_queue::QueueRows;
+use ready_index::MAX_PATH;
+use ready_index::PATH_STEP_WORDS;
 
 pub fn moved(q: &mut QueueRows, t: &mut [Row], letter: u64, id: u64, cpu: u8) -> u64 {
-    let mut path = [[0u64; 2]; 40];
+    let mut path = [[0u64; PATH_STEP_WORDS]; MAX_PATH];
     if letter == ENQUEUE {
         return board_enqueue(q, t, &mut path, id, cpu);
     }
@@ -31,9 +35,9 @@ pub fn moved(q: &mut QueueRows, t: &mut [Row], letter: u64, id: u64, cpu: u8) ->
 }
 
 // A selection on the window; what it answers stays in the scratch.
-fn peeked(q: &mut QueueRows, t: &mut [Row], n: usize, a: [u64; 6], cpu: u8) -> u64 {
-    let mut path = [[0u64; 2]; 40];
-    let mut answer = [0u64; 19];
+fn peeked(q: &mut QueueRows, t: &mut [Row], n: usize, a: Numbers, cpu: u8) -> u64 {
+    let mut path = [[0u64; PATH_STEP_WORDS]; MAX_PATH];
+    let mut answer = [0u64; SELECTION_WORDS];
     let mut w = twelve(row_at(t, WINDOW));
     let row = row_at(t, CURRENT);
     if t.len() < n {
@@ -72,14 +76,14 @@ fn seen(row: Row, letter: u64) -> u64 {
 }
 
 // The steps SELECT and LOWEST are for processor 0.
-fn processor(letter: u64, a: [u64; 6]) -> u8 {
+fn processor(letter: u64, a: Numbers) -> u8 {
     if letter == PEEK {
         return (a[2] % 256) as u8;
     }
     0
 }
 
-pub fn selected(q: &mut QueueRows, t: &mut [Row], n: usize, letter: u64, a: [u64; 6]) -> u64 {
+pub fn selected(q: &mut QueueRows, t: &mut [Row], n: usize, letter: u64, a: Numbers) -> u64 {
     let number = peeked(q, t, n, a, processor(letter, a));
     if letter == PEEK {
         return number;

@@ -1,5 +1,7 @@
 // Calls of state/runtime.rs on the table, with the refusal's number for an answer. The scratch has the turn counters,
 // a demand, two keys and the deadline.
+use crate::answers::NONE;
+use crate::answers::refused;
 use crate::letters::ACCOUNT;
 use crate::letters::CHOOSE;
 use crate::letters::FINISH;
@@ -18,16 +20,17 @@ use crate::places::set_two;
 use crate::places::set_window;
 use crate::places::twelve;
 use crate::places::two;
-use crate::report::NONE;
-use crate::report::refused;
+use crate::reading::Numbers;
 use board::board_account;
 use board::board_deadline;
 use board::board_finish;
 use board::board_prepare;
 use board::board_switch;
+use board_words::CHOICE_WORDS;
+use board_words::ChoiceWords;
 use codec::Row;
 
-fn prepare(t: &mut [Row], n: usize, a: [u64; 6]) -> u64 {
+fn prepare(t: &mut [Row], n: usize, a: Numbers) -> u64 {
     let mut turns = two(row_at(t, TURNS));
     if t.len() < n {
         return NONE;
@@ -37,7 +40,7 @@ fn prepare(t: &mut [Row], n: usize, a: [u64; 6]) -> u64 {
     number
 }
 
-fn account(t: &mut [Row], n: usize, a: [u64; 6]) -> u64 {
+fn account(t: &mut [Row], n: usize, a: Numbers) -> u64 {
     let mut w = twelve(row_at(t, WINDOW));
     if t.len() < n {
         return NONE;
@@ -55,7 +58,7 @@ fn finish(t: &mut [Row], n: usize, id: u64) -> u64 {
 }
 
 // 0 where it does not switch; 1 where it does, and 3 where the running thread then goes to the front.
-fn chosen(number: u64, choice: [u64; 2]) -> u64 {
+fn chosen(number: u64, choice: ChoiceWords) -> u64 {
     if number != 0 {
         return refused(number);
     }
@@ -68,16 +71,16 @@ fn chosen(number: u64, choice: [u64; 2]) -> u64 {
     3
 }
 
-fn choose(t: &[Row], a: [u64; 6]) -> u64 {
+fn choose(t: &[Row], a: Numbers) -> u64 {
     let ready = nine(row_at(t, READY));
     let key = nine(row_at(t, KEY));
     let row = row_at(t, places::record(a[0]));
-    let mut choice = [0u64; 2];
+    let mut choice = [0u64; CHOICE_WORDS];
     let number = board_switch(&ready, &key, &row, a[1], a[2], a[3], &mut choice);
     chosen(number, choice)
 }
 
-fn deadline(t: &mut [Row], n: usize, a: [u64; 6]) -> u64 {
+fn deadline(t: &mut [Row], n: usize, a: Numbers) -> u64 {
     let mut due = two(row_at(t, DUE));
     let key = nine(row_at(t, KEY));
     let demand = five(row_at(t, DEMAND));
@@ -102,7 +105,7 @@ fn deadline(t: &mut [Row], n: usize, a: [u64; 6]) -> u64 {
     number
 }
 
-pub fn runtime(t: &mut [Row], n: usize, letter: u64, a: [u64; 6]) -> u64 {
+pub fn runtime(t: &mut [Row], n: usize, letter: u64, a: Numbers) -> u64 {
     match letter {
         PREPARE => prepare(t, n, a),
         ACCOUNT => account(t, n, a),

@@ -3,6 +3,8 @@ use crate::places::CURRENT;
 use crate::places::WINDOW;
 use crate::places::row_at;
 use codec::Row;
+use lent_queue::QUEUE_ROWS;
+use lent_queue::QueueRow;
 use lent_queue::QueueRows;
 
 const PRIME: u64 = 2_147_483_647;
@@ -35,16 +37,16 @@ fn with_rows(sum: u64, t: &[Row], from: usize, to: usize) -> u64 {
     s
 }
 
-fn with_five(sum: u64, words: &[u64; 5]) -> u64 {
+fn with_queue_row(sum: u64, words: &QueueRow) -> u64 {
     with_words(sum, words)
 }
 
 fn with_queue(sum: u64, q: &QueueRows) -> u64 {
     let mut s = sum;
     let mut i: usize = 0;
-    while i < 270 {
+    while i < QUEUE_ROWS {
         let row = q[i];
-        s = with_five(s, &row);
+        s = with_queue_row(s, &row);
         i += 1;
     }
     s

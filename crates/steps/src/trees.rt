@@ -1,10 +1,13 @@
 // Calls on one tree of the ready index, with the answer as one number.
+use crate::answers::NONE;
 use crate::letters::CONTAINS;
 use crate::letters::INSERT;
-use crate::report::NONE;
+use crate::reading::Numbers;
 use codec::Row;
 use ready_index::Contained;
 use ready_index::Least;
+use ready_index::MAX_PATH;
+use ready_index::PATH_STEP_WORDS;
 use ready_index::Rooted;
 use ready_index::contains;
 use ready_index::first;
@@ -50,8 +53,8 @@ fn root(given: u64, n: u64) -> Link {
     Link::Some(n)
 }
 
-fn called(t: &mut [Row], letter: u64, a: [u64; 6]) -> u64 {
-    let mut path = [[0u64; 2]; 40];
+fn called(t: &mut [Row], letter: u64, a: Numbers) -> u64 {
+    let mut path = [[0u64; PATH_STEP_WORDS]; MAX_PATH];
     match letter {
         INSERT => rooted(insert(t, &mut path, Link::Some(a[0]), a[1])),
         CONTAINS => held(contains(t, Link::Some(a[0]), a[1])),
@@ -59,7 +62,7 @@ fn called(t: &mut [Row], letter: u64, a: [u64; 6]) -> u64 {
     }
 }
 
-pub fn tree(t: &mut [Row], n: usize, letter: u64, a: [u64; 6]) -> u64 {
+pub fn tree(t: &mut [Row], n: usize, letter: u64, a: Numbers) -> u64 {
     if t.len() < n {
         return NONE;
     }

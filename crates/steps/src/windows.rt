@@ -16,6 +16,7 @@ use crate::places::set_nine;
 use crate::places::set_two;
 use crate::places::set_window;
 use crate::places::twelve;
+use crate::reading::Numbers;
 use board::board_key;
 use codec::Row;
 use window_entries::config_new;
@@ -23,7 +24,7 @@ use window_entries::dispatch_keys_compare;
 use window_entries::window_account_dispatch;
 use window_entries::window_protection_deadline;
 
-fn protection(t: &mut [Row], w: &mut [u64; 12], a: [u64; 6]) -> u64 {
+fn protection(t: &mut [Row], w: &mut [u64; 12], a: Numbers) -> u64 {
     let mut due = [0u64; 2];
     let number = window_protection_deadline(w, a[0], a[1] != 0, &mut due);
     set_two(t, DUE, &due);
@@ -39,12 +40,12 @@ fn key(t: &mut [Row], w: &mut [u64; 12], reading: u64) -> u64 {
     number
 }
 
-fn interval(t: &[Row], w: &mut [u64; 12], a: [u64; 6]) -> u64 {
+fn interval(t: &[Row], w: &mut [u64; 12], a: Numbers) -> u64 {
     let row = row_at(t, places::record(a[0]));
     window_account_dispatch(w, a[2], a[3], &row, a[1])
 }
 
-fn changed(t: &mut [Row], w: &mut [u64; 12], letter: u64, a: [u64; 6]) -> u64 {
+fn changed(t: &mut [Row], w: &mut [u64; 12], letter: u64, a: Numbers) -> u64 {
     match letter {
         CONFIG => config_new(w),
         PROTECTION => protection(t, w, a),
@@ -53,7 +54,7 @@ fn changed(t: &mut [Row], w: &mut [u64; 12], letter: u64, a: [u64; 6]) -> u64 {
     }
 }
 
-pub fn window(t: &mut [Row], letter: u64, a: [u64; 6]) -> u64 {
+pub fn window(t: &mut [Row], letter: u64, a: Numbers) -> u64 {
     let mut w = twelve(row_at(t, WINDOW));
     let number = changed(t, &mut w, letter, a);
     set_window(t, &w);

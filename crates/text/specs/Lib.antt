@@ -1,8 +1,22 @@
+-- A text as bytes.
+pub mod Ascii
 -- The pieces of a text, and the number that digits denote.
 pub mod Reading
 -- Their laws, and that texts are the same just where the lists of their bytes are equal.
 pub mod ReadingLaws
+-- The names of a list.
+pub mod Lists
+-- Their laws.
+pub mod ListsLaws
+-- Words of up to eight bytes as numbers, and back.
+pub mod Names
+-- Their laws, and that a packed word is found again.
+pub mod NamesLaws
 -- A page, a number's digits, columns and templates.
 pub mod Writing
 -- Their laws, and what a page then has where there is room.
 pub mod WritingLaws
+-- Shapes as templates.
+pub mod Svg
+-- Sums that stay in range.
+pub mod Counting

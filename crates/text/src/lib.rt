@@ -1,11 +1,29 @@
-// Text in and out, for programs: the pieces of a line, names, decimal numbers, columns and templates, in bytes that the
-// caller lends. Nothing here reads or writes a file.
+// Text in and out, for programs: the pieces of a line, lists of names, decimal numbers, columns, templates and shapes,
+// in bytes that the caller lends, and sums that stay in range. Only `print` writes to a file, which is standard output.
+mod counting;
+mod lists;
+mod names;
+mod printing;
 mod reading;
+mod svg;
 mod writing;
 
+pub use counting::saturating_add;
+pub use lists::Span;
+pub use lists::nth;
+pub use lists::place_of;
+pub use lists::word_after;
+pub use names::packed;
+pub use names::put_packed;
+pub use printing::print;
+pub use printing::print_page;
 pub use reading::Decimal;
 pub use reading::end_of;
 pub use reading::number;
 pub use reading::same;
 pub use reading::start_of;
+pub use svg::dashes;
+pub use svg::label;
+pub use svg::mark;
+pub use svg::rectangle;
 pub use writing::fill;

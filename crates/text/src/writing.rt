@@ -31,7 +31,7 @@ fn put_byte(out: &mut [u8], at: usize, byte: u8) -> usize
 }
 
 // Bytes, where the page has room; how many are then written.
-fn put(out: &mut [u8], at: usize, bytes: &[u8]) -> usize
+pub fn put(out: &mut [u8], at: usize, bytes: &[u8]) -> usize
     ensures { λ r. ⌜ page (now (out .exit)) r ≡ written (page (now (out .entry)) at) (now (bytes .entry)) ⌝ }
 {
     let mut end = at;

@@ -186,18 +186,19 @@ module _ (before : KeyOption) (w row flags : List ℕ) (now : ℕ) {sound : Bool
       no-key-made before (windowOf w) now (candidateOf row) (demandOf flags)
       (ap soundConfig (config-word w) ∙ sym h ∙ not-true sound n)
 
+  -- What the goal does not show becomes known premise by premise, so that a search by this law alone comes to its end.
   pub key-done : {b fresh u : CpuWindow} {c : Candidate} {d : Demand} {k x : KeyOption}
-      → sound ≡ soundConfig (configOf w)
-      → not sound ≡ false
-      → b ≡ windowOf w
-      → fresh ≡ refreshed b now
-      → u ≡ progressed (windowOf w) (fresh .epoch) (fresh .«priority_remaining_ns») (fresh .«protected_remaining_ns»)
+      → x ≡ k
+      → k ≡ keyOf fresh now c d
       → c ≡ candidateOf row
       → d ≡ demandOf flags
-      → k ≡ keyOf fresh now c d
-      → x ≡ k
+      → fresh ≡ refreshed b now
+      → b ≡ windowOf w
+      → u ≡ progressed (windowOf w) (fresh .epoch) (fresh .«priority_remaining_ns») (fresh .«protected_remaining_ns»)
+      → sound ≡ soundConfig (configOf w)
+      → not sound ≡ false
       → left 0 x u ≡ leftOf before (keyCall (windowOf w) now (candidateOf row) (demandOf flags))
-  key-done {b} {fresh} {u} {c} {d} {k} {x} h n e f g i j l m =
+  key-done {b} {fresh} {u} {c} {d} {k} {x} m l i j f e g h n =
       key-made before (windowOf w) now (candidateOf row) (demandOf flags)
       (ap soundConfig (config-word w) ∙ sym h ∙ not-false sound n)
       (m ∙ l ∙ ap (λ v. keyOf v now c d) is-fresh ∙ ap (λ v. keyOf (refreshed (windowOf w) now) now v d) i
@@ -226,6 +227,4 @@ pub ruleset steps = (
   account-refused,
   account-back,
   account-done,
-  key-refused,
-  key-done,
 )

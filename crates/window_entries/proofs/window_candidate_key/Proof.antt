@@ -1,5 +1,5 @@
 -- The judgement, then the window as it is refreshed, and the key that is made of it.
-use Rattle.window_entries.specs.StepLaws.{steps}
+use Rattle.window_entries.specs.StepLaws.{key-refused, key-done}
 use borrow.Author.Needs.{needs}
 use Rattle.window_entries.proofs.window_candidate_key.Statement.{statement}
 use Rattle.window_entries.proofs.window_candidate_key.Tie as tie
@@ -9,7 +9,7 @@ window-candidate-key-spec =
     tie.close
     (tie.spec
     (λ c κs. search needs)
-    (λ c. search steps depth 8)
+    (λ c. search key-refused depth 8)
     (λ c κs. search needs)
     (λ c κs. search needs)
     (λ c κs. search needs)
@@ -17,4 +17,4 @@ window-candidate-key-spec =
     (λ c κs. search needs)
     (λ c κs. search needs)
     (λ c κs. search needs)
-    (λ c. search steps depth 8))
+    (λ c. search key-done depth 8 fits 20000))

@@ -1,5 +1,5 @@
 -- The words stand for the arguments, and the choice is stored.
-use Rattle.board.specs.BoardLaws.{board-laws}
+use Rattle.board.specs.BoardLaws.{chosen}
 use borrow.Author.Needs.{needs}
 use Rattle.board.proofs.running.board_switch.Statement.{statement}
 use Rattle.board.proofs.running.board_switch.Tie as tie
@@ -16,4 +16,4 @@ board-switch-spec =
     (λ c κs. search needs)
     (λ c κs. search needs)
     (λ c κs. search needs)
-    (λ c. search board-laws depth 8))
+    (λ c. search chosen depth 8 fits 20000))

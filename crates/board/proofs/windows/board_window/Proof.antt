@@ -1,5 +1,5 @@
 -- The window of the words' configuration is stored.
-use Rattle.board.specs.BoardLaws.{board-laws}
+use Rattle.board.specs.BoardLaws.{window-made}
 use borrow.Author.Needs.{needs}
 use Rattle.board.proofs.windows.board_window.Statement.{statement}
 use Rattle.board.proofs.windows.board_window.Tie as tie
@@ -11,4 +11,4 @@ board-window-spec =
     (λ c κs. search needs)
     (λ c κs. search needs)
     (λ c κs. search needs)
-    (λ c. search board-laws depth 8))
+    (λ c. search window-made depth 8))

@@ -9,37 +9,16 @@ Inv-loop unit bottom period span reading₀ left₀ reading left = Unit {0}
 abbrev μ-loop : tie.MeasureT-loop
 μ-loop unit bottom period span reading₀ left₀ reading left = left
 
-loop-holds : tie.Need-loop-holds Inv-loop μ-loop
-loop-holds c = search needs
-
-edge-requires : tie.Need-edge-requires Inv-loop μ-loop
-edge-requires c κs = search needs
-
-period-end-requires : tie.Need-period-end-requires Inv-loop μ-loop
-period-end-requires c κs = search needs
-
-sub-left : tie.Need-sub-left Inv-loop μ-loop
-sub-left c = search needs
-
-loop-less : tie.Need-loop-less Inv-loop μ-loop
-loop-less c = search needs
-
-loop-again : tie.Need-loop-again Inv-loop μ-loop
-loop-again c = search needs
-
-returns : tie.Need-returns Inv-loop μ-loop
-returns c = search needs
-
 pub edges-spec : {M : Type 1} → statement M
 edges-spec =
     tie.close
     (tie.spec
     Inv-loop
     μ-loop
-    loop-holds
-    edge-requires
-    period-end-requires
-    sub-left
-    loop-less
-    loop-again
-    returns)
+    (λ c. search needs)
+    (λ c κs. search needs)
+    (λ c κs. search needs)
+    (λ c. search needs)
+    (λ c. search needs)
+    (λ c. search needs)
+    (λ c. search needs))

@@ -1,0 +1,151 @@
+// What a scenario keeps from line to line and from step to step. A step takes it by value and gives it back, since the
+// prover covers no reference to a struct.
+use board_words::CHOICE_WORDS;
+use board_words::ChoiceWords;
+use board_words::LENGTH_WORDS;
+use board_words::LengthWords;
+use board_words::SELECTION_WORDS;
+use board_words::SelectionWords;
+use board_words::TurnWords;
+use codec::Row;
+use policy_words::DEADLINE_WORDS;
+use policy_words::DeadlineWords;
+use policy_words::ROW_WORDS;
+use window_words::DEMAND_WORDS;
+use window_words::DemandWords;
+use window_words::KEY_WORDS;
+use window_words::KeyWords;
+use window_words::WINDOW_WORDS;
+use window_words::WindowWords;
+
+// A word for each thread, or for each wake.
+pub const MOST_THREADS: u64 = 32;
+
+pub const EACH: usize = 32;
+
+pub type Each = [u64; EACH];
+
+// What becomes of the output: text, nothing, or a picture.
+pub const TEXT: u64 = 0;
+
+pub const NOTHING: u64 = 1;
+
+pub const PICTURE: u64 = 2;
+
+// The number of no thread.
+pub const NOBODY: u64 = 18_446_744_073_709_551_615;
+
+// A counter before its first turn.
+const HALF: u64 = 9_223_372_036_854_775_808;
+
+const ORDINARY: u64 = 3;
+
+// Flags are 0 or 1, as the entries of crate board take them.
+pub struct Run {
+    // The board: the last reading; the running thread, whether it is Running, and its last mode; the idle thread; the
+    // turn counters; the window; until when it runs.
+    pub now: u64,
+    pub current: u64,
+    pub running: u64,
+    pub mode: u64,
+    pub idle: u64,
+    pub turns: TurnWords,
+    pub window: WindowWords,
+    pub until: u64,
+    // How many threads and records there are; of each thread the two halves of its name, its hook's letter, and the
+    // work that it has left.
+    pub threads: u64,
+    pub records: u64,
+    pub names: Each,
+    pub names_end: Each,
+    pub hooks: Each,
+    pub work: Each,
+    // How many wakes are noted and done; of each its reading, its thread, and how long that then works.
+    pub wakes: u64,
+    pub woken: u64,
+    pub wake_at: Each,
+    pub wake_who: Each,
+    pub wake_work: Each,
+    // Whether a run explains its selections; what becomes of the output; the line.
+    pub explains: u64,
+    pub output: u64,
+    pub line: u64,
+    // What the last calls left: document 01's number; the running thread as a candidate; a selection, and its demand; a
+    // key; whether a turn is spent; whether to switch; the lengths; a deadline.
+    pub number: u64,
+    pub candidate: Row,
+    pub selected: SelectionWords,
+    pub demand: DemandWords,
+    pub key: KeyWords,
+    pub expired: u64,
+    pub choice: ChoiceWords,
+    pub lengths: LengthWords,
+    pub deadline: DeadlineWords,
+    // The word that a statement overwrote.
+    pub former: u64,
+    // Of a picture: how many nanoseconds a pixel has, the last reading of all, how many lanes, and up to where a
+    // protected window is drawn.
+    pub unit: u64,
+    pub span: u64,
+    pub lanes: u64,
+    pub shaded: u64,
+}
+
+// A board with no thread, counters of 2^63 and the mode Ordinary.
+pub fn new(output: u64) -> Run {
+    Run {
+        now: 0,
+        current: NOBODY,
+        running: 1,
+        mode: ORDINARY,
+        idle: NOBODY,
+        turns: [HALF, HALF],
+        window: [0; WINDOW_WORDS],
+        until: 0,
+        threads: 0,
+        records: 0,
+        names: [0; EACH],
+        names_end: [0; EACH],
+        hooks: [0; EACH],
+        work: [0; EACH],
+        wakes: 0,
+        woken: 0,
+        wake_at: [0; EACH],
+        wake_who: [0; EACH],
+        wake_work: [0; EACH],
+        explains: 0,
+        output,
+        line: 0,
+        number: 0,
+        candidate: [0; ROW_WORDS],
+        selected: [0; SELECTION_WORDS],
+        demand: [0; DEMAND_WORDS],
+        key: [0; KEY_WORDS],
+        expired: 0,
+        choice: [0; CHOICE_WORDS],
+        lengths: [0; LENGTH_WORDS],
+        deadline: [0; DEADLINE_WORDS],
+        former: 0,
+        unit: 0,
+        span: 0,
+        lanes: 0,
+        shaded: 0,
+    }
+}
+
+// The word of a thread or of a wake; 0 of none.
+pub fn at(words: Each, k: u64) -> u64 {
+    if k < MOST_THREADS {
+        return words[k as usize];
+    }
+    0
+}
+
+// With another word; of none, as it is.
+pub fn with(words: Each, k: u64, word: u64) -> Each {
+    let mut after = words;
+    if k < MOST_THREADS {
+        after[k as usize] = word;
+    }
+    after
+}

@@ -1,0 +1,16 @@
+-- The shapes as templates: `%a` to `%d` are numbers, `%@` is the word.
+use Prim.Native.Nat.{ℕ}
+use mathlib.Core.List.{List}
+use Rattle.text.specs.Ascii.{ascii}
+
+abbrev pub rectangleText : List ℕ
+rectangleText = ascii "<rect x='%a' y='%b' width='%c' height='%d' fill='%@'/>"
+
+abbrev pub labelText : List ℕ
+labelText = ascii "<text x='%a' y='%b'>%@</text>\n"
+
+abbrev pub markText : List ℕ
+markText = ascii "<path d='M%a %b l-5 -9 h10 z'/>"
+
+abbrev pub dashesText : List ℕ
+dashesText = ascii "<path d='M%a %b V%c' stroke='black' stroke-dasharray='5 3'/>"
