@@ -41,6 +41,26 @@ pub const SELECTION_WORDS: usize = 19;
 
 pub type SelectionWords = [u64; SELECTION_WORDS];
 
+pub const SELECTED_TAG: usize = 0;
+
+pub const SELECTED_ID: usize = 1;
+
+pub const SELECTION_PROTECTED: usize = 11;
+
+pub const SELECTION_FAIR: usize = 12;
+
+pub const SELECTION_SENSITIVE: usize = 13;
+
+pub const SELECTION_ELIGIBLE: usize = 14;
+
+pub const SELECTION_ANY: usize = 15;
+
+pub const MIN_PASS_TAG: usize = 16;
+
+pub const MIN_PASS_HIGH: usize = 17;
+
+pub const MIN_PASS_LOW: usize = 18;
+
 // The thread's part of a selection, and that of the lowest pass.
 const THREAD_WORDS: usize = 11;
 

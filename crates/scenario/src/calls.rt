@@ -19,6 +19,12 @@ use board_words::CHOICE_WORDS;
 use board_words::FLAG_WORDS;
 use board_words::LENGTH_WORDS;
 use board_words::ReadyWords;
+use board_words::SELECTED_TAG;
+use board_words::SELECTION_ANY;
+use board_words::SELECTION_ELIGIBLE;
+use board_words::SELECTION_FAIR;
+use board_words::SELECTION_PROTECTED;
+use board_words::SELECTION_SENSITIVE;
 use board_words::SELECTION_WORDS;
 use board_words::SelectionWords;
 use codec::Row;
@@ -31,17 +37,6 @@ use text::saturating_add;
 use window_words::ConfigWords;
 use window_words::DemandWords;
 use window_words::KEY_WORDS;
-
-// Words of a selection: whether there is a thread, and its number; whether there is a lowest fair pass, and its halves.
-pub const SELECTED: usize = 0;
-
-pub const SELECTED_ID: usize = 1;
-
-pub const PASS_TAG: usize = 16;
-
-pub const PASS_HIGH: usize = 17;
-
-pub const PASS_LOW: usize = 18;
 
 // Of a choice and of a deadline: whether there is one; whether the running thread goes to the front; the deadline.
 pub const IS_THERE: usize = 0;
@@ -89,7 +84,13 @@ pub fn remove(q: &mut QueueRows, t: &mut [Row], given: Run, id: u64) -> Run {
 
 // The demand, behind the thread.
 fn demand_in(w: SelectionWords) -> DemandWords {
-    [w[11], w[12], w[13], w[14], w[15]]
+    [
+        w[SELECTION_PROTECTED],
+        w[SELECTION_FAIR],
+        w[SELECTION_SENSITIVE],
+        w[SELECTION_ELIGIBLE],
+        w[SELECTION_ANY],
+    ]
 }
 
 // With the candidate as the running thread, if one runs.
@@ -266,7 +267,7 @@ pub fn deadline(t: &mut [Row], given: Run, id: u64, now: u64) -> Run {
         &mut window,
         others,
         given.lengths[BUDGET],
-        given.selected[SELECTED],
+        given.selected[SELECTED_TAG],
         &its_demand,
         &mut answer,
     );

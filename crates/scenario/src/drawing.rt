@@ -4,6 +4,7 @@ use crate::printing::listed;
 use crate::printing::mode;
 use crate::printing::name;
 use crate::printing::plain;
+use crate::run::MOST_THREADS;
 use crate::run::PICTURE;
 use crate::run::Run;
 use crate::run::at;
@@ -48,7 +49,7 @@ fn across(unit: u64, reading: u64) -> u64 {
 
 // Where a lane is.
 fn down(lane: u64) -> u64 {
-    LANES_TOP + LANE_HEIGHT * (lane % 32)
+    LANES_TOP + LANE_HEIGHT * (lane % MOST_THREADS)
 }
 
 fn rectangle(x: u64, y: u64, width: u64, height: u64, fill: &[u8]) {

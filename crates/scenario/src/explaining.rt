@@ -1,10 +1,5 @@
 // Why a thread is chosen: its key, the demand, the window, and each tree's threads in order with the key of its head.
 use crate::calls;
-use crate::calls::PASS_HIGH;
-use crate::calls::PASS_LOW;
-use crate::calls::PASS_TAG;
-use crate::calls::SELECTED;
-use crate::calls::SELECTED_ID;
 use crate::printing::is_text;
 use crate::printing::listed;
 use crate::printing::mode;
@@ -12,6 +7,11 @@ use crate::printing::name;
 use crate::printing::plain;
 use crate::printing::say;
 use crate::run::Run;
+use board_words::MIN_PASS_HIGH;
+use board_words::MIN_PASS_LOW;
+use board_words::MIN_PASS_TAG;
+use board_words::SELECTED_ID;
+use board_words::SELECTED_TAG;
 use codec::LEFT;
 use codec::LEFT_TAG;
 use codec::RIGHT;
@@ -21,6 +21,7 @@ use lent_queue::HEAD;
 use lent_queue::HEAD_TAG;
 use lent_queue::QueueRows;
 use lent_queue::ROOT_ROWS;
+use queue::TREES;
 use window_words::ALLOWANCE_LEFT;
 use window_words::DEMAND_ANY;
 use window_words::DEMAND_ELIGIBLE;
@@ -39,8 +40,6 @@ use window_words::KEY_RANK;
 use window_words::KEY_TAG;
 use window_words::KEY_TURN;
 use window_words::KEY_URGENCY;
-
-const TREES: usize = 12;
 
 // A tree has no more levels than this.
 const LEVELS: usize = 28;
@@ -103,7 +102,7 @@ fn with_key(t: &[Row], x: Run, id: u64, now: u64) -> Run {
 
 // The thread that selection names.
 fn chosen(t: &[Row], given: Run, now: u64) -> Run {
-    if given.selected[SELECTED] == 0 {
+    if given.selected[SELECTED_TAG] == 0 {
         say(given, b": nobody\n", &[0]);
         return given;
     }
@@ -135,11 +134,15 @@ fn demand(x: Run) {
 
 fn lowest(x: Run) {
     let s = x.selected;
-    if s[PASS_TAG] == 0 {
+    if s[MIN_PASS_TAG] == 0 {
         say(x, b"no fair pass\n", &[0]);
         return;
     }
-    say(x, b"lowest fair pass %a:%b\n", &[s[PASS_HIGH], s[PASS_LOW]]);
+    say(
+        x,
+        b"lowest fair pass %a:%b\n",
+        &[s[MIN_PASS_HIGH], s[MIN_PASS_LOW]],
+    );
 }
 
 fn window(x: Run) {

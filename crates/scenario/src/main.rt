@@ -22,6 +22,7 @@ use policy_words::ROW_WORDS;
 use run::NOTHING;
 use run::PICTURE;
 use run::Run;
+use run::TABLE_ROWS;
 use run::TEXT;
 
 const STDIN: i32 = 0;
@@ -29,9 +30,6 @@ const STDIN: i32 = 0;
 const STDOUT: i32 = 1;
 
 const NEW_LINE: u8 = 10;
-
-// One record more than a call takes.
-const TABLE_ROWS: usize = 4097;
 
 fn new_queue(q: &mut QueueRows) {
     board_new(q);

@@ -12,6 +12,7 @@ use crate::matching::Match;
 use crate::matching::Values;
 use crate::printing::listed;
 use crate::printing::say;
+use crate::run::MOST_RECORDS;
 use crate::run::MOST_THREADS;
 use crate::run::Run;
 use crate::run::with;
@@ -24,9 +25,6 @@ use lent_queue::QueueRows;
 use text::saturating_add;
 use time::min_of;
 use time::saturating_sub;
-
-// The first record that a call refuses.
-const MOST_RECORDS: u64 = 4097;
 
 // A wake that finds no room.
 const NO_ROOM: u64 = 1;

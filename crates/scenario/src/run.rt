@@ -18,6 +18,11 @@ use window_words::KeyWords;
 use window_words::WINDOW_WORDS;
 use window_words::WindowWords;
 
+// The table has one record more than a call takes.
+pub const TABLE_ROWS: usize = 4097;
+
+pub const MOST_RECORDS: u64 = 4097;
+
 // A word for each thread, or for each wake.
 pub const MOST_THREADS: u64 = 32;
 

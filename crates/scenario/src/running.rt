@@ -2,7 +2,6 @@
 // its deadline, to the end of its work or to what comes next.
 use crate::calls;
 use crate::calls::IS_THERE;
-use crate::calls::SELECTED_ID;
 use crate::calls::TO_FRONT;
 use crate::calls::WHEN;
 use crate::drawing::bar;
@@ -16,6 +15,7 @@ use crate::printing::say;
 use crate::run::Run;
 use crate::run::at;
 use crate::run::with;
+use board_words::SELECTED_ID;
 use codec::Row;
 use lent_queue::QueueRows;
 use text::print;

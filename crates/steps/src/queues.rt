@@ -17,6 +17,10 @@ use board::board_enqueue;
 use board::board_enqueue_front;
 use board::board_remove;
 use board::board_select;
+use board_words::MIN_PASS_LOW;
+use board_words::MIN_PASS_TAG;
+use board_words::SELECTED_ID;
+use board_words::SELECTED_TAG;
 use board_words::SELECTION_WORDS;
 use codec::Row;
 use lent_queue::QueueRows;
@@ -64,15 +68,15 @@ fn peeked(q: &mut QueueRows, t: &mut [Row], n: usize, a: Numbers, cpu: u8) -> u6
 // Whom a selection names, or the low word of the lowest fair pass: no pass here has a high one.
 fn seen(row: Row, letter: u64) -> u64 {
     if letter == SELECT {
-        if row[0] == 0 {
+        if row[SELECTED_TAG] == 0 {
             return NONE;
         }
-        return row[1];
+        return row[SELECTED_ID];
     }
-    if row[16] == 0 {
+    if row[MIN_PASS_TAG] == 0 {
         return NONE;
     }
-    row[18]
+    row[MIN_PASS_LOW]
 }
 
 // The steps SELECT and LOWEST are for processor 0.
