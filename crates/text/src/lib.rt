@@ -1,7 +1,7 @@
 // Text in and out, for programs: the pieces of a line, lists of names, decimal numbers, columns, templates and shapes,
 // in bytes that the caller lends, and sums that stay in range. Only `print` writes to a file, which is standard output.
 mod counting;
-mod lists;
+mod listing;
 mod names;
 mod printing;
 mod reading;
@@ -9,10 +9,10 @@ mod svg;
 mod writing;
 
 pub use counting::saturating_add;
-pub use lists::Span;
-pub use lists::nth;
-pub use lists::place_of;
-pub use lists::word_after;
+pub use listing::Span;
+pub use listing::nth;
+pub use listing::place_of;
+pub use listing::word_after;
 pub use names::packed;
 pub use names::put_packed;
 pub use printing::print;

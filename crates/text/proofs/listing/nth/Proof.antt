@@ -7,8 +7,8 @@ use Rattle.text.specs.Reading.{before}
 use Rattle.text.specs.Lists.{namesOf, namesFrom}
 use Rattle.text.specs.ListsLaws.{countings, namings}
 use borrow.Author.Needs.{needs}
-use Rattle.text.proofs.lists.nth.Statement.{statement}
-use Rattle.text.proofs.lists.nth.Tie as tie
+use Rattle.text.proofs.listing.nth.Statement.{statement}
+use Rattle.text.proofs.listing.nth.Tie as tie
 
 abbrev Inv-loop : tie.InvT-loop
 Inv-loop list between n start₀ end₀ left₀ start end left =

@@ -5,8 +5,8 @@ use lib.ListN.{length}
 use Rattle.text.specs.Lists.{namesOf, namesFrom, placeIn}
 use Rattle.text.specs.ListsLaws.{place-first, place-here, place-next, place-none}
 use borrow.Author.Needs.{needs}
-use Rattle.text.proofs.lists.place_of.Statement.{statement}
-use Rattle.text.proofs.lists.place_of.Tie as tie
+use Rattle.text.proofs.listing.place_of.Statement.{statement}
+use Rattle.text.proofs.listing.place_of.Tie as tie
 
 abbrev Inv-loop : tie.InvT-loop
 Inv-loop list between word at₀ count₀ at count =
