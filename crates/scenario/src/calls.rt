@@ -1,42 +1,10 @@
 // The calls of crate board on a run. Each leaves its answer and document 01's number; after a refusal none is made. A
 // call stands alone in its function, since what its contract says is carried through all that follows.
 use crate::run::Run;
-use board::board_account;
-use board::board_candidate;
-use board::board_deadline;
-use board::board_enqueue;
-use board::board_enqueue_front;
-use board::board_expired;
-use board::board_finish;
-use board::board_key;
-use board::board_lengths;
-use board::board_prepare;
-use board::board_remove;
-use board::board_select;
-use board::board_switch;
-use board::board_window;
-use board_words::CHOICE_WORDS;
-use board_words::FLAG_WORDS;
-use board_words::LENGTH_WORDS;
-use board_words::ReadyWords;
-use board_words::SELECTED_TAG;
-use board_words::SELECTION_ANY;
-use board_words::SELECTION_ELIGIBLE;
-use board_words::SELECTION_FAIR;
-use board_words::SELECTION_PROTECTED;
-use board_words::SELECTION_SENSITIVE;
-use board_words::SELECTION_WORDS;
-use board_words::SelectionWords;
 use codec::Row;
 use lent_queue::QueueRows;
-use policy_words::DEADLINE_WORDS;
-use policy_words::ROW_WORDS;
 use ready_index::MAX_PATH;
 use ready_index::PATH_STEP_WORDS;
-use text::saturating_add;
-use window_words::ConfigWords;
-use window_words::DemandWords;
-use window_words::KEY_WORDS;
 
 // Of a choice and of a deadline: whether there is one; whether the running thread goes to the front; the deadline.
 pub const IS_THERE: usize = 0;
@@ -52,23 +20,17 @@ pub const FAIR: usize = 1;
 
 pub const BUDGET: usize = 2;
 
-pub fn enqueue(q: &mut QueueRows, t: &mut [Row], given: Run, id: u64) -> Run {
+pub fn enqueue(q: &mut QueueRows, t: &mut [Row], given: Run, id: u64, front: u64) -> Run {
     if given.number != 0 {
         return given;
     }
     let mut path = [[0u64; PATH_STEP_WORDS]; MAX_PATH];
     let mut x = given;
-    x.number = board_enqueue(q, t, &mut path, id, 0);
-    x
-}
-
-pub fn enqueue_front(q: &mut QueueRows, t: &mut [Row], given: Run, id: u64) -> Run {
-    if given.number != 0 {
-        return given;
+    if front == 0 {
+        x.number = board::board_enqueue(q, t, &mut path, id, 0);
+    } else {
+        x.number = board::board_enqueue_front(q, t, &mut path, id, 0);
     }
-    let mut path = [[0u64; PATH_STEP_WORDS]; MAX_PATH];
-    let mut x = given;
-    x.number = board_enqueue_front(q, t, &mut path, id, 0);
     x
 }
 
@@ -78,18 +40,18 @@ pub fn remove(q: &mut QueueRows, t: &mut [Row], given: Run, id: u64) -> Run {
     }
     let mut path = [[0u64; PATH_STEP_WORDS]; MAX_PATH];
     let mut x = given;
-    x.number = board_remove(q, t, &mut path, id, 0);
+    x.number = board::board_remove(q, t, &mut path, id, 0);
     x
 }
 
 // The demand, behind the thread.
-fn demand_in(w: SelectionWords) -> DemandWords {
+fn demand_in(w: board_words::SelectionWords) -> window_words::DemandWords {
     [
-        w[SELECTION_PROTECTED],
-        w[SELECTION_FAIR],
-        w[SELECTION_SENSITIVE],
-        w[SELECTION_ELIGIBLE],
-        w[SELECTION_ANY],
+        w[board_words::SELECTION_PROTECTED],
+        w[board_words::SELECTION_FAIR],
+        w[board_words::SELECTION_SENSITIVE],
+        w[board_words::SELECTION_ELIGIBLE],
+        w[board_words::SELECTION_ANY],
     ]
 }
 
@@ -101,9 +63,9 @@ pub fn select(q: &mut QueueRows, t: &mut [Row], given: Run, now: u64, runs: u64)
     let mut path = [[0u64; PATH_STEP_WORDS]; MAX_PATH];
     let mut window = given.window;
     let current = given.candidate;
-    let mut answer = [0u64; SELECTION_WORDS];
+    let mut answer = [0u64; board_words::SELECTION_WORDS];
     let mut x = given;
-    x.number = board_select(
+    x.number = board::board_select(
         q,
         t,
         &mut path,
@@ -127,7 +89,7 @@ pub fn prepare(t: &mut [Row], given: Run, id: u64, front: u64, now: u64) -> Run 
     }
     let mut turns = given.turns;
     let mut x = given;
-    x.number = board_prepare(t, id, front, now, &mut turns);
+    x.number = board::board_prepare(t, id, front, now, &mut turns);
     x.turns = turns;
     x
 }
@@ -138,7 +100,7 @@ pub fn account(t: &mut [Row], given: Run, id: u64, mode: u64, start: u64, end: u
     }
     let mut window = given.window;
     let mut x = given;
-    x.number = board_account(t, id, &mut window, mode, start, end);
+    x.number = board::board_account(t, id, &mut window, mode, start, end);
     x.window = window;
     x
 }
@@ -148,7 +110,7 @@ pub fn finish(t: &mut [Row], given: Run, id: u64) -> Run {
         return given;
     }
     let mut x = given;
-    x.number = board_finish(t, id);
+    x.number = board::board_finish(t, id);
     x
 }
 
@@ -156,9 +118,9 @@ pub fn expired(t: &[Row], given: Run, id: u64) -> Run {
     if given.number != 0 {
         return given;
     }
-    let mut answer = [0u64; FLAG_WORDS];
+    let mut answer = [0u64; board_words::FLAG_WORDS];
     let mut x = given;
-    x.number = board_expired(t, id, &mut answer);
+    x.number = board::board_expired(t, id, &mut answer);
     x.expired = answer[0];
     x
 }
@@ -168,9 +130,9 @@ pub fn candidate(t: &mut [Row], given: Run, id: u64, runs: u64, now: u64) -> Run
     if given.number != 0 {
         return given;
     }
-    let mut row = [0u64; ROW_WORDS];
+    let mut row = [0u64; policy_words::ROW_WORDS];
     let mut x = given;
-    x.number = board_candidate(t, id, runs, now, &mut row);
+    x.number = board::board_candidate(t, id, runs, now, &mut row);
     x.candidate = row;
     x
 }
@@ -182,9 +144,9 @@ pub fn key(given: Run, row: Row, now: u64) -> Run {
     }
     let mut window = given.window;
     let its_demand = given.demand;
-    let mut answer = [0u64; KEY_WORDS];
+    let mut answer = [0u64; window_words::KEY_WORDS];
     let mut x = given;
-    x.number = board_key(&mut window, now, &row, &its_demand, &mut answer);
+    x.number = board::board_key(&mut window, now, &row, &its_demand, &mut answer);
     x.window = window;
     x.key = answer;
     x
@@ -192,20 +154,19 @@ pub fn key(given: Run, row: Row, now: u64) -> Run {
 
 // The key of the running thread; none where there is none.
 pub fn runner_key(given: Run, runs: u64, now: u64) -> Run {
-    if given.number != 0 {
-        return given;
-    }
+    let row = given.candidate;
     if runs != 0 {
-        let row = given.candidate;
         return key(given, row, now);
     }
     let mut x = given;
-    x.key = [0; KEY_WORDS];
+    if x.number == 0 {
+        x.key = [0; window_words::KEY_WORDS];
+    }
     x
 }
 
 // What the switch rule compares: a selection's first words.
-fn ready_in(w: SelectionWords) -> ReadyWords {
+fn ready_in(w: board_words::SelectionWords) -> board_words::ReadyWords {
     [w[0], w[1], w[2], w[3], w[4], w[5], w[6], w[7], w[8]]
 }
 
@@ -218,9 +179,9 @@ pub fn switch(given: Run, yielding: u64, tail: u64) -> Run {
     let ready = ready_in(selected);
     let its_key = given.key;
     let row = given.candidate;
-    let mut answer = [0u64; CHOICE_WORDS];
+    let mut answer = [0u64; board_words::CHOICE_WORDS];
     let mut x = given;
-    x.number = board_switch(
+    x.number = board::board_switch(
         &ready,
         &its_key,
         &row,
@@ -237,37 +198,34 @@ pub fn lengths(q: &QueueRows, given: Run) -> Run {
     if given.number != 0 {
         return given;
     }
-    let mut answer = [0u64; LENGTH_WORDS];
-    board_lengths(q, &mut answer);
+    let mut answer = [0u64; board_words::LENGTH_WORDS];
+    board::board_lengths(q, &mut answer);
     let mut x = given;
     x.lengths = answer;
     x
 }
 
 // There is competition where anybody is queued.
-fn competition(x: Run) -> u64 {
-    saturating_add(x.lengths[REAL_TIME], x.lengths[FAIR])
-}
-
 pub fn deadline(t: &mut [Row], given: Run, id: u64, now: u64) -> Run {
     if given.number != 0 {
         return given;
     }
-    let others = competition(given);
+    let queued = given.lengths;
+    let others = text::saturating_add(queued[REAL_TIME], queued[FAIR]);
     let its_key = given.key;
     let mut window = given.window;
     let its_demand = given.demand;
-    let mut answer = [0u64; DEADLINE_WORDS];
+    let mut answer = [0u64; policy_words::DEADLINE_WORDS];
     let mut x = given;
-    x.number = board_deadline(
+    x.number = board::board_deadline(
         t,
         id,
         now,
         &its_key,
         &mut window,
         others,
-        given.lengths[BUDGET],
-        given.selected[SELECTED_TAG],
+        queued[BUDGET],
+        given.selected[board_words::SELECTED_TAG],
         &its_demand,
         &mut answer,
     );
@@ -276,11 +234,20 @@ pub fn deadline(t: &mut [Row], given: Run, id: u64, now: u64) -> Run {
     x
 }
 
+// A selection beside a thread, that thread's key and its deadline.
+pub fn armed(q: &mut QueueRows, t: &mut [Row], x: Run, id: u64, runs: u64, now: u64) -> Run {
+    let a = candidate(t, x, id, runs, now);
+    let b = select(q, t, a, now, runs);
+    let c = runner_key(b, runs, now);
+    let d = lengths(q, c);
+    deadline(t, d, id, now)
+}
+
 // A new window.
-pub fn window(given: Run, config: ConfigWords) -> Run {
+pub fn window(given: Run, config: window_words::ConfigWords) -> Run {
     let mut window = given.window;
     let mut x = given;
-    x.number = board_window(&mut window, &config);
+    x.number = board::board_window(&mut window, &config);
     x.window = window;
     x
 }

@@ -4,19 +4,11 @@ use crate::printing::listed;
 use crate::printing::mode;
 use crate::printing::name;
 use crate::printing::plain;
-use crate::run::MOST_THREADS;
 use crate::run::PICTURE;
 use crate::run::Run;
-use crate::run::at;
 use text::print;
-use text::print_page;
 use text::saturating_add;
-use time::min_of;
 use time::saturating_sub;
-use window_words::DEMAND_PROTECTED;
-use window_words::FLOOR_LEFT;
-use window_words::KEY_MODE;
-use window_words::KEY_TAG;
 use window_words::WINDOW_PERIOD;
 
 // As many pixels for the whole run.
@@ -39,6 +31,9 @@ const BEFORE_A: u64 = 64;
 
 const MOST_EDGES: u64 = 64;
 
+// The bytes of what is printed at once.
+const PAGE: usize = 1024;
+
 // Where a reading is, by the nanoseconds of a pixel.
 fn across(unit: u64, reading: u64) -> u64 {
     if unit == 0 {
@@ -49,31 +44,7 @@ fn across(unit: u64, reading: u64) -> u64 {
 
 // Where a lane is.
 fn down(lane: u64) -> u64 {
-    LANES_TOP + LANE_HEIGHT * (lane % MOST_THREADS)
-}
-
-fn rectangle(x: u64, y: u64, width: u64, height: u64, fill: &[u8]) {
-    let mut out = [0u8; 512];
-    let n = text::rectangle(&mut out, 0, &[x, y, width, height], fill);
-    print_page(&out, n);
-}
-
-fn label(x: u64, y: u64, words: &[u8]) {
-    let mut out = [0u8; 512];
-    let n = text::label(&mut out, 0, &[x, y], words);
-    print_page(&out, n);
-}
-
-fn mark(x: u64, y: u64) {
-    let mut out = [0u8; 512];
-    let n = text::mark(&mut out, 0, &[x, y]);
-    print_page(&out, n);
-}
-
-fn dashes(x: u64, top: u64, bottom: u64) {
-    let mut out = [0u8; 512];
-    let n = text::dashes(&mut out, 0, &[x, top, bottom]);
-    print_page(&out, n);
+    LANES_TOP + LANE_HEIGHT * (lane % crate::run::MOST_THREADS)
 }
 
 // The end of the period that holds a reading; the last reading where it does not fit.
@@ -86,13 +57,10 @@ fn period_end(period: u64, reading: u64) -> u64 {
 
 // Where protection is due.
 fn shaded(left: u64, right: u64, height: u64, now: u64) {
-    rectangle(
-        left,
-        TOP,
-        saturating_sub(right, left),
-        height,
-        b"#d04040' fill-opacity='0.13",
-    );
+    let mut out = [0u8; PAGE];
+    let place = [left, TOP, saturating_sub(right, left), height];
+    let n = text::rectangle(&mut out, 0, &place, b"#d04040' fill-opacity='0.13");
+    text::print_page(&out, n);
     print(
         b"\n<text x='%a' y='44' fill='#b03030'>protection due at %b</text>\n",
         &[left, now],
@@ -107,7 +75,7 @@ fn shade(given: Run) -> Run {
     if end <= given.shaded {
         return given;
     }
-    let right = across(given.unit, min_of(end, given.span));
+    let right = across(given.unit, time::min_of(end, given.span));
     let height = saturating_sub(down(given.lanes), TOP);
     shaded(across(given.unit, now), right, height, now);
     let mut x = given;
@@ -118,14 +86,12 @@ fn shade(given: Run) -> Run {
 // Protection is due where a protected thread asks, and what is left of the period is no more than what is left of the
 // floor.
 fn is_due(x: Run) -> bool {
-    if x.demand[DEMAND_PROTECTED] == 0 {
-        return false;
-    }
-    if x.window[FLOOR_LEFT] == 0 {
+    let floor = x.window[window_words::FLOOR_LEFT];
+    if x.demand[window_words::DEMAND_PROTECTED] == 0 || floor == 0 {
         return false;
     }
     let end = period_end(x.window[WINDOW_PERIOD], x.now);
-    saturating_sub(end, x.window[FLOOR_LEFT]) <= x.now
+    saturating_sub(end, floor) <= x.now
 }
 
 // The mode's name, where the bar has room for it.
@@ -149,7 +115,9 @@ fn bar_at(left: u64, width: u64, y: u64, hook: u64) {
         b"#9a9a9a|#2878b8|#e07b20|#3a9a50",
         saturating_sub(hook, BEFORE_A) % 4,
     );
-    mark(left, y);
+    let mut out = [0u8; PAGE];
+    let n = text::mark(&mut out, 0, &[left, y]);
+    text::print_page(&out, n);
     plain(b"\n");
 }
 
@@ -159,9 +127,9 @@ fn stretch(x: Run, end: u64) {
     let left = across(x.unit, x.now);
     let width = saturating_sub(across(x.unit, end), left);
     let hooks = x.hooks;
-    bar_at(left, width, down(id), at(hooks, id));
-    if x.key[KEY_TAG] != 0 {
-        mode_in(left, width, down(id), x.key[KEY_MODE]);
+    bar_at(left, width, down(id), crate::run::at(hooks, id));
+    if x.key[window_words::KEY_TAG] != 0 {
+        mode_in(left, width, down(id), x.key[window_words::KEY_MODE]);
     }
 }
 
@@ -186,22 +154,19 @@ pub fn measured(given: Run, span: u64, lanes: u64) -> Run {
     x
 }
 
-fn sheet(height: u64) {
+// Up to the title.
+pub fn begin(x: Run) {
+    let height = [saturating_add(down(x.lanes), 70)];
     print(
         b"<svg xmlns='http://www.w3.org/2000/svg' version='1.1' width='1000' height='%a' ",
-        &[height],
+        &height,
         b"",
     );
     print(
         b"font-family='sans-serif' font-size='12'>\n<rect width='1000' height='%a' fill='white'/>\n",
-        &[height],
+        &height,
         b"",
     );
-}
-
-// Up to the title.
-pub fn begin(x: Run) {
-    sheet(saturating_add(down(x.lanes), 70));
     plain(b"<text x='12' y='24' font-size='16'>");
 }
 
@@ -227,7 +192,9 @@ fn lanes(x: Run) {
 // A period's edge, with its reading.
 fn edge(unit: u64, bottom: u64, reading: u64) {
     let x = across(unit, reading);
-    dashes(x, TOP, bottom);
+    let mut out = [0u8; PAGE];
+    let n = text::dashes(&mut out, 0, &[x, TOP, bottom]);
+    text::print_page(&out, n);
     print(
         b"\n<text x='%a' y='%b' text-anchor='middle'>%c</text>\n",
         &[x, saturating_add(bottom, 14), reading],
@@ -247,41 +214,48 @@ fn edges(unit: u64, bottom: u64, period: u64, span: u64) {
     }
 }
 
-// A colour and what it stands for.
-fn legend_of(x: u64, y: u64, fill: &[u8], words: &[u8]) {
-    rectangle(x, y, 14, 12, fill);
-    label(saturating_add(x, 19), saturating_add(y, 10), words);
+// A colour and what it stands for, onto a page.
+fn colour(out: &mut [u8], at: usize, x: u64, y: u64, fill: &[u8], words: &[u8]) -> usize {
+    let n = text::rectangle(out, at, &[x, y, 14, 12], fill);
+    text::label(
+        out,
+        n,
+        &[saturating_add(x, 19), saturating_add(y, 10)],
+        words,
+    )
 }
 
-fn colours(y: u64) {
-    legend_of(150, y, b"#2878b8", b"hook A");
-    legend_of(225, y, b"#e07b20", b"hook B");
-    legend_of(300, y, b"#9a9a9a", b"no hook");
+fn hooks(out: &mut [u8], y: u64) -> usize {
+    let a = colour(out, 0, 150, y, b"#2878b8", b"hook A");
+    let b = colour(out, a, 225, y, b"#e07b20", b"hook B");
+    colour(out, b, 300, y, b"#9a9a9a", b"no hook")
 }
 
-fn chosen(y: u64) {
-    mark(390, y);
-    label(400, y, b"chosen by a selection");
-}
-
-fn period(y: u64) {
+fn legend(y: u64) {
+    let mut out = [0u8; PAGE];
+    let below = saturating_add(y, 10);
+    let a = hooks(&mut out, y);
+    let b = text::mark(&mut out, a, &[390, below]);
+    let c = text::label(&mut out, b, &[400, below], b"chosen by a selection");
+    let d = colour(
+        &mut out,
+        c,
+        540,
+        y,
+        b"#d04040' fill-opacity='0.13",
+        b"protected window",
+    );
+    text::print_page(&out, d);
     print(
         b"<path d='M682 %a v12' stroke='black' stroke-dasharray='5 3'/>",
         &[y],
         b"",
     );
-    label(
-        692,
-        saturating_add(y, 10),
-        b"edge of a period; times in nanoseconds",
+    print(
+        b"<text x='692' y='%a'>edge of a period; times in nanoseconds</text>\n",
+        &[below],
+        b"",
     );
-}
-
-fn legend(y: u64) {
-    colours(y);
-    chosen(saturating_add(y, 10));
-    legend_of(540, y, b"#d04040' fill-opacity='0.13", b"protected window");
-    period(y);
 }
 
 pub fn end(x: Run) {

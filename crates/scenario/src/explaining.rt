@@ -1,57 +1,26 @@
 // Why a thread is chosen: its key, the demand, the window, and each tree's threads in order with the key of its head.
 use crate::calls;
-use crate::printing::is_text;
 use crate::printing::listed;
 use crate::printing::mode;
 use crate::printing::name;
 use crate::printing::plain;
 use crate::printing::say;
+use crate::printing::tell;
+use crate::run::NOBODY;
 use crate::run::Run;
-use board_words::MIN_PASS_HIGH;
-use board_words::MIN_PASS_LOW;
-use board_words::MIN_PASS_TAG;
-use board_words::SELECTED_ID;
-use board_words::SELECTED_TAG;
-use codec::LEFT;
-use codec::LEFT_TAG;
-use codec::RIGHT;
-use codec::RIGHT_TAG;
+use crate::run::TEXT;
 use codec::Row;
-use lent_queue::HEAD;
-use lent_queue::HEAD_TAG;
 use lent_queue::QueueRows;
-use lent_queue::ROOT_ROWS;
-use queue::TREES;
-use window_words::ALLOWANCE_LEFT;
-use window_words::DEMAND_ANY;
-use window_words::DEMAND_ELIGIBLE;
-use window_words::DEMAND_FAIR;
-use window_words::DEMAND_PROTECTED;
-use window_words::DEMAND_SENSITIVE;
-use window_words::EPOCH;
-use window_words::EPOCH_TAG;
-use window_words::FLOOR_LEFT;
-use window_words::KEY_ALGORITHM_RANK;
-use window_words::KEY_BAND;
-use window_words::KEY_HIGH;
-use window_words::KEY_LOW;
-use window_words::KEY_MODE;
-use window_words::KEY_RANK;
-use window_words::KEY_TAG;
-use window_words::KEY_TURN;
-use window_words::KEY_URGENCY;
 
 // A tree has no more levels than this.
 const LEVELS: usize = 28;
 
-// The way through a tree: the link to go down by, if there is one; the threads above that come later, and how many; the
-// thread that is come to, if there is one.
+// The way through a tree: the thread to go down by; the threads above that come later, and how many; the thread that is
+// come to. Where there is none, nobody.
 struct Walk {
-    has_link: u64,
     link: u64,
     above: [u64; LEVELS],
     depth: usize,
-    found: bool,
     member: u64,
 }
 
@@ -62,32 +31,34 @@ fn key_parts(x: Run) {
         x,
         b", urgency %a, rank %b, then algorithm rank %c, algorithm %d:%e, band %f, turn %g",
         &[
-            k[KEY_URGENCY],
-            k[KEY_RANK],
-            k[KEY_ALGORITHM_RANK],
-            k[KEY_HIGH],
-            k[KEY_LOW],
-            k[KEY_BAND],
-            k[KEY_TURN],
+            k[window_words::KEY_URGENCY],
+            k[window_words::KEY_RANK],
+            k[window_words::KEY_ALGORITHM_RANK],
+            k[window_words::KEY_HIGH],
+            k[window_words::KEY_LOW],
+            k[window_words::KEY_BAND],
+            k[window_words::KEY_TURN],
         ],
     );
 }
 
 fn key(x: Run) {
-    if x.key[KEY_TAG] == 0 {
+    if x.key[window_words::KEY_TAG] == 0 {
         plain(b"no key");
         return;
     }
-    mode(x.key[KEY_MODE], b"%@");
+    mode(x.key[window_words::KEY_MODE], b"%@");
     key_parts(x);
 }
 
 fn told_chosen(x: Run, id: u64) {
-    plain(b": ");
-    name(x, id, b"%@");
-    plain(b", ");
-    key(x);
-    plain(b"\n");
+    if x.output == TEXT {
+        plain(b": ");
+        name(x, id, b"%@");
+        plain(b", ");
+        key(x);
+        plain(b"\n");
+    }
 }
 
 // The key of a thread; where the table has it not, that of no thread.
@@ -102,16 +73,13 @@ fn with_key(t: &[Row], x: Run, id: u64, now: u64) -> Run {
 
 // The thread that selection names.
 fn chosen(t: &[Row], given: Run, now: u64) -> Run {
-    if given.selected[SELECTED_TAG] == 0 {
-        say(given, b": nobody\n", &[0]);
+    if given.selected[board_words::SELECTED_TAG] == 0 {
+        tell(given, b": nobody\n");
         return given;
     }
-    let id = given.selected[SELECTED_ID];
+    let id = given.selected[board_words::SELECTED_ID];
     let x = with_key(t, given, id, now);
-    if x.number != 0 {
-        return x;
-    }
-    if is_text(x) {
+    if x.number == 0 {
         told_chosen(x, id);
     }
     x
@@ -123,88 +91,82 @@ fn demand(x: Run) {
         x,
         b"  demand: protected %a, fair %b, window sensitive %c, eligible budget %d, any budget %e; ",
         &[
-            d[DEMAND_PROTECTED],
-            d[DEMAND_FAIR],
-            d[DEMAND_SENSITIVE],
-            d[DEMAND_ELIGIBLE],
-            d[DEMAND_ANY],
+            d[window_words::DEMAND_PROTECTED],
+            d[window_words::DEMAND_FAIR],
+            d[window_words::DEMAND_SENSITIVE],
+            d[window_words::DEMAND_ELIGIBLE],
+            d[window_words::DEMAND_ANY],
         ],
     );
 }
 
 fn lowest(x: Run) {
     let s = x.selected;
-    if s[MIN_PASS_TAG] == 0 {
-        say(x, b"no fair pass\n", &[0]);
+    if s[board_words::MIN_PASS_TAG] == 0 {
+        tell(x, b"no fair pass\n");
         return;
     }
     say(
         x,
         b"lowest fair pass %a:%b\n",
-        &[s[MIN_PASS_HIGH], s[MIN_PASS_LOW]],
+        &[s[board_words::MIN_PASS_HIGH], s[board_words::MIN_PASS_LOW]],
     );
 }
 
 fn window(x: Run) {
-    let w = [
-        x.window[EPOCH],
-        x.window[ALLOWANCE_LEFT],
-        x.window[FLOOR_LEFT],
-    ];
-    if x.window[EPOCH_TAG] == 0 {
-        say(
-            x,
-            b"  window: no epoch, allowance left %b, floor left %c\n",
-            &w,
-        );
-        return;
+    if x.window[window_words::EPOCH_TAG] == 0 {
+        tell(x, b"  window: no epoch");
+    } else {
+        say(x, b"  window: epoch %a", &[x.window[window_words::EPOCH]]);
     }
     say(
         x,
-        b"  window: epoch %a, allowance left %b, floor left %c\n",
-        &w,
+        b", allowance left %a, floor left %b\n",
+        &[
+            x.window[window_words::ALLOWANCE_LEFT],
+            x.window[window_words::FLOOR_LEFT],
+        ],
     );
 }
 
-fn circumstances(x: Run) {
-    demand(x);
-    lowest(x);
-    window(x);
+fn link(tag: u64, id: u64) -> u64 {
+    if tag == 0 {
+        return NOBODY;
+    }
+    id
 }
 
 // The way into a tree.
 fn root(q: &QueueRows, tree: usize) -> Walk {
-    let row = q[ROOT_ROWS + tree % TREES];
+    let row = q[lent_queue::ROOT_ROWS + tree % queue::TREES];
     Walk {
-        has_link: row[HEAD_TAG],
-        link: row[HEAD],
+        link: link(row[lent_queue::HEAD_TAG], row[lent_queue::HEAD]),
         above: [0; LEVELS],
         depth: 0,
-        found: false,
-        member: 0,
+        member: NOBODY,
     }
+}
+
+fn below(given: Walk, row: Row) -> Walk {
+    let mut w = given;
+    let depth = given.depth;
+    w.link = NOBODY;
+    if depth < LEVELS {
+        w.above[depth] = given.link;
+        w.depth = depth + 1;
+        w.link = link(row[codec::LEFT_TAG], row[codec::LEFT]);
+    }
+    w
 }
 
 // A step down on the left; a link outside the table, or below the last level, is none.
 fn down(t: &[Row], given: Walk) -> Walk {
-    let mut w = given;
     let i = given.link as usize;
-    let depth = given.depth;
-    if given.has_link == 0 {
-        return w;
+    if i < t.len() {
+        return below(given, t[i]);
     }
-    w.has_link = 0;
-    if t.len() <= i {
-        return w;
-    }
-    if LEVELS <= depth {
-        return w;
-    }
-    let row = t[i];
-    w.above[depth] = given.link;
-    w.depth = depth + 1;
-    w.has_link = row[LEFT_TAG];
-    w.link = row[LEFT];
+    let mut w = given;
+    w.link = NOBODY;
     w
 }
 
@@ -218,78 +180,58 @@ fn descended(t: &[Row], given: Walk) -> Walk {
     w
 }
 
-// What is on the right of a thread comes after it.
-fn turned(t: &[Row], given: Walk) -> Walk {
-    let mut w = given;
-    let i = given.member as usize;
-    if i < t.len() {
-        let row = t[i];
-        w.has_link = row[RIGHT_TAG];
-        w.link = row[RIGHT];
-    }
-    w
-}
-
 // The thread above that comes next.
 fn popped(given: Walk) -> Walk {
     let mut w = given;
     let depth = given.depth;
-    w.found = false;
+    w.member = NOBODY;
     if depth == 0 {
         return w;
     }
     if LEVELS < depth {
         return w;
     }
-    w.found = true;
     w.member = given.above[depth - 1];
     w.depth = depth - 1;
     w
 }
 
-// The next thread of the tree, if there is one.
-fn next(t: &[Row], w: Walk) -> Walk {
-    let a = popped(descended(t, w));
-    if a.found {
-        return turned(t, a);
+// What is on the right of a thread comes after it.
+fn turned(t: &[Row], given: Walk) -> Walk {
+    let mut w = given;
+    let i = given.member as usize;
+    if i < t.len() {
+        let row = t[i];
+        w.link = link(row[codec::RIGHT_TAG], row[codec::RIGHT]);
     }
-    a
+    w
 }
 
-fn policy(n: u64) {
-    listed(
-        b"  tree of %@",
-        b"FIFO|fair|budget with time left|budget exhausted",
-        n,
-    );
-}
-
-fn role(n: u64) {
-    listed(b", %@: ", b"ordinary|priority|protected", n);
+// The next thread of the tree.
+fn next(t: &[Row], w: Walk) -> Walk {
+    turned(t, popped(descended(t, w)))
 }
 
 fn told_head(x: Run, tree: u64, id: u64) {
-    policy(tree / 3);
-    role(tree % 3);
-    name(x, id, b"%@");
-    plain(b" (");
-    key(x);
-    plain(b")");
+    if x.output == TEXT {
+        listed(
+            b"  tree of %@",
+            b"FIFO|fair|budget with time left|budget exhausted",
+            tree / 3,
+        );
+        listed(b", %@: ", b"ordinary|priority|protected", tree % 3);
+        name(x, id, b"%@");
+        plain(b" (");
+        key(x);
+        plain(b")");
+    }
 }
 
 fn told_behind(x: Run, id: u64) {
-    if is_text(x) {
+    if x.output == TEXT && id != NOBODY {
         plain(b", then ");
         name(x, id, b"%@");
     }
-}
-
-fn behind(t: &[Row], x: Run, before: Walk) -> Walk {
-    let w = next(t, before);
-    if w.found {
-        told_behind(x, w.member);
-    }
-    w
 }
 
 // The threads behind the head, as many as there are records at most.
@@ -297,38 +239,31 @@ fn others(t: &[Row], x: Run, head: Walk) {
     let mut w = head;
     let mut left: usize = t.len();
     while 0 < left {
-        if w.found {
-            w = behind(t, x, w);
-        }
+        w = next(t, w);
+        told_behind(x, w.member);
         left -= 1;
     }
-    say(x, b"\n", &[0]);
+    tell(x, b"\n");
 }
 
 // A tree that is not empty.
 fn tree(q: &QueueRows, t: &[Row], given: Run, number: usize, now: u64) -> Run {
-    if given.number != 0 {
-        return given;
-    }
     let head = next(t, root(q, number));
-    if !head.found {
+    if given.number != 0 || head.member == NOBODY {
         return given;
     }
     let x = with_key(t, given, head.member, now);
-    if x.number != 0 {
-        return x;
-    }
-    if is_text(x) {
+    if x.number == 0 {
         told_head(x, number as u64, head.member);
+        others(t, x, head);
     }
-    others(t, x, head);
     x
 }
 
 fn trees(q: &QueueRows, t: &[Row], given: Run, now: u64) -> Run {
     let mut x = given;
     let mut number: usize = 0;
-    while number < TREES {
+    while number < queue::TREES {
         x = tree(q, t, x, number, now);
         number += 1;
     }
@@ -344,6 +279,8 @@ pub fn explain(q: &QueueRows, t: &[Row], given: Run, now: u64) -> Run {
     if x.number != 0 {
         return x;
     }
-    circumstances(x);
+    demand(x);
+    lowest(x);
+    window(x);
     trees(q, t, x, now)
 }

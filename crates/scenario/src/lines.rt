@@ -1,41 +1,47 @@
-// A line is read, quoted with its number, and performed.
-use crate::matching::Match;
-use crate::matching::matched;
+// A line is read, quoted with its number, and performed. A `#` that no digit follows starts a comment.
 use crate::performing::performed;
 use crate::performing::told;
-use crate::printing::is_text;
-use crate::printing::quote;
+use crate::printing::SPACE;
+use crate::printing::plain;
 use crate::printing::refusal;
-use crate::reading::NONE;
-use crate::reading::Word;
-use crate::reading::last_end;
-use crate::reading::word_after;
 use crate::run::Run;
-use crate::statements::NO_STATEMENT;
-use codec::Row;
-use lent_queue::QueueRows;
+use crate::run::TEXT;
+use crate::statements;
 use text::print;
-use text::saturating_add;
 
-fn not_understood(number: u64, line: &[u8], start: usize, end: usize) {
-    print(b"line %a: not understood: ", &[number], b"");
-    quote(line, start, end);
-    print(b"\n", &[0], b"");
-}
+const MARK: u8 = 35;
 
-fn quoted(number: u64, line: &[u8], start: usize, end: usize) {
-    print(b"line %a: ", &[number], b"");
-    quote(line, start, end);
-}
+const ZERO: u8 = 48;
 
-// Up to its last word.
-fn repeated(number: u64, line: &[u8], first: Word, understood: bool) {
-    let end = last_end(line, first.end);
-    if understood {
-        quoted(number, line, first.start, end);
-    } else {
-        not_understood(number, line, first.start, end);
+const NINE: u8 = 57;
+
+fn is_comment(line: &[u8], at: usize) -> bool {
+    if line.len() <= at || line[at] != MARK {
+        return false;
     }
+    if line.len() - at == 1 {
+        return true;
+    }
+    line[at + 1] < ZERO || NINE < line[at + 1]
+}
+
+// Where the last word before a comment ends.
+fn last_end(line: &[u8]) -> usize {
+    let mut last: usize = 0;
+    let mut at: usize = 0;
+    let mut left: usize = line.len();
+    while 0 < left {
+        let word = text::word_after(line, at, SPACE);
+        if is_comment(line, word.start) {
+            return last;
+        }
+        if word.start < word.end {
+            last = word.end;
+        }
+        at = word.end;
+        left -= 1;
+    }
+    last
 }
 
 fn answer(x: Run, statement: u64) {
@@ -46,34 +52,43 @@ fn answer(x: Run, statement: u64) {
     refusal(x.number);
 }
 
-fn answered(q: &mut QueueRows, t: &mut [Row], given: Run, m: Match) -> Run {
-    if m.statement == NO_STATEMENT {
+fn quote(number: u64, line: &[u8], statement: u64) {
+    print(b"line %a: ", &[number], b"");
+    if statement == statements::NONE {
+        plain(b"not understood: ");
+    }
+    plain(line);
+    if statement == statements::NONE {
+        plain(b"\n");
+    }
+}
+
+// A line of words.
+fn worded(q: &mut lent_queue::QueueRows, t: &mut [codec::Row], given: Run, line: &[u8]) -> Run {
+    let said = statements::said(given, line);
+    let statement = said.number;
+    if given.output == TEXT {
+        quote(given.line, line, statement);
+    }
+    if statement == statements::NONE {
         return given;
     }
     let mut before = given;
     before.number = 0;
-    let x = performed(q, t, before, m);
-    if is_text(x) {
-        answer(x, m.statement);
+    let x = performed(q, t, before, line, said);
+    if x.output == TEXT {
+        answer(x, statement);
     }
     x
 }
 
-// A line of words.
-fn worded(q: &mut QueueRows, t: &mut [Row], x: Run, line: &[u8], first: Word) -> Run {
-    let m = matched(x, line, first);
-    if is_text(x) {
-        repeated(x.line, line, first, m.statement != NO_STATEMENT);
-    }
-    answered(q, t, x, m)
-}
-
-pub fn line(q: &mut QueueRows, t: &mut [Row], given: Run, line: &[u8]) -> Run {
+pub fn line(q: &mut lent_queue::QueueRows, t: &mut [codec::Row], given: Run, line: &[u8]) -> Run {
     let mut x = given;
-    x.line = saturating_add(given.line, 1);
-    let first = word_after(line, 0);
-    if first.kind == NONE {
+    x.line = text::saturating_add(given.line, 1);
+    let start = text::start_of(line, 0, SPACE);
+    let end = last_end(line);
+    if end <= start || line.len() < end {
         return x;
     }
-    worded(q, t, x, line, first)
+    worded(q, t, x, &line[start..end])
 }

@@ -4,26 +4,13 @@ mod calls;
 mod drawing;
 mod explaining;
 mod lines;
-mod matching;
 mod performing;
 mod printing;
-mod reading;
 mod run;
 mod running;
 mod statements;
 mod threads;
 mod words;
-
-use board::board_new;
-use lent_queue::QUEUE_ROW_WORDS;
-use lent_queue::QUEUE_ROWS;
-use lent_queue::QueueRows;
-use policy_words::ROW_WORDS;
-use run::NOTHING;
-use run::PICTURE;
-use run::Run;
-use run::TABLE_ROWS;
-use run::TEXT;
 
 const STDIN: i32 = 0;
 
@@ -31,14 +18,14 @@ const STDOUT: i32 = 1;
 
 const NEW_LINE: u8 = 10;
 
-fn new_queue(q: &mut QueueRows) {
-    board_new(q);
+fn new_queue(q: &mut lent_queue::QueueRows) {
+    board::board_new(q);
 }
 
 // Each line in turn, on a new board.
-fn lines_of(given: Run, text: &[u8]) -> Run {
-    let mut q = [[0u64; QUEUE_ROW_WORDS]; QUEUE_ROWS];
-    let mut t = [[0u64; ROW_WORDS]; TABLE_ROWS];
+fn lines_of(given: run::Run, text: &[u8]) -> run::Run {
+    let mut q = [[0u64; lent_queue::QUEUE_ROW_WORDS]; lent_queue::QUEUE_ROWS];
+    let mut t = [[0u64; policy_words::ROW_WORDS]; run::TABLE_ROWS];
     new_queue(&mut q);
     let mut x = given;
     let mut at: usize = 0;
@@ -51,13 +38,13 @@ fn lines_of(given: Run, text: &[u8]) -> Run {
 }
 
 fn print(text: &[u8]) {
-    lines_of(run::new(TEXT), text);
+    lines_of(run::new(run::TEXT), text);
 }
 
 // Twice: the first run tells how long the second one is, and how many threads it has.
 fn picture(name: &[u8], text: &[u8]) {
-    let first = lines_of(run::new(NOTHING), text);
-    let second = drawing::measured(run::new(PICTURE), first.now, first.threads);
+    let first = lines_of(run::new(run::NOTHING), text);
+    let second = drawing::measured(run::new(run::PICTURE), first.now, first.threads);
     drawing::begin(second);
     io::write_all(STDOUT, name);
     io::write_all(STDOUT, b"</text>\n");

@@ -1,22 +1,5 @@
 // What a scenario keeps from line to line and from step to step. A step takes it by value and gives it back, since the
 // prover covers no reference to a struct.
-use board_words::CHOICE_WORDS;
-use board_words::ChoiceWords;
-use board_words::LENGTH_WORDS;
-use board_words::LengthWords;
-use board_words::SELECTION_WORDS;
-use board_words::SelectionWords;
-use board_words::TurnWords;
-use codec::Row;
-use policy_words::DEADLINE_WORDS;
-use policy_words::DeadlineWords;
-use policy_words::ROW_WORDS;
-use window_words::DEMAND_WORDS;
-use window_words::DemandWords;
-use window_words::KEY_WORDS;
-use window_words::KeyWords;
-use window_words::WINDOW_WORDS;
-use window_words::WindowWords;
 
 // The table has one record more than a call takes.
 pub const TABLE_ROWS: usize = 4097;
@@ -29,6 +12,9 @@ pub const MOST_THREADS: u64 = 32;
 pub const EACH: usize = 32;
 
 pub type Each = [u64; EACH];
+
+// Room for each thread's name, of up to 15 bytes, and a space behind it.
+pub const NAMES: usize = 512;
 
 // What becomes of the output: text, nothing, or a picture.
 pub const TEXT: u64 = 0;
@@ -54,15 +40,14 @@ pub struct Run {
     pub running: u64,
     pub mode: u64,
     pub idle: u64,
-    pub turns: TurnWords,
-    pub window: WindowWords,
+    pub turns: board_words::TurnWords,
+    pub window: window_words::WindowWords,
     pub until: u64,
-    // How many threads and records there are; of each thread the two halves of its name, its hook's letter, and the
-    // work that it has left.
+    // How many threads and records there are; the threads' names; of each its hook's letter, and the work that it has
+    // left.
     pub threads: u64,
     pub records: u64,
-    pub names: Each,
-    pub names_end: Each,
+    pub names: [u8; NAMES],
     pub hooks: Each,
     pub work: Each,
     // How many wakes are noted and done; of each its reading, its thread, and how long that then works.
@@ -78,14 +63,14 @@ pub struct Run {
     // What the last calls left: document 01's number; the running thread as a candidate; a selection, and its demand; a
     // key; whether a turn is spent; whether to switch; the lengths; a deadline.
     pub number: u64,
-    pub candidate: Row,
-    pub selected: SelectionWords,
-    pub demand: DemandWords,
-    pub key: KeyWords,
+    pub candidate: codec::Row,
+    pub selected: board_words::SelectionWords,
+    pub demand: window_words::DemandWords,
+    pub key: window_words::KeyWords,
     pub expired: u64,
-    pub choice: ChoiceWords,
-    pub lengths: LengthWords,
-    pub deadline: DeadlineWords,
+    pub choice: board_words::ChoiceWords,
+    pub lengths: board_words::LengthWords,
+    pub deadline: policy_words::DeadlineWords,
     // The word that a statement overwrote.
     pub former: u64,
     // Of a picture: how many nanoseconds a pixel has, the last reading of all, how many lanes, and up to where a
@@ -105,12 +90,11 @@ pub fn new(output: u64) -> Run {
         mode: ORDINARY,
         idle: NOBODY,
         turns: [HALF, HALF],
-        window: [0; WINDOW_WORDS],
+        window: [0; window_words::WINDOW_WORDS],
         until: 0,
         threads: 0,
         records: 0,
-        names: [0; EACH],
-        names_end: [0; EACH],
+        names: [0; NAMES],
         hooks: [0; EACH],
         work: [0; EACH],
         wakes: 0,
@@ -122,14 +106,14 @@ pub fn new(output: u64) -> Run {
         output,
         line: 0,
         number: 0,
-        candidate: [0; ROW_WORDS],
-        selected: [0; SELECTION_WORDS],
-        demand: [0; DEMAND_WORDS],
-        key: [0; KEY_WORDS],
+        candidate: [0; policy_words::ROW_WORDS],
+        selected: [0; board_words::SELECTION_WORDS],
+        demand: [0; window_words::DEMAND_WORDS],
+        key: [0; window_words::KEY_WORDS],
         expired: 0,
-        choice: [0; CHOICE_WORDS],
-        lengths: [0; LENGTH_WORDS],
-        deadline: [0; DEADLINE_WORDS],
+        choice: [0; board_words::CHOICE_WORDS],
+        lengths: [0; board_words::LENGTH_WORDS],
+        deadline: [0; policy_words::DEADLINE_WORDS],
         former: 0,
         unit: 0,
         span: 0,

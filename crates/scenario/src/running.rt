@@ -1,31 +1,21 @@
 // A run: the board's own cycle until a reading. Who wakes is enqueued; else it is chosen who runs, and that one runs to
 // its deadline, to the end of its work or to what comes next.
 use crate::calls;
-use crate::calls::IS_THERE;
-use crate::calls::TO_FRONT;
-use crate::calls::WHEN;
 use crate::drawing::bar;
 use crate::explaining::explain;
-use crate::printing::is_text;
 use crate::printing::mode;
 use crate::printing::name;
 use crate::printing::plain;
 use crate::printing::refusal;
 use crate::printing::say;
+use crate::printing::tell;
 use crate::run::Run;
+use crate::run::TEXT;
 use crate::run::at;
 use crate::run::with;
-use board_words::SELECTED_ID;
 use codec::Row;
 use lent_queue::QueueRows;
 use text::print;
-use text::saturating_add;
-use time::min_of;
-use time::saturating_sub;
-use window_words::KEY_MODE;
-use window_words::KEY_RANK;
-use window_words::KEY_TAG;
-use window_words::KEY_URGENCY;
 
 // A run of more wakes and stretches is stopped.
 const MOST_CYCLES: u64 = 4096;
@@ -36,7 +26,7 @@ fn coming(x: Run) -> u64 {
         return x.until;
     }
     let readings = x.wake_at;
-    min_of(at(readings, x.woken), x.until)
+    time::min_of(at(readings, x.woken), x.until)
 }
 
 fn with_work(given: Run, id: u64, left: u64) -> Run {
@@ -47,53 +37,39 @@ fn with_work(given: Run, id: u64, left: u64) -> Run {
     x
 }
 
-// A thread has work again.
-fn awake(given: Run, id: u64) -> Run {
-    let n = given.woken;
-    let works = given.wake_work;
-    let mut x = with_work(given, id, at(works, n));
-    x.woken = saturating_add(n, 1);
-    x
-}
-
-// It goes into the queue.
+// A thread has work again, and goes into the queue.
 fn wake(q: &mut QueueRows, t: &mut [Row], given: Run) -> Run {
+    let n = given.woken;
     let who = given.wake_who;
-    let id = at(who, given.woken);
-    let a = awake(given, id);
-    let b = calls::prepare(t, a, id, 0, a.now);
-    calls::enqueue(q, t, b, id)
+    let works = given.wake_work;
+    let id = at(who, n);
+    let mut x = with_work(given, id, at(works, n));
+    x.woken = text::saturating_add(n, 1);
+    let b = calls::prepare(t, x, id, 0, x.now);
+    calls::enqueue(q, t, b, id, 0)
 }
 
 // A selection beside the running thread, explained where that is asked for.
 fn selected(q: &mut QueueRows, t: &mut [Row], x: Run) -> Run {
     let a = calls::candidate(t, x, x.current, x.running, x.now);
     let b = calls::select(q, t, a, x.now, x.running);
-    if b.number != 0 {
-        return b;
-    }
-    if b.explains == 0 {
+    if b.number != 0 || b.explains == 0 {
         return b;
     }
     say(b, b"at %a", &[b.now]);
     explain(q, t, b, b.now)
 }
 
-// A turn that is spent ends.
-fn finished(t: &mut [Row], x: Run) -> Run {
-    if x.expired == 0 {
-        return x;
-    }
-    calls::finish(t, x, x.current)
-}
-
-// By the switch rule.
+// By the switch rule; a turn that is spent ends.
 fn chosen(t: &mut [Row], x: Run) -> Run {
     let a = calls::candidate(t, x, x.current, x.running, x.now);
     let b = calls::runner_key(a, x.running, x.now);
     let c = calls::expired(t, b, x.current);
     let d = calls::switch(c, 0, 0);
-    finished(t, d)
+    if d.expired == 0 {
+        return d;
+    }
+    calls::finish(t, d, x.current)
 }
 
 // Nobody takes over; a thread that waits gives way to the idle one.
@@ -107,26 +83,13 @@ fn stayed(given: Run) -> Run {
 }
 
 // Whoever gives way is enqueued again, unless its work is done or it is the idle thread.
-fn gives_way(x: Run) -> bool {
-    if x.running == 0 {
-        return false;
-    }
-    x.current != x.idle
-}
-
-fn enqueued(q: &mut QueueRows, t: &mut [Row], x: Run, front: u64) -> Run {
-    if front == 0 {
-        return calls::enqueue(q, t, x, x.current);
-    }
-    calls::enqueue_front(q, t, x, x.current)
-}
-
 fn gave_way(q: &mut QueueRows, t: &mut [Row], x: Run) -> Run {
-    if !gives_way(x) {
+    if x.running == 0 || x.current == x.idle {
         return x;
     }
-    let a = calls::prepare(t, x, x.current, x.choice[TO_FRONT], x.now);
-    enqueued(q, t, a, x.choice[TO_FRONT])
+    let front = x.choice[calls::TO_FRONT];
+    let a = calls::prepare(t, x, x.current, front, x.now);
+    calls::enqueue(q, t, a, x.current, front)
 }
 
 // The chosen thread leaves the queue and runs.
@@ -134,7 +97,7 @@ fn taken(q: &mut QueueRows, t: &mut [Row], given: Run) -> Run {
     if given.number != 0 {
         return given;
     }
-    let id = given.selected[SELECTED_ID];
+    let id = given.selected[board_words::SELECTED_ID];
     let mut x = given;
     x.current = id;
     x.running = 1;
@@ -146,37 +109,28 @@ fn followed(q: &mut QueueRows, t: &mut [Row], x: Run) -> Run {
     if x.number != 0 {
         return x;
     }
-    if x.choice[IS_THERE] == 0 {
+    if x.choice[calls::IS_THERE] == 0 {
         return stayed(x);
     }
     let a = gave_way(q, t, x);
     taken(q, t, a)
 }
 
-// The running thread's key and deadline.
-fn armed(q: &mut QueueRows, t: &mut [Row], x: Run) -> Run {
-    let a = calls::candidate(t, x, x.current, x.running, x.now);
-    let b = calls::select(q, t, a, x.now, x.running);
-    let c = calls::runner_key(b, x.running, x.now);
-    let d = calls::lengths(q, c);
-    calls::deadline(t, d, x.current, x.now)
-}
-
 // How far the running thread gets.
 fn reached(x: Run) -> u64 {
     let work = x.work;
-    let done = min_of(saturating_add(x.now, at(work, x.current)), coming(x));
-    if x.deadline[IS_THERE] == 0 {
+    let done = time::min_of(text::saturating_add(x.now, at(work, x.current)), coming(x));
+    if x.deadline[calls::IS_THERE] == 0 {
         return done;
     }
-    min_of(x.deadline[WHEN], done)
+    time::min_of(x.deadline[calls::WHEN], done)
 }
 
 // What the running thread has left; it waits from there on where that is nothing.
 fn worked(given: Run, length: u64) -> Run {
     let id = given.current;
     let work = given.work;
-    let left = saturating_sub(at(work, id), length);
+    let left = time::saturating_sub(at(work, id), length);
     let mut x = with_work(given, id, left);
     if left == 0 {
         x.running = 0;
@@ -185,20 +139,27 @@ fn worked(given: Run, length: u64) -> Run {
 }
 
 fn why(x: Run) {
-    if x.key[KEY_TAG] == 0 {
+    if x.key[window_words::KEY_TAG] == 0 {
         plain(b"no key                -    -");
         return;
     }
-    mode(x.key[KEY_MODE], b"%16@");
-    print(b"%7a%5b", &[x.key[KEY_URGENCY], x.key[KEY_RANK]], b"");
+    mode(x.key[window_words::KEY_MODE], b"%16@");
+    print(
+        b"%7a%5b",
+        &[
+            x.key[window_words::KEY_URGENCY],
+            x.key[window_words::KEY_RANK],
+        ],
+        b"",
+    );
 }
 
 fn until(x: Run, length: u64) {
-    if x.deadline[IS_THERE] == 0 {
+    if x.deadline[calls::IS_THERE] == 0 {
         print(b"%10a      none\n", &[length], b"");
         return;
     }
-    print(b"%10a%10b\n", &[length, x.deadline[WHEN]], b"");
+    print(b"%10a%10b\n", &[length, x.deadline[calls::WHEN]], b"");
 }
 
 // A line: who runs from when, why, for how long, and until which deadline at the latest.
@@ -211,10 +172,10 @@ fn told(x: Run, length: u64) {
 
 // The mode under which the running thread is charged: that of its key, or the last one.
 fn charged_mode(x: Run) -> u64 {
-    if x.key[KEY_TAG] == 0 {
+    if x.key[window_words::KEY_TAG] == 0 {
         return x.mode;
     }
-    x.key[KEY_MODE]
+    x.key[window_words::KEY_MODE]
 }
 
 // A stretch, printed or drawn; then its time is charged.
@@ -223,8 +184,8 @@ fn stretch(t: &mut [Row], given: Run) -> Run {
         return given;
     }
     let end = reached(given);
-    let length = saturating_sub(end, given.now);
-    if is_text(given) {
+    let length = time::saturating_sub(end, given.now);
+    if given.output == TEXT {
         told(given, length);
     }
     let mut x = worked(bar(given, end), length);
@@ -246,22 +207,15 @@ fn cycle(q: &mut QueueRows, t: &mut [Row], x: Run) -> Run {
         return wake(q, t, x);
     }
     let a = decided(q, t, x);
-    let b = armed(q, t, a);
+    let b = calls::armed(q, t, a, a.current, a.running, a.now);
     stretch(t, b)
-}
-
-fn is_over(x: Run) -> bool {
-    if x.number != 0 {
-        return true;
-    }
-    x.until <= x.now
 }
 
 fn cycles(q: &mut QueueRows, t: &mut [Row], given: Run) -> Run {
     let mut x = given;
     let mut left: u64 = MOST_CYCLES;
     while 0 < left {
-        if is_over(x) {
+        if x.number != 0 || x.until <= x.now {
             return x;
         }
         x = cycle(q, t, x);
@@ -270,27 +224,18 @@ fn cycles(q: &mut QueueRows, t: &mut [Row], given: Run) -> Run {
     x
 }
 
-// A refusal ends a run, with its line named again; so does its length.
-fn ended(x: Run) {
-    say(x, b"line %a", &[x.line]);
-    if x.number == 0 {
-        say(x, b": stopped\n", &[0]);
-        return;
-    }
-    if is_text(x) {
-        refusal(x.number);
-    }
-}
-
-// After this the line has its end.
+// A refusal ends a run, with its line named again; so does its length. After this the line has its end.
 fn closed(given: Run) -> Run {
     let mut x = given;
-    if x.number == 0 {
-        if x.until <= x.now {
-            return x;
-        }
+    if x.number == 0 && x.until <= x.now {
+        return x;
     }
-    ended(x);
+    say(x, b"line %a", &[x.line]);
+    if x.number == 0 {
+        tell(x, b": stopped\n");
+    } else if x.output == TEXT {
+        refusal(x.number);
+    }
     x.number = 0;
     x
 }
@@ -298,10 +243,9 @@ fn closed(given: Run) -> Run {
 pub fn run(q: &mut QueueRows, t: &mut [Row], given: Run, until: u64) -> Run {
     let mut x = given;
     x.until = until;
-    say(
+    tell(
         x,
         b":\n  reading  thread          why             urgency rank       for  deadline\n",
-        &[0],
     );
     closed(cycles(q, t, x))
 }

@@ -1,49 +1,50 @@
-// The statements: their names, and what follows each.
-use crate::reading::SPACE;
-use text::place_of;
-use text::saturating_add;
+// The statements with their forms (crate text says what stands in a form), in the order in which a line is tried.
+use crate::run::MOST_THREADS;
+use crate::run::Run;
 
-// In the order of their names below.
+// Of the board alone.
 pub const WINDOW: u64 = 0;
 
-pub const PREPARE: u64 = 1;
+pub const SWITCH: u64 = 1;
 
-pub const ENQUEUE: u64 = 2;
+pub const WAKE: u64 = 2;
 
-pub const ENQUEUE_FRONT: u64 = 3;
+pub const RECORDS: u64 = 3;
 
-pub const REMOVE: u64 = 4;
+pub const EXPLAIN: u64 = 4;
 
-pub const SELECT: u64 = 5;
+pub const WINDOW_WORD: u64 = 5;
 
-pub const ACCOUNT: u64 = 6;
+pub const TURNS_WORD: u64 = 6;
 
-pub const FINISH: u64 = 7;
+// Of the table.
+pub const PREPARE: u64 = 7;
 
-pub const EXPIRED: u64 = 8;
+pub const ACCOUNT: u64 = 8;
 
-pub const SWITCH: u64 = 9;
+pub const FINISH: u64 = 9;
 
-pub const DEADLINE: u64 = 10;
+pub const EXPIRED: u64 = 10;
 
-pub const LENGTHS: u64 = 11;
+pub const RECORD_WORD: u64 = 11;
 
-pub const WAKE: u64 = 12;
+// Of the queue.
+pub const ENQUEUE: u64 = 12;
 
-pub const RUN: u64 = 13;
+pub const ENQUEUE_FRONT: u64 = 13;
 
-pub const RECORDS: u64 = 14;
+pub const REMOVE: u64 = 14;
 
-pub const EXPLAIN: u64 = 15;
+pub const LENGTHS: u64 = 15;
 
-pub const THREAD: u64 = 16;
+pub const QUEUE_WORD: u64 = 16;
 
-pub const WORD: u64 = 17;
+// Of queue and window.
+pub const SELECT: u64 = 17;
 
-// So many calls, and so many others.
-const CALLS: usize = 12;
+pub const DEADLINE: u64 = 18;
 
-const OTHERS: usize = 6;
+pub const RUN: u64 = 19;
 
 // A thread by its policy.
 pub const FIFO: u64 = 20;
@@ -54,129 +55,119 @@ pub const BUDGET: u64 = 22;
 
 pub const IDLE: u64 = 23;
 
-const POLICIES: usize = 4;
-
-// A word by its place.
-pub const RECORD_WORD: u64 = 30;
-
-pub const QUEUE_WORD: u64 = 31;
-
-pub const WINDOW_WORD: u64 = 32;
-
-pub const TURNS_WORD: u64 = 33;
-
-const PLACES: usize = 4;
-
 // A line that is no statement.
-pub const NO_STATEMENT: u64 = 99;
+pub const NONE: u64 = 24;
 
-// The n-th of so many statements, of which the first has this number.
-fn numbered(n: usize, count: usize, first: u64) -> u64 {
-    if count <= n {
-        return NO_STATEMENT;
-    }
-    saturating_add(first, n as u64)
+// More than the words of a form, which give a value each.
+const VALUES: usize = 12;
+
+pub type Values = [u64; VALUES];
+
+pub struct Statement {
+    pub number: u64,
+    pub values: Values,
 }
 
-fn call(word: &[u8]) -> u64 {
-    let n = place_of(
-        b"window prepare enqueue enqueue-front remove select account finish expired switch deadline lengths",
-        SPACE,
-        word,
-    );
-    numbered(n, CALLS, WINDOW)
+// Whether a line goes with a form, and the values then.
+struct Fit {
+    goes: bool,
+    values: Values,
 }
 
-// The statement that a word names.
-pub fn statement(word: &[u8]) -> u64 {
-    let n = place_of(b"wake run records explain thread word", SPACE, word);
-    if n < OTHERS {
-        return numbered(n, OTHERS, WAKE);
-    }
-    call(word)
+// By one form.
+fn by(x: Run, form: &[u8], line: &[u8]) -> Fit {
+    let names = x.names;
+    let mut values = [0u64; VALUES];
+    let goes = text::fit(form, line, &names, x.threads, MOST_THREADS, &mut values);
+    Fit { goes, values }
 }
 
-// What a word behind a thread's name makes of it.
-pub fn policy(word: &[u8]) -> u64 {
-    let n = place_of(b"fifo fair budget idle", SPACE, word);
-    numbered(n, POLICIES, FIFO)
-}
-
-// What a word behind `word` makes of it.
-pub fn place(word: &[u8]) -> u64 {
-    let n = place_of(b"record queue window turns", SPACE, word);
-    numbered(n, PLACES, RECORD_WORD)
-}
-
-// What follows a statement's name, in order: a number; a thread; `current` with a thread, or nothing; one of the words
-// of a list; `hook` with a letter, or nothing; `prefer-fair`, or nothing.
-pub const NUMBER: u64 = 1;
-
-pub const A_THREAD: u64 = 2;
-
-pub const CURRENT: u64 = 3;
-
-pub const END: u64 = 4;
-
-pub const MODE: u64 = 5;
-
-pub const ROLE: u64 = 6;
-
-pub const BACKEND: u64 = 7;
-
-pub const CHOICE: u64 = 8;
-
-pub const AT: u64 = 9;
-
-pub const HOOK: u64 = 10;
-
-pub const PREFER_FAIR: u64 = 11;
-
-// At most eight things follow; 0 is none.
-pub type Pattern = [u64; 8];
-
-fn call_pattern(statement: u64) -> Pattern {
-    match statement {
-        PREPARE => [A_THREAD, END, NUMBER, 0, 0, 0, 0, 0],
-        SELECT => [NUMBER, CURRENT, 0, 0, 0, 0, 0, 0],
-        ACCOUNT => [A_THREAD, MODE, NUMBER, NUMBER, 0, 0, 0, 0],
-        SWITCH => [NUMBER, NUMBER, NUMBER, 0, 0, 0, 0, 0],
-        DEADLINE => [A_THREAD, NUMBER, 0, 0, 0, 0, 0, 0],
-        LENGTHS => [0; 8],
-        _ => [A_THREAD, 0, 0, 0, 0, 0, 0, 0],
+fn of_board(x: Run, n: u64, line: &[u8]) -> Fit {
+    match n {
+        WINDOW => by(x, b"window # # # # # # # .. prefer-fair", line),
+        SWITCH => by(x, b"switch # # #", line),
+        WAKE => by(x, b"wake @ # at #", line),
+        RECORDS => by(x, b"records #", line),
+        EXPLAIN => by(x, b"explain off|on", line),
+        WINDOW_WORD => by(x, b"word window # #", line),
+        _ => by(x, b"word turns # #", line),
     }
 }
 
-fn other_pattern(statement: u64) -> Pattern {
-    match statement {
-        WAKE => [A_THREAD, NUMBER, AT, NUMBER, 0, 0, 0, 0],
-        RUN | RECORDS => [NUMBER, 0, 0, 0, 0, 0, 0, 0],
-        EXPLAIN => [CHOICE, 0, 0, 0, 0, 0, 0, 0],
-        FIFO => [NUMBER, ROLE, HOOK, 0, 0, 0, 0, 0],
-        FAIR => [BACKEND, NUMBER, NUMBER, ROLE, HOOK, 0, 0, 0],
-        BUDGET => [NUMBER, NUMBER, NUMBER, ROLE, HOOK, 0, 0, 0],
-        IDLE => [HOOK, 0, 0, 0, 0, 0, 0, 0],
-        RECORD_WORD => [A_THREAD, NUMBER, NUMBER, 0, 0, 0, 0, 0],
-        QUEUE_WORD => [NUMBER, NUMBER, NUMBER, 0, 0, 0, 0, 0],
-        _ => [NUMBER, NUMBER, 0, 0, 0, 0, 0, 0],
+fn of_table(x: Run, n: u64, line: &[u8]) -> Fit {
+    match n {
+        PREPARE => by(x, b"prepare @ back|front #", line),
+        ACCOUNT => by(
+            x,
+            b"account @ strict|priority|protected|ordinary|borrow # #",
+            line,
+        ),
+        FINISH => by(x, b"finish @", line),
+        EXPIRED => by(x, b"expired @", line),
+        _ => by(x, b"word record @ # #", line),
     }
 }
 
-pub fn pattern(statement: u64) -> Pattern {
-    if statement == WINDOW {
-        return [
-            NUMBER,
-            NUMBER,
-            NUMBER,
-            NUMBER,
-            NUMBER,
-            NUMBER,
-            NUMBER,
-            PREFER_FAIR,
-        ];
+fn of_queue(x: Run, n: u64, line: &[u8]) -> Fit {
+    match n {
+        ENQUEUE => by(x, b"enqueue @", line),
+        ENQUEUE_FRONT => by(x, b"enqueue-front @", line),
+        REMOVE => by(x, b"remove @", line),
+        LENGTHS => by(x, b"lengths", line),
+        QUEUE_WORD => by(x, b"word queue # # #", line),
+        SELECT => by(x, b"select # .. current @", line),
+        DEADLINE => by(x, b"deadline @ #", line),
+        _ => by(x, b"run #", line),
     }
-    if statement < WAKE {
-        return call_pattern(statement);
+}
+
+fn of_thread(x: Run, n: u64, line: &[u8]) -> Fit {
+    match n {
+        FIFO => by(
+            x,
+            b"thread = fifo # ordinary|priority|protected .. hook ^",
+            line,
+        ),
+        FAIR => by(
+            x,
+            b"thread = fair stride|round-robin # # ordinary|priority|protected .. hook ^",
+            line,
+        ),
+        BUDGET => by(
+            x,
+            b"thread = budget # # # ordinary|priority|protected .. hook ^",
+            line,
+        ),
+        _ => by(x, b"thread = idle .. hook ^", line),
     }
-    other_pattern(statement)
+}
+
+fn by_form(x: Run, n: u64, line: &[u8]) -> Fit {
+    if n < PREPARE {
+        return of_board(x, n, line);
+    }
+    if n < ENQUEUE {
+        return of_table(x, n, line);
+    }
+    if n < FIFO {
+        return of_queue(x, n, line);
+    }
+    of_thread(x, n, line)
+}
+
+// What a line says.
+pub fn said(x: Run, line: &[u8]) -> Statement {
+    let mut number: u64 = 0;
+    while number < NONE {
+        let fit = by_form(x, number, line);
+        let values = fit.values;
+        if fit.goes {
+            return Statement { number, values };
+        }
+        number += 1;
+    }
+    Statement {
+        number,
+        values: [0; VALUES],
+    }
 }

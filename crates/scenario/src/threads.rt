@@ -1,28 +1,10 @@
 // New threads: their rows, names and hooks.
-use crate::matching::Match;
+use crate::printing::SPACE;
 use crate::run::Run;
 use crate::run::with;
 use crate::statements;
-use codec::HEIGHT;
+use crate::statements::Values;
 use codec::Row;
-use policy_words::BACKEND_TAG;
-use policy_words::BAND;
-use policy_words::BUDGET_BURST;
-use policy_words::BUDGET_NS;
-use policy_words::BUDGET_PERIOD;
-use policy_words::BUDGET_TAG;
-use policy_words::FIFO_PRIORITY;
-use policy_words::POLICY_TAG;
-use policy_words::QUANTUM;
-use policy_words::ROLE_TAG;
-use policy_words::ROW_WORDS;
-use policy_words::RUNTIME_FOURTH;
-use policy_words::RUNTIME_TAG;
-use policy_words::RUNTIME_THIRD;
-use policy_words::WEIGHT;
-use record_entries::budget_parameters_new;
-use text::saturating_add;
-use time::max_of;
 
 const FIFO: u64 = 0;
 
@@ -40,73 +22,68 @@ const ENDLESS: u64 = 18_446_744_073_709_551_615;
 
 // A thread of processor 0 that stands in no queue and had no turn yet.
 fn fresh(policy: u64, role: u64) -> Row {
-    let mut row = [0u64; ROW_WORDS];
-    row[POLICY_TAG] = policy;
-    row[RUNTIME_TAG] = policy;
-    row[BAND] = MIDDLE_BAND;
-    row[ROLE_TAG] = role;
-    row[WEIGHT] = USUAL_WEIGHT;
-    row[HEIGHT] = 1;
+    let mut row = [0u64; policy_words::ROW_WORDS];
+    row[policy_words::POLICY_TAG] = policy;
+    row[policy_words::RUNTIME_TAG] = policy;
+    row[policy_words::BAND] = MIDDLE_BAND;
+    row[policy_words::ROLE_TAG] = role;
+    row[policy_words::WEIGHT] = USUAL_WEIGHT;
+    row[codec::HEIGHT] = 1;
     row
 }
 
 fn fifo(priority: u64, role: u64) -> Row {
     let mut row = fresh(FIFO, role);
-    row[FIFO_PRIORITY] = priority;
+    row[policy_words::FIFO_PRIORITY] = priority;
     row
 }
 
 // With a whole slice.
 fn fair(backend: u64, weight: u64, slice: u64, role: u64) -> Row {
     let mut row = fresh(FAIR, role);
-    row[WEIGHT] = weight;
-    row[QUANTUM] = slice;
-    row[BACKEND_TAG] = backend;
-    row[RUNTIME_THIRD] = slice;
+    row[policy_words::WEIGHT] = weight;
+    row[policy_words::QUANTUM] = slice;
+    row[policy_words::BACKEND_TAG] = backend;
+    row[policy_words::RUNTIME_THIRD] = slice;
     row
 }
 
 // Full, and with no epoch yet.
 fn budget(budget: u64, period: u64, burst: u64, role: u64) -> Row {
     let mut row = fresh(BUDGET, role);
-    row[BUDGET_TAG] = 1;
-    row[BUDGET_NS] = budget;
-    row[BUDGET_PERIOD] = period;
-    row[BUDGET_BURST] = burst;
-    row[RUNTIME_THIRD] = budget;
-    row[RUNTIME_FOURTH] = burst;
+    row[policy_words::BUDGET_TAG] = 1;
+    row[policy_words::BUDGET_NS] = budget;
+    row[policy_words::BUDGET_PERIOD] = period;
+    row[policy_words::BUDGET_BURST] = burst;
+    row[policy_words::RUNTIME_THIRD] = budget;
+    row[policy_words::RUNTIME_FOURTH] = burst;
     row
 }
 
-fn row(m: Match) -> Row {
-    let a = m.values;
-    let statement = m.statement;
+// By the words of the statement's form.
+fn row(statement: u64, a: Values) -> Row {
     match statement {
-        statements::FIFO => fifo(a[0], a[1]),
-        statements::FAIR => fair(a[0], a[1], a[2], a[3]),
-        statements::BUDGET => budget(a[0], a[1], a[2], a[3]),
+        statements::FIFO => fifo(a[3], a[4]),
+        statements::FAIR => fair(a[3], a[4], a[5], a[6]),
+        statements::BUDGET => budget(a[3], a[4], a[5], a[6]),
         _ => fresh(IDLE, 0),
     }
 }
 
-fn hook(m: Match) -> u64 {
-    let statement = m.statement;
+// The letter is the form's last word.
+fn hook(statement: u64, a: Values) -> u64 {
     match statement {
-        statements::FIFO => m.values[2],
-        statements::FAIR | statements::BUDGET => m.values[4],
-        _ => m.values[0],
+        statements::FIFO => a[7],
+        statements::FAIR | statements::BUDGET => a[9],
+        _ => a[5],
     }
 }
 
-fn judged_budget(budget: u64, period: u64, burst: u64) -> u64 {
-    let mut made = [0u64; 3];
-    budget_parameters_new(budget, period, burst, &mut made)
-}
-
 // Document 01's number for a thread's parameters.
-fn judged(m: Match) -> u64 {
-    if m.statement == statements::BUDGET {
-        return judged_budget(m.values[0], m.values[1], m.values[2]);
+fn judged(statement: u64, a: Values) -> u64 {
+    let mut made = [0u64; 3];
+    if statement == statements::BUDGET {
+        return record_entries::budget_parameters_new(a[3], a[4], a[5], &mut made);
     }
     0
 }
@@ -123,33 +100,37 @@ fn idle(given: Run, id: u64) -> Run {
     x
 }
 
-fn named(given: Run, id: u64, m: Match) -> Run {
-    let names = given.names;
-    let names_end = given.names_end;
-    let first = with(names, id, m.name);
-    let second = with(names_end, id, m.name_end);
+// The name goes behind the others.
+fn named(given: Run, word: &[u8]) -> Run {
+    let mut names = given.names;
+    let place = text::nth(&names, SPACE, given.threads as usize);
+    text::fill(&mut names, place.start, b"%@ ", &[0], word);
     let mut x = given;
-    x.names = first;
-    x.names_end = second;
+    x.names = names;
     x
+}
+
+// By the second word of its line.
+fn named_by(x: Run, line: &[u8]) -> Run {
+    let first = text::word_after(line, 0, SPACE);
+    let name = text::word_after(line, first.end, SPACE);
+    let start = name.start;
+    let end = name.end;
+    if line.len() < end {
+        return x;
+    }
+    named(x, &line[start..end])
 }
 
 // With one thread more, and a record for it at least.
-fn grown(given: Run, id: u64, m: Match) -> Run {
-    let count = saturating_add(id, 1);
+fn grown(given: Run, id: u64, letter: u64) -> Run {
+    let count = text::saturating_add(id, 1);
     let hooks = given.hooks;
-    let after = with(hooks, id, hook(m));
-    let mut x = named(given, id, m);
+    let after = with(hooks, id, letter);
+    let mut x = given;
     x.hooks = after;
     x.threads = count;
-    x.records = max_of(given.records, count);
-    x
-}
-
-fn started(x: Run, id: u64, m: Match) -> Run {
-    if m.statement == statements::IDLE {
-        return idle(x, id);
-    }
+    x.records = time::max_of(given.records, count);
     x
 }
 
@@ -161,13 +142,17 @@ fn stored(t: &mut [Row], id: u64, row: Row) {
     }
 }
 
-pub fn thread(t: &mut [Row], given: Run, m: Match) -> Run {
+pub fn thread(t: &mut [Row], given: Run, line: &[u8], statement: u64, a: Values) -> Run {
     let id = given.threads;
     let mut x = given;
-    x.number = judged(m);
+    x.number = judged(statement, a);
     if x.number != 0 {
         return x;
     }
-    stored(t, id, row(m));
-    started(grown(x, id, m), id, m)
+    stored(t, id, row(statement, a));
+    let after = grown(named_by(x, line), id, hook(statement, a));
+    if statement == statements::IDLE {
+        return idle(after, id);
+    }
+    after
 }

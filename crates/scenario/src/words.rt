@@ -5,8 +5,6 @@ use codec::Row;
 use lent_queue::QUEUE_ROW_WORDS;
 use lent_queue::QUEUE_ROWS;
 use lent_queue::QueueRows;
-use policy_words::ROW_WORDS;
-use window_words::WINDOW_WORDS;
 
 // The turn counters.
 const BOTH: u64 = 2;
@@ -16,14 +14,12 @@ pub fn set_queue(q: &mut QueueRows, given: Run, row: u64, k: u64, value: u64) ->
     x.former = value;
     let i = row as usize;
     let j = k as usize;
-    if QUEUE_ROWS <= i {
-        return x;
+    if i < QUEUE_ROWS {
+        if j < QUEUE_ROW_WORDS {
+            x.former = q[i][j];
+            q[i][j] = value;
+        }
     }
-    if QUEUE_ROW_WORDS <= j {
-        return x;
-    }
-    x.former = q[i][j];
-    q[i][j] = value;
     x
 }
 
@@ -32,14 +28,12 @@ pub fn set_record(t: &mut [Row], given: Run, id: u64, k: u64, value: u64) -> Run
     x.former = value;
     let i = id as usize;
     let j = k as usize;
-    if t.len() <= i {
-        return x;
+    if i < t.len() {
+        if j < policy_words::ROW_WORDS {
+            x.former = t[i][j];
+            t[i][j] = value;
+        }
     }
-    if ROW_WORDS <= j {
-        return x;
-    }
-    x.former = t[i][j];
-    t[i][j] = value;
     x
 }
 
@@ -47,11 +41,10 @@ pub fn set_window(given: Run, k: u64, value: u64) -> Run {
     let mut x = given;
     x.former = value;
     let i = k as usize;
-    if WINDOW_WORDS <= i {
-        return x;
+    if i < window_words::WINDOW_WORDS {
+        x.former = x.window[i];
+        x.window[i] = value;
     }
-    x.former = x.window[i];
-    x.window[i] = value;
     x
 }
 

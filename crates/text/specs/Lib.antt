@@ -8,10 +8,12 @@ pub mod ReadingLaws
 pub mod Lists
 -- Their laws.
 pub mod ListsLaws
--- Words of up to eight bytes as numbers, and back.
-pub mod Names
--- Their laws, and that a packed word is found again.
-pub mod NamesLaws
+-- A line read by a form.
+pub mod Forms
+-- Their laws.
+pub mod FormsLaws
+-- Forms and lines as they are written, judged.
+pub mod FormsCases
 -- A page, a number's digits, columns and templates.
 pub mod Writing
 -- Their laws, and what a page then has where there is room.

@@ -108,7 +108,7 @@ pub all-names : (b : ℕ) (l : List ℕ) → namesFrom b 0 l ≡ namesOf b l
 all-names b l = here b 0 (0 + before b l) l (omega arith) refl
 
 -- Behind the end there is none.
-no-names : (b i : ℕ) (l : List ℕ) → length l < i → namesFrom b i l ≡ []
+pub no-names : (b i : ℕ) (l : List ℕ) → length l < i → namesFrom b i l ≡ []
 unfolding namesFrom
 no-names b i l h = sym (less _ _ (length l) i h refl)
 

@@ -1,20 +1,20 @@
-// Text in and out, for programs: the pieces of a line, lists of names, decimal numbers, columns, templates and shapes,
-// in bytes that the caller lends, and sums that stay in range. Only `print` writes to a file, which is standard output.
+// Text in and out, for programs: the pieces of a line, lists of names, decimal numbers, lines read by a form, columns,
+// templates and shapes, in bytes that the caller lends, and sums that stay in range. Only `print` writes to a file,
+// which is standard output.
 mod counting;
+mod forms;
 mod listing;
-mod names;
 mod printing;
 mod reading;
 mod svg;
 mod writing;
 
 pub use counting::saturating_add;
+pub use forms::fit;
 pub use listing::Span;
 pub use listing::nth;
 pub use listing::place_of;
 pub use listing::word_after;
-pub use names::packed;
-pub use names::put_packed;
 pub use printing::print;
 pub use printing::print_page;
 pub use reading::Decimal;

@@ -68,7 +68,7 @@ pub fn same(a: &[u8], b: &[u8]) -> bool
     true
 }
 
-fn wide(byte: u8) -> u64
+pub fn wide(byte: u8) -> u64
     ensures { λ r. ⌜ r ≡ byte ⌝ }
 {
     byte as u64

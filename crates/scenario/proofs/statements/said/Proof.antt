@@ -1,0 +1,25 @@
+-- The loop ends: the statements that are left fall.
+use Prim.Native.Nat.{_-_}
+use borrow.Author.Needs.{needs}
+use Rattle.scenario.proofs.statements.said.Statement.{statement}
+use Rattle.scenario.proofs.statements.said.Tie as tie
+
+abbrev Inv-loop : tie.InvT-loop
+Inv-loop x line number₀ number = Unit {0}
+
+abbrev μ-loop : tie.MeasureT-loop
+μ-loop x line number₀ number = 24 - number
+
+pub said-spec : {M : Type 1} → statement M
+said-spec =
+    tie.close
+    (tie.spec
+    Inv-loop
+    μ-loop
+    (λ c. search needs)
+    (λ c κs. search needs)
+    (λ c. search needs)
+    (λ c. search needs)
+    (λ c. search needs)
+    (λ c. search needs)
+    (λ c. search needs))
