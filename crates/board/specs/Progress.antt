@@ -22,7 +22,7 @@ use Rattle.thread.specs.declared.ThreadRecord.{ThreadRecord}
 use Rattle.thread.specs.Membership.{onLink}
 use Rattle.rows.specs.Table.{Out, out}
 use Rattle.lists.specs.Lists.{onAnswer, onOut}
-use Rattle.queue.specs.RunQueue.{CpuRunQueue, treeCount}
+use Rattle.queue.specs.RunQueue.{CpuRunQueue, treeCount, lastTree}
 use Rattle.queue.specs.Queue.{maxRecords}
 use Rattle.demands.specs.declared.CandidateOption.{CandidateOption}
 use Rattle.demands.specs.Demands.{ofCurrent}
@@ -42,7 +42,7 @@ module _ (t : List ThreadRecord) (heads : List Link) (now : ℕ) (d : Demand) wh
 
   next-keeps : (n : ℕ) → Least-keeps n → Least-keeps (suc n)
   unfolding leastOf given onLink
-  next-keeps n rest w best = go (getD heads (11 - n) link.None)
+  next-keeps n rest w best = go (getD heads (lastTree - n) link.None)
     where
       go : (x : Link) → onLink {A = Chosen} x (leastOf n t heads now d w best)
           (λ id. leastOf n t heads now d (refreshed w now)

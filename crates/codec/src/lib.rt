@@ -226,17 +226,17 @@ pub fn with_parameters(w: Row, parameters: SchedulingParameters) -> Row
 {
     let words = words_of_parameters(parameters);
     let mut row = w;
-    row[POLICY_TAG] = words[0];
-    row[FIFO_PRIORITY] = words[1];
-    row[BAND] = words[2];
-    row[ROLE_TAG] = words[3];
-    row[WEIGHT] = words[4];
-    row[QUANTUM] = words[5];
-    row[BACKEND_TAG] = words[6];
-    row[BUDGET_TAG] = words[7];
-    row[BUDGET_NS] = words[8];
-    row[BUDGET_PERIOD] = words[9];
-    row[BUDGET_BURST] = words[10];
+    row[POLICY_TAG] = words[POLICY_TAG];
+    row[FIFO_PRIORITY] = words[FIFO_PRIORITY];
+    row[BAND] = words[BAND];
+    row[ROLE_TAG] = words[ROLE_TAG];
+    row[WEIGHT] = words[WEIGHT];
+    row[QUANTUM] = words[QUANTUM];
+    row[BACKEND_TAG] = words[BACKEND_TAG];
+    row[BUDGET_TAG] = words[BUDGET_TAG];
+    row[BUDGET_NS] = words[BUDGET_NS];
+    row[BUDGET_PERIOD] = words[BUDGET_PERIOD];
+    row[BUDGET_BURST] = words[BUDGET_BURST];
     row
 }
 

@@ -115,17 +115,18 @@ module _ {q : CpuRunQueue} (rows : List (List ℕ)) (w : List ℕ) (s : q ≡ wi
   unfolding queueOf withMarks withEpoch epochFrom ifEqual choose
   epoch-stored e total budgets tag when mark = s ∙ rw (total, budgets, tag, when, mark)
 
-  pub mark-left : (n : ℕ) {r : ℕ} → r ≡ n → r ≡ 9 → word w totalWord ≡ word (getD rows marksRow []) totalWord
+  pub mark-left : (n : ℕ) {r : ℕ} → r ≡ n → r ≡ queueHalted → word w totalWord ≡ word (getD rows marksRow []) totalWord
       → word w budgetsWord ≡ word (getD rows marksRow []) budgetsWord
       → word w epochTag ≡ word (getD rows marksRow []) epochTag
       → word w epochWord ≡ word (getD rows marksRow []) epochWord → word w markWord ≡ 1 → q ≡ withMark (queueOf rows) n
   unfolding queueOf withMarks withMark isHalt haltedFrom ifEqual choose
-  mark-left n {r} e m total budgets tag when mark = s ∙ rw (total, budgets, tag, when, mark, eq-eqb n 9 (sym e ∙ m))
+  mark-left n {r} e m total budgets tag when mark = s ∙ rw
+      (total, budgets, tag, when, mark, eq-eqb n queueHalted (sym e ∙ m))
 
-pub no-mark-left : (rows : List (List ℕ)) (n : ℕ) {r : ℕ} → r ≡ n → (r ≡ 9 → ⊥)
+pub no-mark-left : (rows : List (List ℕ)) (n : ℕ) {r : ℕ} → r ≡ n → (r ≡ queueHalted → ⊥)
     → queueOf rows ≡ withMark (queueOf rows) n
 unfolding withMark isHalt choose
-no-mark-left rows n {r} e m = rw (ne-eqb n 9 (λ z. m (e ∙ z)))
+no-mark-left rows n {r} e m = rw (ne-eqb n queueHalted (λ z. m (e ∙ z)))
 
 -- A queue with its own parts stored is as it was.
 same-parts : (q : CpuRunQueue) → withSelectionParts q (selectionParts q) ≡ q

@@ -26,7 +26,7 @@ use Rattle.thread.specs.declared.IndexFor.{IndexFor}
 use Rattle.thread.specs.declared.IndexFor.the-variants as indexed
 use Rattle.thread.specs.Membership.{onMembership, isUnqueued}
 use Rattle.thread.specs.Judgement.{isBadRecord}
-use Rattle.thread.specs.Filing.{budgetAvailable, roleIndex, indexFor, onIndex}
+use Rattle.thread.specs.Filing.{budgetAvailable, roleIndex, indexFor, onIndex, budgetExhausted, budgetReady, fairIndex}
 use Rattle.thread.specs.FilingLaws.{role-index-le}
 use Rattle.rows.specs.declared.RecordRead.{RecordRead}
 use Rattle.rows.specs.declared.RecordRead.the-variants as read
@@ -328,8 +328,9 @@ unfolding indexFor given onPolicy choose
 index-number p r = go (p .policy) (budgetAvailable r) (roleIndex (p .role)) (role-index-le (p .role))
   where
     go : (x : SchedulingPolicy) (available : Bool) (n : ℕ) → n ≤ 2
-        → indexNumber (onPolicy x (λ priority. indexed.Index n) (indexed.Index (3 + n))
-        (choose available (indexed.Index (6 + n)) (indexed.Index (9 + n))) indexed.None) < treeCount
+        → indexNumber (onPolicy x (λ priority. indexed.Index n) (indexed.Index (fairIndex + n))
+        (choose available (indexed.Index (budgetReady + n))
+        (indexed.Index (budgetExhausted + n))) indexed.None) < treeCount
     go (policy.Fifo priority) available n h = omega arith
     go policy.Fair available n h = omega arith
     go policy.Budget true n h = omega arith
@@ -397,10 +398,10 @@ insertion-below t halted id c {r} {p} e m =
 
 pub partner-below : (k : ℕ) → k < treeCount → partner k < treeCount
 unfolding partner ifLess choose
-partner-below k h = go (ltb k 9) refl
+partner-below k h = go (ltb k budgetExhausted) refl
   where
-    go : (b : Bool) → ltb k 9 ≡ b → choose b (k + 3) (k - 3) < treeCount
-    go true e = let less : k < 9 = ltb-true k 9 e in omega arith
+    go : (b : Bool) → ltb k budgetExhausted ≡ b → choose b (k + 3) (k - 3) < treeCount
+    go true e = let less : k < budgetExhausted = ltb-true k budgetExhausted e in omega arith
     go false e = omega arith
 
 found-number : (t : List ThreadRecord) (root other : Link) (id : ℕ) (budgeted : Bool) (k : ℕ) → k < treeCount

@@ -19,7 +19,7 @@ use Rattle.thread.specs.declared.ThreadQueue.{ThreadQueue}
 use Rattle.thread.specs.declared.ThreadRecord.{ThreadRecord}
 use Rattle.thread.specs.Membership.{emptyQueue, onMembership, isUnqueued}
 use Rattle.thread.specs.Judgement.{isBadRecord}
-use Rattle.thread.specs.Filing.{indexFor, onIndex}
+use Rattle.thread.specs.Filing.{indexFor, onIndex, budgetExhausted}
 pub use Rattle.rows.specs.Table.{maxRecords}
 use Rattle.rows.specs.Table.{Out, out, recordAt}
 use Rattle.rows.specs.TableCases.{onRecord}
@@ -149,7 +149,7 @@ enqueueCall front t q id c =
 
 -- The other budget tree of a role.
 unfoldable pub partner : ℕ → ℕ
-partner k = ifLess k 9 (k + 3) (k - 3)
+partner k = ifLess k budgetExhausted (k + 3) (k - 3)
 
 -- Yes, no, damaged.
 unfoldable pub onContained : {A : Type 0} → Contained → A → A → A → A

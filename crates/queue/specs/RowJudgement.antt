@@ -23,7 +23,7 @@ use Rattle.thread.specs.declared.IndexFor.{IndexFor}
 use Rattle.thread.specs.declared.IndexFor.the-variants as index
 use Rattle.thread.specs.declared.QueueMembership.{QueueMembership}
 use Rattle.thread.specs.Judgement.{hasBudget, isBadBudget, isBadRecord}
-use Rattle.thread.specs.Filing.{budgetAvailable, roleIndex, indexFor}
+use Rattle.thread.specs.Filing.{budgetAvailable, roleIndex, indexFor, budgetExhausted, budgetReady, fairIndex}
 use Rattle.codec.specs.Codec.{word, policyFrom, roleFrom, budgetFrom, epochFrom, runtimeFrom, membershipFrom}
 use Rattle.codec.specs.Codec.{parametersOf, runtimeOf, queueLinksOf, decoded, membershipTag, membershipFirst}
 use Rattle.codec.specs.Codec.{membershipSecond, cpuWord}
@@ -73,8 +73,10 @@ indexRow w =
     given (roleNumber (word w roleTag))
     (λ role. given (kindFrom (word w policyTag))
     (λ p. ifEqual p 0 (index.Index role)
-    (ifEqual p 1 (index.Index (3 + role))
-    (ifEqual p 2 (choose (budgetAvailable (decoded w .runtime)) (index.Index (6 + role)) (index.Index (9 + role)))
+    (ifEqual p 1 (index.Index (fairIndex + role))
+    (ifEqual p 2
+    (choose (budgetAvailable (decoded w .runtime)) (index.Index (budgetReady + role))
+    (index.Index (budgetExhausted + role)))
     index.None))))
 
 policy-kind : (tag priority : ℕ) → policyKind (policyFrom tag priority) ≡ kindFrom tag
@@ -204,9 +206,10 @@ module _ (w : List ℕ) where
   unfolding indexFor decoded parametersOf indexRow given ifEqual
   index-row =
       index-by-kind (policyFrom (word w policyTag) (word w fifoPriority))
-      (index.Index (roleIndex (roleFrom (word w roleTag)))) (index.Index (3 + roleIndex (roleFrom (word w roleTag))))
-      (choose (budgetAvailable (runtimeOf w)) (index.Index (6 + roleIndex (roleFrom (word w roleTag))))
-      (index.Index (9 + roleIndex (roleFrom (word w roleTag))))) index.None
+      (index.Index (roleIndex (roleFrom (word w roleTag))))
+      (index.Index (fairIndex + roleIndex (roleFrom (word w roleTag))))
+      (choose (budgetAvailable (runtimeOf w)) (index.Index (budgetReady + roleIndex (roleFrom (word w roleTag))))
+      (index.Index (budgetExhausted + roleIndex (roleFrom (word w roleTag))))) index.None
       ∙ rw (policy-kind (word w policyTag) (word w fifoPriority), role-number (word w roleTag))
 
   pub judged-by-tags : {r : Bool} → r ≡ badRow w → r ≡ isBadRecord (decoded w)
@@ -251,7 +254,8 @@ module _ (w : List ℕ) where
   with-budget n = rw (ne-eqb (word w budgetTag) 0 n)
 
 -- The numbers of the twelve trees are words.
-pub role-fits : (base : ℕ) {n : ℕ} (tag : ℕ) → n ≡ roleNumber tag → base ≤ 9 → base + n < 18446744073709551616
+pub role-fits : (base : ℕ) {n : ℕ} (tag : ℕ) → n ≡ roleNumber tag → base ≤ budgetExhausted
+    → base + n < 18446744073709551616
 unfolding roleNumber ifEqual choose
 role-fits base {n} tag e h = go (eqb tag 0) (eqb tag 1) e
   where

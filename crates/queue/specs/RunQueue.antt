@@ -14,6 +14,9 @@ priorities = 256
 abbrev pub treeCount : ℕ
 treeCount = 12
 
+abbrev pub lastTree : ℕ
+lastTree = 11
+
 -- 256 priority lists and their total, the fair list, twelve trees, the epoch of the last selection, the number of
 -- budget threads, and the mark of a queue that halted.
 pub record CpuRunQueue : Type 0 where

@@ -6,6 +6,9 @@ ghost use Rattle.thread.specs.Filing.{budgetAvailable, indexFor};
 ghost use Rattle.codec.specs.Codec.{decoded};
 ghost use Rattle.queue.specs.Plan.{filedOf};
 ghost use Rattle.queue.specs.RowJudgement.{kindFrom, roleNumber};
+use crate::BUDGET_EXHAUSTED;
+use crate::BUDGET_READY;
+use crate::FAIR;
 use crate::Filed;
 use codec::BUDGET_BURST;
 use codec::BUDGET_NS;
@@ -107,13 +110,13 @@ pub fn index_of_row(w: Row) -> IndexFor
         return IndexFor::Index(role);
     }
     if policy == 1 {
-        return IndexFor::Index(3 + role);
+        return IndexFor::Index(FAIR + role);
     }
     if policy == 2 {
         if has_time_left(w) {
-            return IndexFor::Index(6 + role);
+            return IndexFor::Index(BUDGET_READY + role);
         }
-        return IndexFor::Index(9 + role);
+        return IndexFor::Index(BUDGET_EXHAUSTED + role);
     }
     IndexFor::None
 }

@@ -19,6 +19,13 @@ pub const PRIORITIES: usize = 256;
 
 pub const TREES: usize = 12;
 
+// The first tree of a kind; that of FIFO is 0.
+pub const FAIR: u64 = 3;
+
+pub const BUDGET_READY: u64 = 6;
+
+pub const BUDGET_EXHAUSTED: u64 = 9;
+
 // The root of one tree. A queue has twelve.
 pub struct Root {
     pub root: Link,

@@ -29,6 +29,7 @@ use Rattle.queue.specs.Queue.{emptyRoot}
 use Rattle.renewal.specs.declared.BudgetTrees.{BudgetTrees}
 use Rattle.renewal.specs.Parts.{SelectionParts}
 use Rattle.renewal.specs.Leaves.{Leaves, leaves, onLeaves}
+use Rattle.thread.specs.Filing.{budgetExhausted, budgetReady}
 
 unfoldable pub leastLink : Least → Answer Link
 leastLink least.None = value link.None
@@ -92,14 +93,15 @@ rootAt roots k = getD roots k emptyRoot .root
 -- The roots of a role's budget trees stored back.
 unfoldable pub withTrees : List Root → ℕ → BudgetTrees → List Root
 withTrees roots role trees =
-    set (set roots (9 + role) (record { root = trees .exhausted })) (6 + role) (record { root = trees .ready })
+    set (set roots (budgetExhausted + role) (record { root = trees .exhausted })) (budgetReady + role)
+    (record { root = trees .ready })
 
 -- The last so many roles in turn, with so many moves left for all of them together.
 unfoldable pub renewRoles : ℕ → ℕ → List ThreadRecord → List Root → ℕ → Out (Leaves (Unit {0}) (List Root))
 renewRoles zero moves t roots now = out (leaves (value tt) roots) t
 renewRoles (suc left) moves t roots now =
     given (2 - left)
-    (λ role. onOut (moveAll moves t (rootAt roots (9 + role)) (rootAt roots (6 + role)) now)
+    (λ role. onOut (moveAll moves t (rootAt roots (budgetExhausted + role)) (rootAt roots (budgetReady + role)) now)
     (λ s t₁. onLeaves s
     (λ n trees. out (leaves (refused n) (withTrees roots role trees)) t₁)
     (λ u trees. renewRoles left (trees .moves) t₁ (withTrees roots role trees) now)))
@@ -111,7 +113,7 @@ isEpoch (epoch.Some last) e = eqb last e
 
 -- Halted leaves the mark.
 unfoldable pub isHalt : ℕ → Bool
-isHalt n = eqb n 9
+isHalt n = eqb n queueHalted
 
 -- At any change of epoch, also backward or from none, all three roles in as many moves as there are records; then the
 -- epoch is stored. A refusal leaves the roots as they were stored up to there, and the epoch as it was.

@@ -70,6 +70,7 @@ use Rattle.renewal.specs.Steps.{refreshedStored, budgetRefreshed, rowRef
 use Rattle.renewal.specs.Steps.{emptied, moved, stopped, onNext, nextMove, lastMove, roleRenewed}
 use Rattle.renewal.specs.Answers.{headAnswer, moveAnswer, nextAnswer, roleAnswer}
 use Rattle.policy_words.specs.PolicyWords.{policyTag, budgetTag, runtimeTag}
+use Rattle.thread.specs.Filing.{budgetExhausted, budgetReady}
 
 -- By the least thread of a tree.
 module _ {y : Answer Link} {r x : Least} where
@@ -432,37 +433,40 @@ module _ (rows : List (List ℕ)) (role moves : ℕ) (t : List ThreadRecord) (no
   abbrev theRoots : List Root
   theRoots = rootsOf rows
 
-  same-trees : (spent : Link) → spent ≡ rootAt theRoots (9 + role)
-      → withTrees theRoots role (budgetTrees spent (rootAt theRoots (6 + role)) moves) ≡ theRoots
+  same-trees : (spent : Link) → spent ≡ rootAt theRoots (budgetExhausted + role)
+      → withTrees theRoots role (budgetTrees spent (rootAt theRoots (budgetReady + role)) moves) ≡ theRoots
   unfolding withTrees
   same-trees spent e =
-      ap (λ (x : Link). set (set theRoots (9 + role) (record { root = x })) (6 + role)
-      (record { root = rootAt theRoots (6 + role) })) e
-      ∙ ap (λ (l : List Root). set l (6 + role) (record { root = rootAt theRoots (6 + role) }))
-      (set-same theRoots (9 + role) emptyRoot)
-      ∙ set-same theRoots (6 + role) emptyRoot
+      ap (λ (x : Link). set (set theRoots (budgetExhausted + role) (record { root = x })) (budgetReady + role)
+      (record { root = rootAt theRoots (budgetReady + role) })) e
+      ∙ ap (λ (l : List Root). set l (budgetReady + role) (record { root = rootAt theRoots (budgetReady + role) }))
+      (set-same theRoots (budgetExhausted + role) emptyRoot)
+      ∙ set-same theRoots (budgetReady + role) emptyRoot
 
   -- An empty exhausted tree is passed over.
-  pub role-empty : {exhausted : Link} {r : Bool} → exhausted ≡ rootAt (rootsOf rows) (9 + role) → r ≡ isNone exhausted
+  pub role-empty : {exhausted : Link} {r : Bool} → exhausted ≡ rootAt (rootsOf rows) (budgetExhausted + role) → r
+      ≡ isNone exhausted
       → r ≡ true
       → out (leaves (value moves) (rootsOf rows)) t ≡ roleRenewed role moves t (rootsOf rows) now
   unfolding roleRenewed onOut onLeaves
   role-empty {exhausted} e test h =
-      let none : link.None ≡ rootAt theRoots (9 + role) = sym (is-none-true exhausted (sym test ∙ h)) ∙ e in
-      rw (sym none, no-exhausted moves t (rootAt theRoots (6 + role)) now)
+      let none : link.None ≡ rootAt theRoots (budgetExhausted + role) = sym (is-none-true exhausted (sym test ∙ h))
+      ∙ e in
+      rw (sym none, no-exhausted moves t (rootAt theRoots (budgetReady + role)) now)
       (ap (λ l. out (leaves (value moves) l) t) (sym (same-trees link.None none)))
 
   module _ {s : Moved} {exhausted ready : Link} {t₁ : List ThreadRecord} {trees : BudgetTrees}
       {roots₁ : List Root} where
-    pub role-moved : exhausted ≡ rootAt (rootsOf rows) (9 + role) → ready ≡ rootAt (rootsOf rows) (6 + role)
+    pub role-moved : exhausted ≡ rootAt (rootsOf rows) (budgetExhausted + role) → ready ≡ rootAt (rootsOf rows)
+        (budgetReady + role)
         → out (moveAnswer s) t₁ ≡ moveAll moves t exhausted ready now → s ≡ move.Done trees
         → roots₁ ≡ withTrees (rootsOf rows) role trees
         → out (leaves (value (trees .moves)) roots₁) t₁ ≡ roleRenewed role moves t (rootsOf rows) now
     unfolding roleRenewed onOut onLeaves
     role-moved a b e m w = rw (sym a, sym b, sym e, m, w)
 
-    pub role-stopped : {k : Refusal} → exhausted ≡ rootAt (rootsOf rows) (9 + role)
-        → ready ≡ rootAt (rootsOf rows) (6 + role)
+    pub role-stopped : {k : Refusal} → exhausted ≡ rootAt (rootsOf rows) (budgetExhausted + role)
+        → ready ≡ rootAt (rootsOf rows) (budgetReady + role)
         → out (moveAnswer s) t₁ ≡ moveAll moves t exhausted ready now → s ≡ move.Refused k trees
         → roots₁ ≡ withTrees (rootsOf rows) role trees
         → out (leaves (refused (numberOf k)) roots₁) t₁ ≡ roleRenewed role moves t (rootsOf rows) now
@@ -471,8 +475,8 @@ module _ (rows : List (List ℕ)) (role moves : ℕ) (t : List ThreadRecord) (no
 
 -- Two roots stored one after the other.
 pub trees-stored : {l₁ l₂ : List Root} (l : List Root) (role : ℕ) (trees : BudgetTrees)
-    → l₁ ≡ set l (9 + role) (record { root = trees .exhausted })
-    → l₂ ≡ set l₁ (6 + role) (record { root = trees .ready }) → l₂ ≡ withTrees l role trees
+    → l₁ ≡ set l (budgetExhausted + role) (record { root = trees .exhausted })
+    → l₂ ≡ set l₁ (budgetReady + role) (record { root = trees .ready }) → l₂ ≡ withTrees l role trees
 unfolding withTrees
 trees-stored l role trees e₁ e₂ = rw (e₂, e₁)
 
@@ -485,7 +489,8 @@ module _ (t : List ThreadRecord) (moves : ℕ) (roots : List Root) (now : ℕ) w
       ≡ onOut (roleRenewed (2 - n) moves t roots now)
       (λ s t₁. onLeaves s (λ k l. out (leaves (refused k) l) t₁) (λ m l. renewRoles n m t₁ l now))
   unfolding renewRoles roleRenewed given onOut onLeaves
-  roles-next n = go (moveAll moves t (rootAt roots (9 + (2 - n))) (rootAt roots (6 + (2 - n))) now)
+  roles-next n = go
+      (moveAll moves t (rootAt roots (budgetExhausted + (2 - n))) (rootAt roots (budgetReady + (2 - n))) now)
     where
       go : (x : Out (Leaves (Unit {0}) BudgetTrees))
           → onOut x

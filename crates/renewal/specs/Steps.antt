@@ -20,6 +20,7 @@ use Rattle.renewal.specs.declared.BudgetTrees.{BudgetTrees}
 use Rattle.queue.specs.declared.Root.{Root}
 use Rattle.renewal.specs.Leaves.{Leaves, leaves, onLeaves}
 use Rattle.renewal.specs.Renewal.{headOf, budgetTrees, moveOne, moveAll, rootAt, withTrees}
+use Rattle.thread.specs.Filing.{budgetExhausted, budgetReady}
 
 -- The runtime of a budget that was refreshed, stored.
 unfoldable pub refreshedStored : List ThreadRecord → ℕ → Answer PolicyRuntime → Out (Answer (Unit {0}))
@@ -86,7 +87,7 @@ lastMove t exhausted ready =
 -- The moves of one role: how many it leaves, and the roots.
 unfoldable pub roleRenewed : ℕ → ℕ → List ThreadRecord → List Root → ℕ → Out (Leaves ℕ (List Root))
 roleRenewed role moves t roots now =
-    onOut (moveAll moves t (rootAt roots (9 + role)) (rootAt roots (6 + role)) now)
+    onOut (moveAll moves t (rootAt roots (budgetExhausted + role)) (rootAt roots (budgetReady + role)) now)
     (λ s t₁. onLeaves s
     (λ n trees. out (leaves (refused n) (withTrees roots role trees)) t₁)
     (λ u trees. out (leaves (value (trees .moves)) (withTrees roots role trees)) t₁))

@@ -37,6 +37,11 @@ use rows::set_runtime;
 use thread::Link;
 use time::Epoch;
 
+// The first tree of a kind, as a place in the array of roots.
+const READY: usize = queue::BUDGET_READY as usize;
+
+const EXHAUSTED: usize = queue::BUDGET_EXHAUSTED as usize;
+
 // The two budget trees of a role, and how many moves a change of period has left.
 pub struct BudgetTrees {
     pub exhausted: Link,
@@ -309,8 +314,8 @@ fn store_trees(roots: &mut [QueueRow], role: usize, trees: BudgetTrees)
 {
     let exhausted = trees.exhausted;
     let ready = trees.ready;
-    set_root(roots, 9 + role, exhausted);
-    set_root(roots, 6 + role, ready);
+    set_root(roots, EXHAUSTED + role, exhausted);
+    set_root(roots, READY + role, ready);
 }
 
 // The trees of one role, in so many moves at most. An empty exhausted tree is passed over.
@@ -326,11 +331,11 @@ fn renew_role(
     ensures { λ r. ⌜ out (leaves (roleAnswer r) (rootsOf (now (roots .exit)))) (table (now (t .exit)))
         ≡ steps.roleRenewed role moves (table (now (t .entry))) (rootsOf (now (roots .entry))) reading ⌝ }
 {
-    let exhausted = root_at(roots, 9 + role);
+    let exhausted = root_at(roots, EXHAUSTED + role);
     if exhausted.is_none() {
         return RoleStep::Done(moves);
     }
-    let ready = root_at(roots, 6 + role);
+    let ready = root_at(roots, READY + role);
     match move_all(t, path, exhausted, ready, moves, reading) {
         Moved::Done(trees) => {
             store_trees(roots, role, trees);

@@ -46,7 +46,7 @@ use Rattle.selection.specs.Heads.{onReady, onKeyOption, comesBefore, les
 use Rattle.selection.specs.Steps.{headRefreshed, headGathered}
 use Rattle.selection.specs.HeadNumbers.{sameByte, HeadNumbers, gatherNumbers, takesOver, readyBy, leastNumber}
 use Rattle.renewal.specs.Answers.{headAnswer}
-use Rattle.queue.specs.RunQueue.{treeCount}
+use Rattle.queue.specs.RunQueue.{treeCount, lastTree}
 
 -- By the least so far.
 module _ {A : Type 0} {y : A} {x : ReadyOption} (a : A) (f : ReadyThread → A) where
@@ -154,7 +154,7 @@ module _ (t : List ThreadRecord) (rows : List (List ℕ)) (c : CpuIndex) (now : 
   unfolding gatherNumbers given
   gather-step l zero h = absurd (omega arith)
   gather-step l (suc n) h =
-      let place : treeCount - suc n ≡ 11 - n = omega arith in
+      let place : treeCount - suc n ≡ lastTree - n = omega arith in
       let one : suc n - 1 ≡ n = omega arith in
       rw (place, one) refl
 

@@ -25,7 +25,7 @@ use Rattle.demands.specs.Demands.{ofCurrent}
 use Rattle.renewal.specs.Renewal.{headOf, rootAt}
 use Rattle.selection.specs.Heads.{Chosen, onReady, onKeyOption, comesBefore, lesserReady, readyWith}
 use Rattle.selection.specs.Steps.{headRefreshed, headGathered, Looked, looked}
-use Rattle.queue.specs.RunQueue.{treeCount}
+use Rattle.queue.specs.RunQueue.{treeCount, lastTree}
 
 unfoldable pub sameByte : ℕ → ℕ → Bool
 sameByte a b = ifEqual a b true false
@@ -40,7 +40,7 @@ unfoldable pub gatherNumbers : ℕ → List ThreadRecord → List Root → CpuIn
     → Out (Answer HeadNumbers)
 gatherNumbers zero t roots c now l g = out (value (record { numbers = l; found = g })) t
 gatherNumbers (suc left) t roots c now l g =
-    given (11 - left)
+    given (lastTree - left)
     (λ k. onAnswer (headOf t (rootAt roots k))
     (λ n. out (refused n) t)
     (λ head. onLink head

@@ -31,7 +31,7 @@ use Rattle.selection.specs.declared.ReadyOption.the-variants as ready
 use Rattle.selection.specs.declared.ReadyThread.{ReadyThread}
 use Rattle.demands.specs.Demands.{candidateOf, gathered}
 use Rattle.renewal.specs.Renewal.{headOf, refreshRecord, rootAt}
-use Rattle.queue.specs.RunQueue.{treeCount}
+use Rattle.queue.specs.RunQueue.{treeCount, lastTree}
 
 -- A head: ready on this processor, else Damaged; then judged and refreshed.
 unfoldable pub headAt : List ThreadRecord → ℕ → CpuIndex → ℕ → Out (Answer Candidate)
@@ -56,7 +56,7 @@ unfoldable pub gatherHeads : ℕ → List ThreadRecord → List Root → CpuInde
     → Out (Answer Heads)
 gatherHeads zero t roots c now heads g = out (value (record { heads = heads; found = g })) t
 gatherHeads (suc left) t roots c now heads g =
-    given (11 - left)
+    given (lastTree - left)
     (λ k. onAnswer (headOf t (rootAt roots k))
     (λ n. out (refused n) t)
     (λ head. onLink head
@@ -101,7 +101,7 @@ pub record Chosen : Type 0 where
 unfoldable pub leastOf : ℕ → List ThreadRecord → List Link → ℕ → Demand → CpuWindow → ReadyOption → Chosen
 leastOf zero t heads now d w best = record { window = w; ready = best }
 leastOf (suc left) t heads now d w best =
-    given (11 - left)
+    given (lastTree - left)
     (λ k. onLink (getD heads k link.None)
     (leastOf left t heads now d w best)
     (λ id. given (refreshed w now) (λ fresh. leastOf left t heads now d fresh (readyWith t id fresh now d best))))

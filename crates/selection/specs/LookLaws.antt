@@ -36,7 +36,7 @@ use Rattle.selection.specs.Steps.{headRefreshed, headGathered, Looked, l
 use Rattle.selection.specs.HeadNumbers.{HeadNumbers, gatherNumbers, leastNumber, leastNumbers, chosenNumber}
 use Rattle.selection.specs.HeadNumbers.{lookedNumbers}
 use Rattle.renewal.specs.RenewalLaws.{refreshed-then}
-use Rattle.queue.specs.RunQueue.{treeCount}
+use Rattle.queue.specs.RunQueue.{treeCount, lastTree}
 
 -- A window refreshed to now is refreshed once and for all.
 pub refreshed-again : (w : CpuWindow) (now : ℕ) → refreshed (refreshed w now) now ≡ refreshed w now
@@ -189,9 +189,9 @@ module _ (t : List ThreadRecord) (l : List Link) (now : ℕ) (d : Demand) (size 
   least-next : (n : ℕ) → Least n → Least (suc n)
   unfolding leastOf leastNumbers given onLink someOf
   least-next n rest w best h =
-      let place : treeCount - suc n ≡ 11 - n = omega arith in
-      let next : suc (11 - n) ≡ treeCount - n = omega arith in
-      rw (place, place-on l (11 - n), next) (go (getD l (11 - n) link.None))
+      let place : treeCount - suc n ≡ lastTree - n = omega arith in
+      let next : suc (lastTree - n) ≡ treeCount - n = omega arith in
+      rw (place, place-on l (lastTree - n), next) (go (getD l (lastTree - n) link.None))
     where
       go : (x : Link)
           → onLink x (leastOf n t l now d w best)
@@ -307,7 +307,8 @@ module _ (roots : List Root) (c : CpuIndex) (now : ℕ) (w : CpuWindow) where
 
   gathers-next : (n : ℕ) → Gathers n → Gathers (suc n)
   unfolding gatherHeads gatherNumbers given
-  gathers-next n rest t l g size = one-tree n rest t l g size (11 - n) (omega arith) (headOf t (rootAt roots (11 - n)))
+  gathers-next n rest t l g size = one-tree n rest t l g size (lastTree - n) (omega arith)
+      (headOf t (rootAt roots (lastTree - n)))
 
   gathers : (n : ℕ) → Gathers n
   gathers zero = gathers-none

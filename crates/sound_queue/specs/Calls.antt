@@ -27,7 +27,7 @@ use Rattle.queue.specs.RunQueue.{CpuRunQueue}
 use Rattle.queue.specs.Queue.{Step, step, newQueue, judged, enqueueCall, removeCall}
 use Rattle.sound_queue.specs.Count.{count}
 use Rattle.sound_queue.specs.CountLaws.{count-same}
-use Rattle.sound_queue.specs.Lists.{listAt, listFor, rowOf}
+use Rattle.sound_queue.specs.Lists.{listAt, listFor, rowOf, listCount}
 use Rattle.sound_queue.specs.ListsLaws.{list-counts}
 use Rattle.sound_queue.specs.Sound.{queuedOf, Sound, including, excluding, Kept, Accepted, Fine, unchanged, made}
 use Rattle.sound_queue.specs.Sound.{PriorityFits, MayEnqueue}
@@ -57,17 +57,18 @@ module _ {cpu : CpuIndex} {queued : ℕ → Bool} {q : CpuRunQueue} {t : List Th
       (λ j h. reading-other t i f (λ (r : ThreadRecord). read.Got r) read.Damaged j
       (λ z. let w : true ≡ false = sym h ∙ ap queued z ∙ e in never cc))
 
-  row-tells : (n j : ℕ) → n < 257 → eqb (rowOf queued t j) n ≡ queuedOf (λ p. eqb (listFor p) n) queued t j
+  row-tells : (n j : ℕ) → n < listCount → eqb (rowOf queued t j) n ≡ queuedOf (λ p. eqb (listFor p) n) queued t j
   unfolding rowOf queuedOf choose
   row-tells n j b = go (queued j)
     where
-      go : (x : Bool) → eqb (choose x (listFor (recordOf t j .parameters .policy)) 257) n
+      go : (x : Bool) → eqb (choose x (listFor (recordOf t j .parameters .policy)) listCount) n
           ≡ x && eqb (listFor (recordOf t j .parameters .policy)) n
       go true = refl
-      go false = ne-eqb 257 n (λ z. omega arith)
+      go false = ne-eqb listCount n (λ z. omega arith)
 
   -- Every list's length is the number of queued threads whose policy names that list.
-  pub lengths-true : (n : ℕ) → n < 257 → listAt q n .len ≡ count (length t) (queuedOf (λ p. eqb (listFor p) n) queued t)
+  pub lengths-true : (n : ℕ) → n < listCount → listAt q n .len ≡ count (length t)
+      (queuedOf (λ p. eqb (listFor p) n) queued t)
   lengths-true n b =
       list-counts (S .lists) n b ∙ count-same (length t) (queuedOf (λ p. eqb (listFor p) n) queued t)
       (λ j. eqb (rowOf queued t j) n) (λ j l. row-tells n j b)

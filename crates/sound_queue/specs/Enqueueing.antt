@@ -39,7 +39,7 @@ use Rattle.sound_queue.specs.PlaceLaws.{placed-same, placed-other, same-
 use Rattle.sound_queue.specs.ForestLaws.{forest-still, planted}
 use Rattle.sound_queue.specs.Count.{count}
 use Rattle.sound_queue.specs.CountLaws.{count-most}
-use Rattle.sound_queue.specs.Lists.{listAt, membershipAt, listFor, rowOf, Lists}
+use Rattle.sound_queue.specs.Lists.{listAt, membershipAt, listFor, rowOf, Lists, listCount}
 use Rattle.sound_queue.specs.ListsLaws.{lists-still, lists-same, list-counts, list-joined, back-same, back-here}
 use Rattle.sound_queue.specs.ListsLaws.{front-same}
 use Rattle.sound_queue.specs.Sound.{by-filing, Queued, queuedOf, Sound, including, Accepted, MayEnqueue}
@@ -107,7 +107,7 @@ module _ {cpu : CpuIndex} {queued : ℕ → Bool} {q : CpuRunQueue} {t : List Th
   abbrev row : ℕ
   row = listFor (recordOf t i .parameters .policy)
 
-  row-low : row < 257
+  row-low : row < listCount
   row-low = list-for (recordOf t i .parameters .policy) (M .notIdle) (M .fits)
 
   few : (f : ℕ → Bool) (n : ℕ) → n ≡ count (length t) f → n < maxLength

@@ -29,17 +29,21 @@ unfoldable pub membershipAt : CpuIndex → ℕ → QueueMembership
 membershipAt cpu zero = membership.ReadyFair cpu
 membershipAt cpu (suc priority) = membership.ReadyRealTime cpu priority
 
+-- How many lists there are; no list has this number.
+abbrev pub listCount : ℕ
+listCount = 257
+
 -- The list of a policy: FIFO threads by their priority, Fair and Budget threads in one; Idle in none.
 unfoldable pub listFor : SchedulingPolicy → ℕ
-listFor p = onPolicy p (λ priority. suc (priority .0)) 0 0 257
+listFor p = onPolicy p (λ priority. suc (priority .0)) 0 0 listCount
 
--- The list in which a thread is to stand; 257 for one that is not queued.
+-- The list in which a thread is to stand; `listCount` for one that is not queued.
 unfoldable pub rowOf : (ℕ → Bool) → List ThreadRecord → ℕ → ℕ
-rowOf queued t j = choose (queued j) (listFor (recordOf t j .parameters .policy)) 257
+rowOf queued t j = choose (queued j) (listFor (recordOf t j .parameters .policy)) listCount
 
--- The table holds these 257 lists. `row` gives the list in which a thread stands, 257 or more where it stands in none:
+-- The table holds these lists. `row` gives the list in which a thread stands, `listCount` or more where in none:
 -- each list has exactly the threads whose row it is, so that no two have one in common.
 pub record Lists (lists : ℕ → ThreadQueue) (cpu : CpuIndex) (t : List ThreadRecord) (row : ℕ → ℕ) : Type 0 where
   pub members : ℕ → List ℕ
-  pub holds : (n : ℕ) → n < 257 → HoldsList t (lists n) (members n) (membershipAt cpu n)
-  pub exact : (j n : ℕ) → n < 257 → has j (members n) ≡ eqb (row j) n
+  pub holds : (n : ℕ) → n < listCount → HoldsList t (lists n) (members n) (membershipAt cpu n)
+  pub exact : (j n : ℕ) → n < listCount → has j (members n) ≡ eqb (row j) n

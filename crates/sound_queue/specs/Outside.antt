@@ -23,14 +23,14 @@ use Rattle.queue.specs.RunQueue.{CpuRunQueue, treeCount}
 use Rattle.queue.specs.Queue.{emptyRoot, newQueue, isFifo, isBudget}
 use Rattle.sound_queue.specs.ForestLaws.{forest-still, placed-inside}
 use Rattle.sound_queue.specs.CountLaws.{count-same, count-none}
-use Rattle.sound_queue.specs.Lists.{listAt, membershipAt, listFor, rowOf}
+use Rattle.sound_queue.specs.Lists.{listAt, membershipAt, listFor, rowOf, listCount}
 use Rattle.sound_queue.specs.ListsLaws.{lists-still, lists-same}
 use Rattle.sound_queue.specs.Sound.{Queued, queuedOf, Sound}
 use Rattle.sound_queue.specs.SoundLaws.{row-not-queued, queued-inside}
 use Rattle.sound_queue.specs.Reached.{nobody}
 use Rattle.rows.specs.declared.QueueLinksRead.the-variants as queueLinks
 
-new-list : (n : ℕ) → n < 257 → listAt newQueue n ≡ emptyQueue
+new-list : (n : ℕ) → n < listCount → listAt newQueue n ≡ emptyQueue
 unfolding listAt
 new-list zero b = refl
 new-list (suc p) b = getD-replicate 256 p emptyQueue emptyQueue (omega arith)
@@ -86,8 +86,8 @@ module _ {cpu : CpuIndex} {queued : ℕ → Bool} {q : CpuRunQueue} {t : List Th
   row-kept j = go (queued j) refl
     where
       go : (x : Bool) → queued j ≡ x
-          → choose x (listFor (recordOf t j .parameters .policy)) 257
-          ≡ choose x (listFor (recordOf s j .parameters .policy)) 257
+          → choose x (listFor (recordOf t j .parameters .policy)) listCount
+          ≡ choose x (listFor (recordOf s j .parameters .policy)) listCount
       go true e = rw (same-record j e)
       go false e = refl
 
@@ -103,7 +103,7 @@ module _ {cpu : CpuIndex} {queued : ℕ → Bool} {q : CpuRunQueue} {t : List Th
   queued-if-placed : (j : ℕ) → S .place j < treeCount → queued j ≡ true
   queued-if-placed j b = sym (S .stands j) ∙ lt-ltb (S .place j) treeCount b
 
-  queued-if-listed : (j : ℕ) → rowOf queued t j < 257 → queued j ≡ true
+  queued-if-listed : (j : ℕ) → rowOf queued t j < listCount → queued j ≡ true
   queued-if-listed j b = go (queued j) refl
     where
       go : (x : Bool) → queued j ≡ x → queued j ≡ true

@@ -23,7 +23,7 @@ use Rattle.thread.specs.declared.QueueMembership.{QueueMembership}
 use Rattle.thread.specs.declared.ThreadQueue.{ThreadQueue}
 use Rattle.thread.specs.declared.ThreadRecord.{ThreadRecord}
 use Rattle.thread.specs.Membership.{emptyQueue, onMembership, onCpu, readyCpu, isUnqueued}
-use Rattle.thread.specs.Filing.{roleIndex, budgetAvailable, indexFor}
+use Rattle.thread.specs.Filing.{roleIndex, budgetAvailable, indexFor, budgetExhausted, budgetReady, fairIndex}
 use Rattle.thread.specs.FilingLaws.{role-index-le}
 use Rattle.rows.specs.Table.{out}
 use Rattle.lists.specs.Checks.{maxLength, assignedTo}
@@ -37,7 +37,7 @@ use Rattle.queue_work.specs.declared.Parts.{Parts}
 use Rattle.queue_work.specs.Work.{done, withBudgetThreads, treeStored, countedIn, countedOut, totalIn, totalOut}
 use Rattle.queue_work.specs.Work.{pushAt, insertWork, removeWork}
 use Rattle.queue.specs.Queue.{listOf, withParts, isFifo, isBudget, membershipFor, partner}
-use Rattle.sound_queue.specs.Lists.{listAt, membershipAt, listFor}
+use Rattle.sound_queue.specs.Lists.{listAt, membershipAt, listFor, listCount}
 use Rattle.sound_queue.specs.Sound.{PriorityFits}
 
 -- A membership's list.
@@ -56,7 +56,7 @@ membership-for policy.Budget cpu h = refl
 membership-for policy.Idle cpu h = absurd (h refl)
 
 -- A policy that is not Idle, with a byte for its priority, has one of the 257 lists.
-pub list-for : (p : SchedulingPolicy) → p ≢ policy.Idle → PriorityFits p → listFor p < 257
+pub list-for : (p : SchedulingPolicy) → p ≢ policy.Idle → PriorityFits p → listFor p < listCount
 unfolding listFor onPolicy
 list-for (policy.Fifo priority) h b = omega arith
 list-for policy.Fair h b = omega arith
@@ -64,9 +64,9 @@ list-for policy.Budget h b = omega arith
 list-for policy.Idle h b = absurd (h refl)
 
 -- Idle has none.
-pub listed-not-idle : (p : SchedulingPolicy) → listFor p < 257 → p ≢ policy.Idle
+pub listed-not-idle : (p : SchedulingPolicy) → listFor p < listCount → p ≢ policy.Idle
 unfolding listFor onPolicy
-listed-not-idle p b e = let w : listFor p ≡ 257 = rw e in omega arith
+listed-not-idle p b e = let w : listFor p ≡ listCount = rw e in omega arith
 
 -- A thread of this processor may stand in this processor's lists.
 pub assigned-to : (cpu d : CpuIndex) (n : ℕ) → d .0 ≡ cpu .0 → assignedTo (membershipAt cpu n) d ≡ true
@@ -81,7 +81,7 @@ in-a-list cpu zero = refl
 in-a-list cpu (suc p) = refl
 
 -- Whether the list is a priority's.
-pub list-fifo : (p : SchedulingPolicy) (n : ℕ) → listFor p ≡ n → n < 257 → isFifo p ≡ ltb 0 n
+pub list-fifo : (p : SchedulingPolicy) (n : ℕ) → listFor p ≡ n → n < listCount → isFifo p ≡ ltb 0 n
 unfolding listFor isFifo onPolicy
 list-fifo (policy.Fifo priority) n e b = sym (lt-ltb 0 n (omega arith))
 list-fifo policy.Fair n e b = sym (le-ltb 0 n (omega arith))
@@ -90,7 +90,7 @@ list-fifo policy.Idle n e b = absurd (omega arith)
 
 -- The parts of a list's call stored back: that list, and no other.
 module _ (q : CpuRunQueue) (cpu : CpuIndex) (k : ℕ) (p : Parts) where
-  pub list-stored : (n : ℕ) → n < 257 → length (q .realtime) ≡ 256
+  pub list-stored : (n : ℕ) → n < listCount → length (q .realtime) ≡ 256
       → listAt (withParts q (membershipAt cpu n) k p) n ≡ p .list
   unfolding withParts onMembership membershipAt listAt
   list-stored zero b e = refl
@@ -125,10 +125,11 @@ pub record Filing (p : SchedulingParameters) (r : PolicyRuntime) : Type 0 where
   pub low : tree < treeCount
 
 budget-filing : (n : ℕ) (x : Bool) → n ≤ 2
-    → (k : ℕ) × (choose x (index.Index (6 + n)) (index.Index (9 + n)) ≡ index.Index k) × (6 ≤ k) × (k < treeCount)
+    → (k : ℕ) × (choose x (index.Index (budgetReady + n)) (index.Index (budgetExhausted + n)) ≡ index.Index k) ×
+    (budgetReady ≤ k) × (k < treeCount)
 unfolding choose
-budget-filing n true h = (6 + n, refl, omega arith, omega arith)
-budget-filing n false h = (9 + n, refl, omega arith, omega arith)
+budget-filing n true h = (budgetReady + n, refl, omega arith, omega arith)
+budget-filing n false h = (budgetExhausted + n, refl, omega arith, omega arith)
 
 -- A policy that is not Idle is filed,
 pub filing : (p : SchedulingParameters) (r : PolicyRuntime) → p .policy ≢ policy.Idle → Filing p r
@@ -139,7 +140,7 @@ filing p r h = go (p .policy) refl
     go (policy.Fifo priority) e =
         record { tree = roleIndex (p .role); is = rw e; low = omega (arith, role-index-le (p .role)) }
     go policy.Fair e =
-        record { tree = 3 + roleIndex (p .role); is = rw e; low = omega (arith, role-index-le (p .role)) }
+        record { tree = fairIndex + roleIndex (p .role); is = rw e; low = omega (arith, role-index-le (p .role)) }
     go policy.Budget e =
         let b = budget-filing (roleIndex (p .role)) (budgetAvailable r) (role-index-le (p .role)) in
         record { tree = b .0; is = rw e (b .1); low = b .3 }
@@ -152,11 +153,11 @@ idle-filing p r e = rw e
 
 -- A budget is filed in one of the six trees of budgets.
 pub budget-tree : (p : SchedulingParameters) (r : PolicyRuntime) (f : ℕ) → isBudget (p .policy) ≡ true
-    → indexFor p r ≡ index.Index f → (6 ≤ f) × (f < treeCount)
+    → indexFor p r ≡ index.Index f → (budgetReady ≤ f) × (f < treeCount)
 unfolding indexFor given onPolicy isBudget
 budget-tree p r f b e = go (p .policy) refl
   where
-    go : (y : SchedulingPolicy) → p .policy ≡ y → (6 ≤ f) × (f < treeCount)
+    go : (y : SchedulingPolicy) → p .policy ≡ y → (budgetReady ≤ f) × (f < treeCount)
     go (policy.Fifo priority) z = let w : false ≡ true = rw z at b in never cc
     go policy.Fair z = let w : false ≡ true = rw z at b in never cc
     go policy.Idle z = let w : false ≡ true = rw z at b in never cc
@@ -167,17 +168,21 @@ budget-tree p r f b e = go (p .policy) refl
         (omega (arith, m .2), omega (arith, m .3))
 
 -- The partner of a budget's tree is another of the six, and its own partner.
-pub partner-tree : (f : ℕ) → 6 ≤ f → f < treeCount → (partner f < treeCount) × (partner f ≢ f)
+pub partner-tree : (f : ℕ) → budgetReady ≤ f → f < treeCount → (partner f < treeCount) × (partner f ≢ f)
     × (partner (partner f) ≡ f)
 unfolding partner ifLess choose
-partner-tree f a b = go (ltb f 9) refl
+partner-tree f a b = go (ltb f budgetExhausted) refl
   where
-    go : (x : Bool) → ltb f 9 ≡ x → (choose x (f + 3) (f - 3) < treeCount) × (choose x (f + 3) (f - 3) ≢ f)
-        × (choose (ltb (choose x (f + 3) (f - 3)) 9) (choose x (f + 3) (f - 3) + 3) (choose x (f + 3) (f - 3) - 3) ≡ f)
+    go : (x : Bool) → ltb f budgetExhausted ≡ x → (choose x (f + 3) (f - 3) < treeCount) ×
+        (choose x (f + 3) (f - 3) ≢ f)
+        × (choose (ltb (choose x (f + 3) (f - 3)) budgetExhausted) (choose x (f + 3) (f - 3) + 3)
+        (choose x (f + 3) (f - 3) - 3) ≡ f)
     go true e =
-        let h = ltb-true f 9 e in (omega arith, (λ z. omega arith), rw (le-ltb (f + 3) 9 (omega arith)) (omega arith))
+        let h = ltb-true f budgetExhausted e in
+        (omega arith, (λ z. omega arith), rw (le-ltb (f + 3) budgetExhausted (omega arith)) (omega arith))
     go false e =
-        let h = ltb-false f 9 e in (omega arith, (λ z. omega arith), rw (lt-ltb (f - 3) 9 (omega arith)) (omega arith))
+        let h = ltb-false f budgetExhausted e in
+        (omega arith, (λ z. omega arith), rw (lt-ltb (f - 3) budgetExhausted (omega arith)) (omega arith))
 
 -- The counts: one more or one less where x holds.
 pub total-in : (x : Bool) (a b : ℕ) → a < maxLength → b ≡ choose x (suc a) a → totalIn x a ≡ value b

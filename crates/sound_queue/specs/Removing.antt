@@ -33,7 +33,7 @@ use Rattle.sound_queue.specs.Forest.{Forest, placed, Replanted}
 use Rattle.sound_queue.specs.PlaceLaws.{placed-same, placed-other, same-or-not}
 use Rattle.sound_queue.specs.ForestLaws.{forest-still, contains-placed, uprooted}
 use Rattle.sound_queue.specs.Count.{count}
-use Rattle.sound_queue.specs.Lists.{listAt, membershipAt, listFor, rowOf, Lists}
+use Rattle.sound_queue.specs.Lists.{listAt, membershipAt, listFor, rowOf, Lists, listCount}
 use Rattle.sound_queue.specs.ListsLaws.{lists-still, lists-same, list-left, without-same, without-here}
 use Rattle.sound_queue.specs.Sound.{Filed, by-filing, in-partner, Queued, queuedOf, Sound, excluding, Accepted}
 use Rattle.sound_queue.specs.LinksLaws.{besides-queue-links, list-stores-links, list-stores-key}
@@ -90,7 +90,7 @@ module _ {cpu : CpuIndex} {queued : ℕ → Bool} {q : CpuRunQueue} {t : List Th
     abbrev row : ℕ
     row = listFor (recordOf t i .parameters .policy)
 
-    row-low : row < 257
+    row-low : row < listCount
     row-low = S .threads i e .listed
 
     row-is : rowOf queued t i ≡ row

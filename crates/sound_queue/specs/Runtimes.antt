@@ -20,7 +20,7 @@ use Rattle.thread.specs.declared.ThreadRecord.{ThreadRecord}
 use Rattle.thread.specs.Membership.{emptyQueue}
 use Rattle.thread.specs.Records.{withRuntime}
 use Rattle.thread.specs.Judgement.{isBadRecord}
-use Rattle.thread.specs.Filing.{budgetAvailable, roleIndex, indexFor}
+use Rattle.thread.specs.Filing.{budgetAvailable, roleIndex, indexFor, budgetExhausted, budgetReady}
 use Rattle.thread.specs.FilingLaws.{role-index-le}
 use Rattle.rows.specs.Table.{recordOf, changed, queueLinksAt}
 use Rattle.rows.specs.TableLaws.{length-changed, record-same, record-other, after-set-runtime, links-set-runtime}
@@ -82,32 +82,33 @@ module _ {cpu : CpuIndex} {queued : ℕ → Bool} {q : CpuRunQueue} {t : List Th
 
 -- The two trees of a budget thread's role.
 pub data BudgetTree (role k : ℕ) : Type 0 where
-  with-time : k ≡ 6 + role → BudgetTree role k
-  exhausted : k ≡ 9 + role → BudgetTree role k
+  with-time : k ≡ budgetReady + role → BudgetTree role k
+  exhausted : k ≡ budgetExhausted + role → BudgetTree role k
 
 budget-filed : (r : ThreadRecord) → r .parameters .policy ≡ policy.Budget
     → indexFor (r .parameters) (r .runtime)
-    ≡ choose (budgetAvailable (r .runtime)) (index.Index (6 + roleIndex (r .parameters .role)))
-    (index.Index (9 + roleIndex (r .parameters .role)))
+    ≡ choose (budgetAvailable (r .runtime)) (index.Index (budgetReady + roleIndex (r .parameters .role)))
+    (index.Index (budgetExhausted + roleIndex (r .parameters .role)))
 unfolding indexFor given onPolicy
 budget-filed r e = rw e
 
-partner-of-ready : (n : ℕ) → n ≤ 2 → partner (6 + n) ≡ 9 + n
+partner-of-ready : (n : ℕ) → n ≤ 2 → partner (budgetReady + n) ≡ budgetExhausted + n
 unfolding partner ifLess choose
-partner-of-ready n h = rw (lt-ltb (6 + n) 9 (omega arith)) (omega arith)
+partner-of-ready n h = rw (lt-ltb (budgetReady + n) budgetExhausted (omega arith)) (omega arith)
 
-partner-of-exhausted : (n : ℕ) → partner (9 + n) ≡ 6 + n
+partner-of-exhausted : (n : ℕ) → partner (budgetExhausted + n) ≡ budgetReady + n
 unfolding partner ifLess choose
-partner-of-exhausted n = rw (le-ltb (9 + n) 9 (omega arith)) (omega arith)
+partner-of-exhausted n = rw (le-ltb (budgetExhausted + n) budgetExhausted (omega arith)) (omega arith)
 
-tree-by : (n k f : ℕ) → n ≤ 2 → (x : Bool) → choose x (index.Index (6 + n)) (index.Index (9 + n)) ≡ index.Index f
+tree-by : (n k f : ℕ) → n ≤ 2 → (x : Bool) → choose x (index.Index (budgetReady + n))
+    (index.Index (budgetExhausted + n)) ≡ index.Index f
     → (f ≡ k → BudgetTree n k) × (partner f ≡ k → BudgetTree n k)
 unfolding choose
 tree-by n k f h true z =
-    let y : 6 + n ≡ f = cc in
+    let y : budgetReady + n ≡ f = cc in
     ((λ w. with-time (omega arith)), (λ w. exhausted (sym w ∙ ap partner (sym y) ∙ partner-of-ready n h)))
 tree-by n k f h false z =
-    let y : 9 + n ≡ f = cc in
+    let y : budgetExhausted + n ≡ f = cc in
     ((λ w. exhausted (omega arith)), (λ w. with-time (sym w ∙ ap partner (sym y) ∙ partner-of-exhausted n)))
 
 -- A budget thread stands in one of the two trees of its role,
@@ -121,12 +122,13 @@ filed-in r k e (in-partner f b x y) =
     (sym (budget-filed r e) ∙ x) .1 y
 
 file-by : (r : ThreadRecord) (k n : ℕ) → n ≤ 2 → isBudget (r .parameters .policy) ≡ true → (x : Bool)
-    → indexFor (r .parameters) (r .runtime) ≡ choose x (index.Index (6 + n)) (index.Index (9 + n)) → BudgetTree n k
+    → indexFor (r .parameters) (r .runtime) ≡ choose x (index.Index (budgetReady + n))
+    (index.Index (budgetExhausted + n)) → BudgetTree n k
     → Filed r k
 unfolding choose
 file-by r k n h b true z (with-time w) = by-filing (z ∙ ap (λ m. index.Index m) (sym w))
-file-by r k n h b true z (exhausted w) = in-partner (6 + n) b z (partner-of-ready n h ∙ sym w)
-file-by r k n h b false z (with-time w) = in-partner (9 + n) b z (partner-of-exhausted n ∙ sym w)
+file-by r k n h b true z (exhausted w) = in-partner (budgetReady + n) b z (partner-of-ready n h ∙ sym w)
+file-by r k n h b false z (with-time w) = in-partner (budgetExhausted + n) b z (partner-of-exhausted n ∙ sym w)
 file-by r k n h b false z (exhausted w) = by-filing (z ∙ ap (λ m. index.Index m) (sym w))
 
 -- and may stand in either.

@@ -24,7 +24,7 @@ use Rattle.sound_lists.specs.Sound.{withoutLists}
 use Rattle.queue.specs.RunQueue.{CpuRunQueue, treeCount}
 use Rattle.queue.specs.Queue.{Step, step, isFifo, isBudget, partner}
 use Rattle.sound_queue.specs.Forest.{Forest}
-use Rattle.sound_queue.specs.Lists.{listAt, listFor, rowOf, Lists}
+use Rattle.sound_queue.specs.Lists.{listAt, listFor, rowOf, Lists, listCount}
 use Rattle.sound_queue.specs.Count.{count}
 
 -- The tree in which a record may stand: that of its filing; of a budget also the partner, since its time may have run
@@ -39,7 +39,7 @@ pub data Filed (r : ThreadRecord) (k : ℕ) : Type 0 where
 pub record Queued (cpu : CpuIndex) (r : ThreadRecord) (k : ℕ) : Type 0 where
   pub judged : isBadRecord r ≡ false
   pub assigned : r .cpu .0 ≡ cpu .0
-  pub listed : listFor (r .parameters .policy) < 257
+  pub listed : listFor (r .parameters .policy) < listCount
   pub filed : Filed r k
 
 -- Queued, and of such a policy.

@@ -23,7 +23,7 @@ use Rattle.sound_queue.specs.PlaceLaws.{placed-same, placed-other, same-
 use Rattle.sound_queue.specs.ForestLaws.{placed-inside}
 use Rattle.sound_queue.specs.Count.{count}
 use Rattle.sound_queue.specs.CountLaws.{count-same, count-one}
-use Rattle.sound_queue.specs.Lists.{listAt, membershipAt, listFor, rowOf, Lists}
+use Rattle.sound_queue.specs.Lists.{listAt, membershipAt, listFor, rowOf, Lists, listCount}
 use Rattle.sound_queue.specs.ListsLaws.{lists-same}
 use Rattle.sound_queue.specs.Sound.{Queued, queuedOf, Sound, including, excluding, withoutLinks}
 use Rattle.sound_queue.specs.LinksLaws.{same-length, same-parameters, same-runtime, same-cpu, queued-still}
@@ -52,7 +52,7 @@ module _ (queued : ℕ → Bool) (t : List ThreadRecord) (j : ℕ) where
   unfolding rowOf choose
   row-queued e = rw e
 
-  pub row-not-queued : queued j ≡ false → rowOf queued t j ≡ 257
+  pub row-not-queued : queued j ≡ false → rowOf queued t j ≡ listCount
   unfolding rowOf choose
   row-not-queued e = rw e
 
@@ -71,11 +71,11 @@ row-included i queued t j = same-or-not j i
     ∙ row-by queued (including i queued) t j (sym (included-other i queued j e)))
 
 pub row-excluded : (i : ℕ) (queued : ℕ → Bool) (t : List ThreadRecord) (j : ℕ)
-    → placed i 257 (rowOf queued t) j ≡ rowOf (excluding i queued) t j
+    → placed i listCount (rowOf queued t) j ≡ rowOf (excluding i queued) t j
 row-excluded i queued t j = same-or-not j i
-    (λ e. rw (e, placed-same i 257 (rowOf queued t))
+    (λ e. rw (e, placed-same i listCount (rowOf queued t))
     (sym (row-not-queued (excluding i queued) t i (excluded i queued))))
-    (λ e. placed-other i 257 (rowOf queued t) j e
+    (λ e. placed-other i listCount (rowOf queued t) j e
     ∙ row-by queued (excluding i queued) t j (sym (excluded-other i queued j e)))
 
 -- The counts, with a thread that is queued in g and not in f, all others alike.

@@ -66,12 +66,12 @@ verdict t q i n h = inside (decLe (suc i) (length t))
         passes l b (not-idle-by (recordOf t i .parameters .policy) policy.Fair e (λ z. never cc))
     policies l b policy.Budget e =
         passes l b (not-idle-by (recordOf t i .parameters .policy) policy.Budget e (λ z. never cc))
-    policies l b policy.Idle e = refuses 2 (λ f. is-idle t q i n h f l b e)
+    policies l b policy.Idle e = refuses badState (λ f. is-idle t q i n h f l b e)
 
     judgement : i < length t → (x : Bool) → isBadRecord (recordOf t i) ≡ x → Verdict t q i
-    judgement l true b = refuses 11 (λ f. bad-record t q i n h f l b)
+    judgement l true b = refuses badRecord (λ f. bad-record t q i n h f l b)
     judgement l false b = policies l b (recordOf t i .parameters .policy) refl
 
     inside : Dec (suc i ≤ length t) → Verdict t q i
     inside (yes l) = judgement l (isBadRecord (recordOf t i)) refl
-    inside (no l) = refuses 4 (λ f. no-thread t q i n h f (omega arith))
+    inside (no l) = refuses noThread (λ f. no-thread t q i n h f (omega arith))

@@ -17,7 +17,7 @@ use Rattle.thread.specs.declared.IndexFor.the-variants as index
 use Rattle.thread.specs.declared.Link.{Link}
 use Rattle.thread.specs.declared.Link.the-variants as link
 use Rattle.thread.specs.declared.ThreadRecord.{ThreadRecord}
-use Rattle.thread.specs.Filing.{roleIndex, indexFor}
+use Rattle.thread.specs.Filing.{roleIndex, indexFor, fairIndex}
 use Rattle.thread.specs.Judgement.{isBadRecord}
 use Rattle.thread.specs.Membership.{emptyLinks}
 use Rattle.thread.specs.Records.{withLinks}
@@ -134,7 +134,7 @@ standing r k f = go (r .parameters .policy) refl f
         in-fifo p e (let z : index.Index (roleIndex (r .parameters .role)) ≡ index.Index k = rw e at x in cc)
     go (policy.Fifo p) e (in-partner m b x y) = never (let z : false ≡ true = rw e at b in cc)
     go policy.Fair e (by-filing x) =
-        in-fair e (let z : index.Index (3 + roleIndex (r .parameters .role)) ≡ index.Index k = rw e at x in cc)
+        in-fair e (let z : index.Index (fairIndex + roleIndex (r .parameters .role)) ≡ index.Index k = rw e at x in cc)
     go policy.Fair e (in-partner m b x y) = never (let z : false ≡ true = rw e at b in cc)
     go policy.Budget e f = in-budget e (filed-in r k e f)
     go policy.Idle e (by-filing x) = never (let z : index.None ≡ index.Index k = rw e at x in cc)

@@ -12,7 +12,7 @@ use Rattle.thread.specs.declared.CpuIndex.{CpuIndex}
 use Rattle.thread.specs.declared.Link.{Link}
 use Rattle.thread.specs.declared.Link.the-variants as link
 use Rattle.thread.specs.declared.ThreadRecord.{ThreadRecord}
-use Rattle.thread.specs.Filing.{roleIndex}
+use Rattle.thread.specs.Filing.{roleIndex, fairIndex, budgetExhausted}
 use Rattle.thread.specs.Membership.{emptyLinks}
 use Rattle.thread.specs.Records.{withLinks}
 use Rattle.arbitration.specs.declared.CpuWindow.{CpuWindow}
@@ -38,7 +38,7 @@ pub data Fresher (now : ℕ) (a b : ThreadRecord) : Type 0 where
 -- with time left and is refreshed.
 pub data Shift (now p : ℕ) (a : ThreadRecord) (p′ : ℕ) (b : ThreadRecord) : Type 0 where
   stays : p′ ≡ p → b ≡ a → Shift now p a p′ b
-  shifts : 9 ≤ p → p < treeCount → p′ + 3 ≡ p → b ≡ refreshedTo now a → Shift now p a p′ b
+  shifts : budgetExhausted ≤ p → p < treeCount → p′ + 3 ≡ p → b ≡ refreshedTo now a → Shift now p a p′ b
 
 -- The head of tree k: none, and nobody stands there; or a thread that stands there and precedes every other that does.
 pub data Head (t : List ThreadRecord) (place : ℕ → ℕ) (k : ℕ) : Link → Type 0 where
@@ -49,7 +49,7 @@ pub data Head (t : List ThreadRecord) (place : ℕ → ℕ) (k : ℕ) : Link →
 pub data Standing (r : ThreadRecord) (k : ℕ) : Type 0 where
   in-fifo : (p : ThreadPriority) → r .parameters .policy ≡ policy.Fifo p → k ≡ roleIndex (r .parameters .role)
       → Standing r k
-  in-fair : r .parameters .policy ≡ policy.Fair → k ≡ 3 + roleIndex (r .parameters .role) → Standing r k
+  in-fair : r .parameters .policy ≡ policy.Fair → k ≡ fairIndex + roleIndex (r .parameters .role) → Standing r k
   in-budget : r .parameters .policy ≡ policy.Budget → BudgetTree (roleIndex (r .parameters .role)) k → Standing r k
 
 -- Queue r has all of queue q but its trees.

@@ -32,7 +32,7 @@ use Rattle.selection.specs.LookLaws.{refreshed-again}
 use Rattle.sound_queue.specs.PlaceLaws.{same-or-not}
 use Rattle.sound_selection.specs.Within.{pairParts, Under, Every}
 use Rattle.sound_selection.specs.PairLaws.{lesser-old, lesser-new, lesser-every}
-use Rattle.queue.specs.RunQueue.{treeCount}
+use Rattle.queue.specs.RunQueue.{treeCount, lastTree}
 
 -- The thread of a number, as an answer with this key.
 abbrev pub readyThread : List ThreadRecord → ℕ → DispatchKey → ReadyThread
@@ -102,8 +102,8 @@ module _ (t : List ThreadRecord) (heads : List Link) (now : ℕ) (d : Demand) (W
 
   -- It is the head of tree 11 - left, or of a later one.
   earlier-trees : {A : Type 0} (left i : ℕ) (k : DispatchKey) → left < treeCount → HeadKey (suc left) i k
-      → (getD heads (11 - left) link.None ≡ link.Some i → A) → (HeadKey left i k → A) → A
-  earlier-trees left i k low h f g = same-or-not (h .tree) (11 - left)
+      → (getD heads (lastTree - left) link.None ≡ link.Some i → A) → (HeadKey left i k → A) → A
+  earlier-trees left i k low h f g = same-or-not (h .tree) (lastTree - left)
       (λ z. f (subst (λ n. getD heads n link.None ≡ link.Some i) z (h .is)))
       (λ z. g (record {
         tree = h .tree;
@@ -151,27 +151,28 @@ module _ (t : List ThreadRecord) (heads : List Link) (now : ℕ) (d : Demand) (W
       clash : {A : Type 0} {i : ℕ} → link.None ≡ link.Some i → A
       clash z = never cc
 
-      not-here : getD heads (11 - left) link.None ≡ link.None → (c : Chosen) → Least left w best c
+      not-here : getD heads (lastTree - left) link.None ≡ link.None → (c : Chosen) → Least left w best c
           → Least (suc left) w best c
       not-here z c L = record {
         old = L .old;
         all = λ i k h. earlier-trees left i k low h (λ y. clash (sym z ∙ y)) (L .all i k);
         every = λ h g. L .every h (λ i k x. g i k (later-trees left i k x));
         fresh =
-            λ k i l m g. same-or-not k (11 - left) (λ y. clash (sym z ∙ ap (λ n. getD heads n link.None) (sym y) ∙ g))
+            λ k i l m g. same-or-not k (lastTree - left)
+            (λ y. clash (sym z ∙ ap (λ n. getD heads n link.None) (sym y) ∙ g))
             (λ y. L .fresh k i l (omega arith) g);
         stale = λ g. L .stale (λ k l m. g k l (omega arith));
         kept = L .kept;
       }
 
-      skips : getD heads (11 - left) link.None ≡ link.None
+      skips : getD heads (lastTree - left) link.None ≡ link.None
           → leastOf (suc left) t heads now d w best ≡ leastOf left t heads now d w best
       unfolding leastOf given onLink
       skips z = rw z
 
-      module _ (i : ℕ) (z : getD heads (11 - left) link.None ≡ link.Some i) where
+      module _ (i : ℕ) (z : getD heads (lastTree - left) link.None ≡ link.Some i) where
         inside : i < length t
-        inside = f (11 - left) i (omega arith) (omega arith) z
+        inside = f (lastTree - left) i (omega arith) (omega arith) z
 
         takes : leastOf (suc left) t heads now d w best ≡ leastOf left t heads now d W (readyWith t i W now d best)
         unfolding leastOf given onLink
@@ -181,7 +182,7 @@ module _ (t : List ThreadRecord) (heads : List Link) (now : ℕ) (d : Demand) (W
         still-fresh = ap (λ (x : CpuWindow). refreshed x now) (sym e) ∙ refreshed-again w now ∙ e
 
         key-of-head : (j : ℕ) (k : DispatchKey) → HeadKey (suc left) j k
-            → getD heads (11 - left) link.None ≡ link.Some j → Under (readyWith t i W now d best) (pairParts k j)
+            → getD heads (lastTree - left) link.None ≡ link.Some j → Under (readyWith t i W now d best) (pairParts k j)
         key-of-head j k h y =
             let q : i ≡ j = cc in
             subst (λ n. Under (readyWith t i W now d best) (pairParts k n)) q
@@ -195,7 +196,7 @@ module _ (t : List ThreadRecord) (heads : List Link) (now : ℕ) (d : Demand) (W
           every = λ h g. L .every
               (with-every t i W now d best inside P h
               (λ k m y. g i k (record {
-                tree = 11 - left;
+                tree = lastTree - left;
                 low = omega arith;
                 late = omega arith;
                 is = z;
@@ -205,11 +206,11 @@ module _ (t : List ThreadRecord) (heads : List Link) (now : ℕ) (d : Demand) (W
               })))
               (λ j k x. g j k (later-trees left j k x));
           fresh = λ k j l m g. L .kept refl;
-          stale = λ g. clash (sym (g (11 - left) (omega arith) (omega arith)) ∙ z);
+          stale = λ g. clash (sym (g (lastTree - left) (omega arith) (omega arith)) ∙ z);
           kept = λ g. L .kept refl;
         }
 
-      least-by : (x : Link) → getD heads (11 - left) link.None ≡ x
+      least-by : (x : Link) → getD heads (lastTree - left) link.None ≡ x
           → Least (suc left) w best (leastOf (suc left) t heads now d w best)
       least-by link.None z =
           subst (Least (suc left) w best) (sym (skips z))
@@ -224,4 +225,4 @@ module _ (t : List ThreadRecord) (heads : List Link) (now : ℕ) (d : Demand) (W
     least zero l = least-zero
     least (suc left) l =
         λ w best e f. least-by left (omega arith) (least left (omega arith)) w best e f
-        (getD heads (11 - left) link.None) refl
+        (getD heads (lastTree - left) link.None) refl

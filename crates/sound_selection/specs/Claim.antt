@@ -22,7 +22,7 @@ use Rattle.arbitration.specs.Window.{refreshed}
 use Rattle.arbitration.specs.Key.{compareKeys, keyOf}
 use Rattle.thread.specs.declared.CpuIndex.{CpuIndex}
 use Rattle.thread.specs.declared.ThreadRecord.{ThreadRecord}
-use Rattle.thread.specs.Filing.{budgetAvailable, roleIndex}
+use Rattle.thread.specs.Filing.{budgetAvailable, roleIndex, budgetReady}
 use Rattle.thread.specs.Records.{withRuntime}
 use Rattle.rows.specs.Table.{Out, out, recordOf, recordAt}
 use Rattle.lists.specs.Lists.{onAnswer}
@@ -69,7 +69,7 @@ keyNow t w now d j = keyOf (refreshed w now) now (candidateNow t now j) d
 -- queue's epoch is not e.
 unfoldable pub filedReady : CpuRunQueue → List ThreadRecord → ℕ → ℕ → Bool
 filedReady q t e j =
-    onContained (contains t (rootOf q (6 + roleIndex (recordOf t j .parameters .role))) j) true
+    onContained (contains t (rootOf q (budgetReady + roleIndex (recordOf t j .parameters .role))) j) true
     (not (isEpoch (q .«budget_epoch») e)) (not (isEpoch (q .«budget_epoch») e))
 
 -- The premises on a selection: a sound window that admits every queued thread, one fair backend among them, and budget

@@ -5,16 +5,16 @@ use mathlib.Core.Bool.{true, false}
 use Rattle.policy.specs.declared.SchedulingPolicy.the-variants as policy
 use Rattle.policy.specs.declared.ThreadPriority.{ThreadPriority}
 use Rattle.thread.specs.declared.ThreadRecord.{ThreadRecord}
-use Rattle.thread.specs.Filing.{budgetAvailable, roleIndex}
+use Rattle.thread.specs.Filing.{budgetAvailable, roleIndex, budgetExhausted, budgetReady, fairIndex}
 
 pub data Class (k : ℕ) (r : ThreadRecord) : Type 0 where
   fifo-class : (p : ThreadPriority) → r .parameters .policy ≡ policy.Fifo p → k ≡ roleIndex (r .parameters .role)
       → Class k r
-  fair-class : r .parameters .policy ≡ policy.Fair → k ≡ 3 + roleIndex (r .parameters .role) → Class k r
+  fair-class : r .parameters .policy ≡ policy.Fair → k ≡ fairIndex + roleIndex (r .parameters .role) → Class k r
   ready-class : r .parameters .policy ≡ policy.Budget → budgetAvailable (r .runtime) ≡ true
-      → k ≡ 6 + roleIndex (r .parameters .role) → Class k r
+      → k ≡ budgetReady + roleIndex (r .parameters .role) → Class k r
   exhausted-class : r .parameters .policy ≡ policy.Budget → budgetAvailable (r .runtime) ≡ false
-      → k ≡ 9 + roleIndex (r .parameters .role) → Class k r
+      → k ≡ budgetExhausted + roleIndex (r .parameters .role) → Class k r
 
 -- Of one kind and role, and of budgets both with time left or both without.
 pub data Alike (a b : ThreadRecord) : Type 0 where

@@ -17,7 +17,7 @@ use Rattle.arbitration.specs.declared.CpuWindow.{CpuWindow}
 use Rattle.window_config.specs.Config.{acceptsBudget, sameBackend, admitted}
 use Rattle.thread.specs.declared.CpuIndex.{CpuIndex}
 use Rattle.thread.specs.declared.ThreadRecord.{ThreadRecord}
-use Rattle.thread.specs.Filing.{budgetAvailable, roleIndex}
+use Rattle.thread.specs.Filing.{budgetAvailable, roleIndex, budgetExhausted, budgetReady, fairIndex}
 use Rattle.thread.specs.FilingLaws.{role-index-le}
 use Rattle.rows.specs.Table.{recordOf}
 use Rattle.ready_index.specs.declared.Contained.the-variants as contained
@@ -81,11 +81,11 @@ module _ {cpu : CpuIndex} {queued : ℕ → Bool} {q : CpuRunQueue} {t : List Th
     low : its-role ≤ 2
     low = role-index-le (recordOf t j .parameters .role)
 
-    contains-is : contains t (rootOf q (6 + its-role)) j
-        ≡ choose (eqb (S .place j) (6 + its-role)) contained.Yes contained.No
-    contains-is = contains-placed (S .forest) j (6 + its-role) (omega (arith, low)) (queued-inside S j e)
+    contains-is : contains t (rootOf q (budgetReady + its-role)) j
+        ≡ choose (eqb (S .place j) (budgetReady + its-role)) contained.Yes contained.No
+    contains-is = contains-placed (S .forest) j (budgetReady + its-role) (omega (arith, low)) (queued-inside S j e)
 
-    filed-by : (x : Bool) → eqb (S .place j) (6 + its-role) ≡ x
+    filed-by : (x : Bool) → eqb (S .place j) (budgetReady + its-role) ≡ x
         → filedReady q t (epoch S now w current) j
         ≡ choose x true (not (isEpoch (q .«budget_epoch») (epoch S now w current)))
     unfolding filedReady onContained choose
@@ -94,7 +94,7 @@ module _ {cpu : CpuIndex} {queued : ℕ → Bool} {q : CpuRunQueue} {t : List Th
 
     -- The premise's word agrees with the tree past the change of period.
     filed-left : BudgetTree its-role (T .sound .place j)
-        → filedReady q t (epoch S now w current) j ≡ ltb (T .sound .place j) 9
+        → filedReady q t (epoch S now w current) j ≡ ltb (T .sound .place j) budgetExhausted
     unfolding choose
     filed-left b = go (isEpoch (q .«budget_epoch») (epoch S now w current)) refl b
       where
@@ -105,16 +105,17 @@ module _ {cpu : CpuIndex} {queued : ℕ → Bool} {q : CpuRunQueue} {t : List Th
 
         go : (x : Bool) → isEpoch (q .«budget_epoch») (epoch S now w current) ≡ x
             → BudgetTree its-role (T .sound .place j)
-            → filedReady q t (epoch S now w current) j ≡ ltb (T .sound .place j) 9
+            → filedReady q t (epoch S now w current) j ≡ ltb (T .sound .place j) budgetExhausted
         go true h (with-time k) =
-            filed-by true (eq-eqb (S .place j) (6 + its-role) (sym (T .still h j) ∙ k))
-            ∙ sym (lt-ltb (T .sound .place j) 9 (omega (arith, low)))
+            filed-by true (eq-eqb (S .place j) (budgetReady + its-role) (sym (T .still h j) ∙ k))
+            ∙ sym (lt-ltb (T .sound .place j) budgetExhausted (omega (arith, low)))
         go true h (exhausted k) =
-            filed-by false (ne-eqb (S .place j) (6 + its-role) (λ z. omega (arith, T .still h j)))
-            ∙ rw h (sym (le-ltb (T .sound .place j) 9 (omega arith)))
+            filed-by false (ne-eqb (S .place j) (budgetReady + its-role) (λ z. omega (arith, T .still h j)))
+            ∙ rw h (sym (le-ltb (T .sound .place j) budgetExhausted (omega arith)))
         go false h b =
-            filed-by (eqb (S .place j) (6 + its-role)) refl ∙ always (eqb (S .place j) (6 + its-role)) h
-            ∙ sym (lt-ltb (T .sound .place j) 9 (T .clear h j (tree-low b)))
+            filed-by (eqb (S .place j) (budgetReady + its-role)) refl ∙ always
+            (eqb (S .place j) (budgetReady + its-role)) h
+            ∙ sym (lt-ltb (T .sound .place j) budgetExhausted (T .clear h j (tree-low b)))
           where
             tree-low : BudgetTree its-role (T .sound .place j) → T .sound .place j < treeCount
             tree-low (with-time k) = omega (arith, low)
@@ -134,7 +135,7 @@ module _ {cpu : CpuIndex} {queued : ℕ → Bool} {q : CpuRunQueue} {t : List Th
 
     module _ (P : Premises queued q t now w) where
       left-is : recordOf (T .table) j .parameters .policy ≡ policy.Budget → BudgetTree its-role (T .sound .place j)
-          → budgetAvailable (record-now .runtime) ≡ ltb (T .sound .place j) 9
+          → budgetAvailable (record-now .runtime) ≡ ltb (T .sound .place j) budgetExhausted
       unfolding isBudget onPolicy
       left-is x b =
           P .filing j e (rw (ap (λ (p : SchedulingParameters). p .policy) (sym (parameters-after j)) ∙ x))
@@ -143,15 +144,16 @@ module _ {cpu : CpuIndex} {queued : ℕ → Bool} {q : CpuRunQueue} {t : List Th
       class-by : Standing (recordOf (T .table) j) (T .sound .place j) → Class (T .sound .place j) record-now
       class-by (in-fifo p x y) = fifo-class p (ap (λ (r : SchedulingParameters). r .policy) same-now ∙ x) (y ∙ role-now)
       class-by (in-fair x y) =
-          fair-class (ap (λ (r : SchedulingParameters). r .policy) same-now ∙ x) (y ∙ ap (λ n. 3 + n) role-now)
+          fair-class (ap (λ (r : SchedulingParameters). r .policy) same-now ∙ x) (y ∙ ap (λ n. fairIndex + n) role-now)
       class-by (in-budget x (with-time y)) =
           ready-class (ap (λ (r : SchedulingParameters). r .policy) same-now ∙ x)
           (left-is x (with-time (omega (arith, role-then)))
-          ∙ lt-ltb (T .sound .place j) 9 (omega (arith, role-then, low))) (y ∙ ap (λ n. 6 + n) role-now)
+          ∙ lt-ltb (T .sound .place j) budgetExhausted (omega (arith, role-then, low)))
+          (y ∙ ap (λ n. budgetReady + n) role-now)
       class-by (in-budget x (exhausted y)) =
           exhausted-class (ap (λ (r : SchedulingParameters). r .policy) same-now ∙ x)
-          (left-is x (exhausted (omega (arith, role-then))) ∙ le-ltb (T .sound .place j) 9 (omega arith))
-          (y ∙ ap (λ n. 9 + n) role-now)
+          (left-is x (exhausted (omega (arith, role-then))) ∙ le-ltb (T .sound .place j) budgetExhausted (omega arith))
+          (y ∙ ap (λ n. budgetExhausted + n) role-now)
 
       -- Of the class of its tree.
       pub classed : Class (T .sound .place j) (refreshedTo now (recordOf t j))

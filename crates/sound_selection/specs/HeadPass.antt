@@ -19,7 +19,7 @@ use Rattle.thread.specs.Membership.{onLink, emptyLinks}
 use Rattle.rows.specs.Table.{Out, out, recordOf, keyAt}
 use Rattle.lists.specs.Lists.{onAnswer, onOut}
 use Rattle.sound_index.specs.Holds.{Precedes}
-use Rattle.queue.specs.RunQueue.{CpuRunQueue, treeCount}
+use Rattle.queue.specs.RunQueue.{CpuRunQueue, treeCount, lastTree}
 use Rattle.demands.specs.declared.Gathered.{Gathered}
 use Rattle.demands.specs.Demands.{candidateOf, gathered}
 use Rattle.selection.specs.Heads.{headAt, Heads, gatherHeads}
@@ -136,7 +136,7 @@ module _ (cpu : CpuIndex) (queued : ℕ → Bool) (now : ℕ) (q : CpuRunQueue) 
   module _ (left : ℕ) (low : left < treeCount) (t : List ThreadRecord) (S : Sound cpu queued q t) (heads : List Link)
       (g : Gathered) (b : Blank (suc left) heads) where
     -- An empty tree is passed over.
-    gathers-none : ((j : ℕ) → S .place j ≢ 11 - left) → (o : Out (Answer Heads)) → Gathers S now left heads g o
+    gathers-none : ((j : ℕ) → S .place j ≢ lastTree - left) → (o : Out (Answer Heads)) → Gathers S now left heads g o
         → Gathers S now (suc left) heads g o
     gathers-none n o G = record {
       table = G .table;
@@ -145,7 +145,7 @@ module _ (cpu : CpuIndex) (queued : ℕ → Bool) (now : ℕ) (q : CpuRunQueue) 
       is = G .is;
       passed = G .passed;
       before = λ k l. G .before k (omega arith);
-      each = λ k l m. same-or-not k (11 - left)
+      each = λ k l m. same-or-not k (lastTree - left)
           (λ z. subst (Found t (G .table) (S .place) now (G .found) k) (sym (G .before k (omega arith) ∙ b .1 k m))
           (nobody-found (λ j. subst (λ x. S .place j ≢ x) (sym z) (n j))))
           (λ z. G .each k l (omega arith));
@@ -154,25 +154,27 @@ module _ (cpu : CpuIndex) (queued : ℕ → Bool) (now : ℕ) (q : CpuRunQueue) 
     }
 
     -- A head, and then the rest.
-    module _ (i : ℕ) (e : S .place i ≡ 11 - left) (h : (j : ℕ) → S .place j ≡ 11 - left → j ≢ i → Precedes t i j)
+    module _ (i : ℕ) (e : S .place i ≡ lastTree - left)
+        (h : (j : ℕ) → S .place j ≡ lastTree - left → j ≢ i → Precedes t i j)
         (H : Headed S now i) where
       abbrev noted : List Link
-      noted = set heads (11 - left) (link.Some i)
+      noted = set heads (lastTree - left) (link.Some i)
 
       abbrev more : Gathered
       more = gathered g (candidateNow t now i)
 
       still-blank : Blank left noted
       still-blank = (
-        length-set heads (11 - left) (link.Some i) ∙ b .0,
-        λ k m. getD-set-other heads (11 - left) k (link.Some i) link.None (λ z. omega arith) ∙ b .1 k (omega arith),
+        length-set heads (lastTree - left) (link.Some i) ∙ b .0,
+        λ k m. getD-set-other heads (lastTree - left) k (link.Some i) link.None (λ z. omega arith) ∙ b .1 k
+            (omega arith),
       )
 
       module _ (o : Out (Answer Heads)) (G : Gathers (H .passed .sound) now left noted more o) where
-        here : getD (G .links) (11 - left) link.None ≡ link.Some i
+        here : getD (G .links) (lastTree - left) link.None ≡ link.Some i
         here =
-            G .before (11 - left) (omega arith)
-            ∙ getD-set-same heads (11 - left) (link.Some i) link.None (omega (arith, b .0))
+            G .before (lastTree - left) (omega arith)
+            ∙ getD-set-same heads (lastTree - left) (link.Some i) link.None (omega (arith, b .0))
 
         candidate-kept : (j : ℕ) → candidateNow (H .table) now j ≡ candidateNow t now j
         candidate-kept j = candidate-same t (H .table) now j (H .passed .fresher j)
@@ -197,16 +199,16 @@ module _ (cpu : CpuIndex) (queued : ℕ → Bool) (now : ℕ) (q : CpuRunQueue) 
           passed = both-passed S (H .passed) (G .passed);
           before =
               λ k l. G .before k (omega arith)
-              ∙ getD-set-other heads (11 - left) k (link.Some i) link.None (λ z. omega arith);
-          each = λ k l m. same-or-not k (11 - left)
+              ∙ getD-set-other heads (lastTree - left) k (link.Some i) link.None (λ z. omega arith);
+          each = λ k l m. same-or-not k (lastTree - left)
               (λ z. subst (λ n. Found t (G .table) (S .place) now (G .found) n (getD (G .links) n link.None)) (sym z)
-              (subst (Found t (G .table) (S .place) now (G .found) (11 - left)) (sym here)
+              (subst (Found t (G .table) (S .place) now (G .found) (lastTree - left)) (sym here)
               (found-head i e h own-end (within-trans (gathered-new g (candidateNow t now i)) (G .old)))))
               (λ z. found-same k (getD (G .links) k link.None) (G .each k l (omega arith)));
           old = within-trans (gathered-old g (candidateNow t now i)) (G .old);
           most =
               λ z p f. G .most z (gathered-most g (candidateNow t now i) z p
-              (f (11 - left) i (omega arith) (omega arith) here))
+              (f (lastTree - left) i (omega arith) (omega arith) here))
               (λ k n l m x. subst (λ c. Within (alone c) z) (sym (candidate-kept n)) (f k n l (omega arith) x));
         }
 
@@ -218,11 +220,11 @@ module _ (cpu : CpuIndex) (queued : ℕ → Bool) (now : ℕ) (q : CpuRunQueue) 
         unfolding onOut onAnswer
         gathers-then x y = rw (x, y) gathers-one
 
-    gathers-by : GathersAll left → (x : Link) → Head t (S .place) (11 - left) x
+    gathers-by : GathersAll left → (x : Link) → Head t (S .place) (lastTree - left) x
         → Gathers S now (suc left) heads g (onLink x (gatherHeads left t (q .indices) cpu now heads g)
         (λ id. onOut (headAt t id cpu now)
         (λ a t₁. onAnswer a (λ n. out (refused n) t₁)
-        (λ c. gatherHeads left t₁ (q .indices) cpu now (set heads (11 - left) (link.Some id)) (gathered g c)))))
+        (λ c. gatherHeads left t₁ (q .indices) cpu now (set heads (lastTree - left) (link.Some id)) (gathered g c)))))
     unfolding onLink
     gathers-by ih link.None (nobody-there n) =
         gathers-none n (gatherHeads left t (q .indices) cpu now heads g)
@@ -235,7 +237,7 @@ module _ (cpu : CpuIndex) (queued : ℕ → Bool) (now : ℕ) (q : CpuRunQueue) 
   gathers-suc : (left : ℕ) → left < treeCount → GathersAll left → GathersAll (suc left)
   unfolding gatherHeads given onAnswer
   gathers-suc left low ih t S heads g b =
-      let x = head-is (S .forest) (11 - left) (omega arith) in
+      let x = head-is (S .forest) (lastTree - left) (omega arith) in
       rw (x .1) (gathers-by left low t S heads g b ih (x .0) (x .2))
 
   -- All heads, and any number of the last ones.

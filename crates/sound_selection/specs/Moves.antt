@@ -34,6 +34,7 @@ use Rattle.sound_queue.specs.Sound.{Sound}
 use Rattle.sound_selection.specs.Changes.{Renewed, Head, nobody-there, first-of, stays}
 use Rattle.sound_selection.specs.ChangeLaws.{shift-trans, head-is}
 use Rattle.sound_selection.specs.OneMove.{OneMoved, one-moved}
+use Rattle.thread.specs.Filing.{budgetExhausted, budgetReady}
 
 -- Nothing done, and one after the other.
 unfoldable pub nothing-renewed : {cpu : CpuIndex} {queued : ℕ → Bool} {q : CpuRunQueue} {t : List ThreadRecord}
@@ -66,58 +67,67 @@ both-renewed S A B = record {
 
 -- The roots of a role's trees, stored back.
 module _ (l : List Root) (role : ℕ) (twelve : length l ≡ treeCount) (b : role < 3) where
-  pub stored-exhausted : (x : BudgetTrees) → getD (withTrees l role x) (9 + role) emptyRoot .root ≡ x .exhausted
+  pub stored-exhausted : (x : BudgetTrees) → getD (withTrees l role x) (budgetExhausted + role) emptyRoot .root
+      ≡ x .exhausted
   unfolding withTrees
   stored-exhausted x =
-      ap (λ (r : Root). r .root) (getD-set-other (set l (9 + role) (record { root = x .exhausted })) (6 + role)
-      (9 + role) (record { root = x .ready }) emptyRoot (λ z. omega arith)
-      ∙ getD-set-same l (9 + role) (record { root = x .exhausted }) emptyRoot (omega arith))
+      ap (λ (r : Root). r .root)
+      (getD-set-other (set l (budgetExhausted + role) (record { root = x .exhausted })) (budgetReady + role)
+      (budgetExhausted + role) (record { root = x .ready }) emptyRoot (λ z. omega arith)
+      ∙ getD-set-same l (budgetExhausted + role) (record { root = x .exhausted }) emptyRoot (omega arith))
 
-  pub stored-ready : (x : BudgetTrees) → getD (withTrees l role x) (6 + role) emptyRoot .root ≡ x .ready
+  pub stored-ready : (x : BudgetTrees) → getD (withTrees l role x) (budgetReady + role) emptyRoot .root ≡ x .ready
   unfolding withTrees
   stored-ready x =
-      ap (λ (r : Root). r .root) (getD-set-same (set l (9 + role) (record { root = x .exhausted })) (6 + role)
+      ap (λ (r : Root). r .root)
+      (getD-set-same (set l (budgetExhausted + role) (record { root = x .exhausted })) (budgetReady + role)
       (record { root = x .ready }) emptyRoot
-      (omega (arith, length-set l (9 + role) (record { root = x .exhausted }))))
+      (omega (arith, length-set l (budgetExhausted + role) (record { root = x .exhausted }))))
 
   -- As they were.
   pub stored-own : (moves : ℕ) → l
-      ≡ withTrees l role (budgetTrees (getD l (9 + role) emptyRoot .root) (getD l (6 + role) emptyRoot .root) moves)
+      ≡ withTrees l role
+      (budgetTrees (getD l (budgetExhausted + role) emptyRoot .root)
+      (getD l (budgetReady + role) emptyRoot .root) moves)
   unfolding withTrees
   stored-own moves =
-      sym (ap (λ (m : List Root). set m (6 + role) (getD l (6 + role) emptyRoot)) (set-getD l (9 + role) emptyRoot)
-      ∙ set-getD l (6 + role) emptyRoot)
+      sym (ap (λ (m : List Root). set m (budgetReady + role) (getD l (budgetReady + role) emptyRoot))
+      (set-getD l (budgetExhausted + role) emptyRoot)
+      ∙ set-getD l (budgetReady + role) emptyRoot)
 
   -- Twice.
   pub stored-twice : (x y : BudgetTrees) → withTrees (withTrees l role x) role y ≡ withTrees l role y
   unfolding withTrees
   stored-twice x y =
-      ap (λ (m : List Root). set m (6 + role) (record { root = y .ready }))
-      (set-comm (set l (9 + role) (record { root = x .exhausted })) (6 + role) (9 + role) (record { root = x .ready })
+      ap (λ (m : List Root). set m (budgetReady + role) (record { root = y .ready }))
+      (set-comm (set l (budgetExhausted + role) (record { root = x .exhausted })) (budgetReady + role)
+      (budgetExhausted + role) (record { root = x .ready })
       (record { root = y .exhausted }) (λ z. omega arith)
-      ∙ ap (λ (m : List Root). set m (6 + role) (record { root = x .ready }))
-      (set-set l (9 + role) (record { root = x .exhausted }) (record { root = y .exhausted })))
-      ∙ set-set (set l (9 + role) (record { root = y .exhausted })) (6 + role) (record { root = x .ready })
+      ∙ ap (λ (m : List Root). set m (budgetReady + role) (record { root = x .ready }))
+      (set-set l (budgetExhausted + role) (record { root = x .exhausted }) (record { root = y .exhausted })))
+      ∙ set-set (set l (budgetExhausted + role) (record { root = y .exhausted })) (budgetReady + role)
+      (record { root = x .ready })
       (record { root = y .ready })
 
 -- Whether a thread stands in an exhausted tree.
 unfoldable pub spent : (ℕ → ℕ) → ℕ → Bool
-spent place j = choose (ltb (place j) 9) false (ltb (place j) treeCount)
+spent place j = choose (ltb (place j) budgetExhausted) false (ltb (place j) treeCount)
 
-spent-yes : (place : ℕ → ℕ) (j : ℕ) → 9 ≤ place j → place j < treeCount → spent place j ≡ true
+spent-yes : (place : ℕ → ℕ) (j : ℕ) → budgetExhausted ≤ place j → place j < treeCount → spent place j ≡ true
 unfolding spent choose
-spent-yes place j a b = rw (le-ltb (place j) 9 a) (lt-ltb (place j) treeCount b)
+spent-yes place j a b = rw (le-ltb (place j) budgetExhausted a) (lt-ltb (place j) treeCount b)
 
-spent-no : (place : ℕ → ℕ) (j : ℕ) → place j < 9 → spent place j ≡ false
+spent-no : (place : ℕ → ℕ) (j : ℕ) → place j < budgetExhausted → spent place j ≡ false
 unfolding spent choose
-spent-no place j a = rw (lt-ltb (place j) 9 a)
+spent-no place j a = rw (lt-ltb (place j) budgetExhausted a)
 
 spent-by : (f g : ℕ → ℕ) (j : ℕ) → g j ≡ f j → spent g j ≡ spent f j
 unfolding spent
 spent-by f g j e = rw e
 
 -- One that moves out is one less.
-pub count-moved : (n i k : ℕ) (before after : ℕ → ℕ) → i < n → 9 ≤ before i → before i < treeCount → k < 9
+pub count-moved : (n i k : ℕ) (before after : ℕ → ℕ) → i < n → budgetExhausted ≤ before i → before i < treeCount
+    → k < budgetExhausted
     → ((j : ℕ) → after j ≡ placed i k before j)
     → count n (spent before) ≡ suc (count n (spent after))
 unfolding choose
@@ -137,19 +147,20 @@ pub record Drained {cpu : CpuIndex} {queued : ℕ → Bool} {q : CpuRunQueue} {t
   pub indices : queue .indices ≡ withTrees (q .indices) role trees
   pub renewed : Renewed S now queue table
   pub enough : count (length table) (spent (renewed .sound .place)) ≤ trees .moves
-  pub none-left : (j : ℕ) → renewed .sound .place j ≢ 9 + role
+  pub none-left : (j : ℕ) → renewed .sound .place j ≢ budgetExhausted + role
 
 module _ (cpu : CpuIndex) (queued : ℕ → Bool) (now role : ℕ) (b : role < 3) where
   abbrev pub Drains : ℕ → Type 0
   Drains moves =
       (q : CpuRunQueue) (t : List ThreadRecord) (S : Sound cpu queued q t) → count (length t) (spent (S .place)) ≤ moves
-      → Drained S now role (moveAll moves t (rootOf q (9 + role)) (rootOf q (6 + role)) now)
+      → Drained S now role (moveAll moves t (rootOf q (budgetExhausted + role)) (rootOf q (budgetReady + role)) now)
 
   module _ (q : CpuRunQueue) (t : List ThreadRecord) (S : Sound cpu queued q t) where
     abbrev own : ℕ → BudgetTrees
-    own moves = budgetTrees (rootOf q (9 + role)) (rootOf q (6 + role)) moves
+    own moves = budgetTrees (rootOf q (budgetExhausted + role)) (rootOf q (budgetReady + role)) moves
 
-    drained-now : (moves : ℕ) → count (length t) (spent (S .place)) ≤ moves → ((j : ℕ) → S .place j ≢ 9 + role)
+    drained-now : (moves : ℕ) → count (length t) (spent (S .place)) ≤ moves →
+        ((j : ℕ) → S .place j ≢ budgetExhausted + role)
         → Drained S now role (out (leaves (value tt) (own moves)) t)
     unfolding nothing-renewed
     drained-now moves c n = record {
@@ -163,31 +174,34 @@ module _ (cpu : CpuIndex) (queued : ℕ → Bool) (now role : ℕ) (b : role < 3
       none-left = n;
     }
 
-    inside : (i : ℕ) → S .place i ≡ 9 + role → i < length t
+    inside : (i : ℕ) → S .place i ≡ budgetExhausted + role → i < length t
     inside i e = placed-inside (S .forest) i (omega arith)
 
     -- A move, and then the rest.
-    module _ (n i : ℕ) (M : OneMoved S now role i n) (e : S .place i ≡ 9 + role)
+    module _ (n i : ℕ) (M : OneMoved S now role i n) (e : S .place i ≡ budgetExhausted + role)
         (c : count (length t) (spent (S .place)) ≤ suc n) where
       fewer : count (length (M .table)) (spent (M .renewed .sound .place)) ≤ n
       fewer =
-          let w = count-moved (length t) i (6 + role) (S .place) (M .renewed .sound .place) (inside i e) (omega arith)
+          let w = count-moved (length t) i (budgetReady + role) (S .place) (M .renewed .sound .place) (inside i e)
+          (omega arith)
           (omega arith) (omega arith) (M .places) in
           rw (M .renewed .len) (omega arith)
 
       module _ (D : Drained (M .renewed .sound) now role
-          (moveAll n (M .table) (rootOf (M .queue) (9 + role)) (rootOf (M .queue) (6 + role)) now)) where
-        exhausted-root : rootOf (M .queue) (9 + role) ≡ M .trees .exhausted
+          (moveAll n (M .table) (rootOf (M .queue) (budgetExhausted + role))
+          (rootOf (M .queue) (budgetReady + role)) now)) where
+        exhausted-root : rootOf (M .queue) (budgetExhausted + role) ≡ M .trees .exhausted
         exhausted-root = rw (M .indices) (stored-exhausted (q .indices) role (S .forest .twelve) b (M .trees))
 
-        ready-root : rootOf (M .queue) (6 + role) ≡ M .trees .ready
+        ready-root : rootOf (M .queue) (budgetReady + role) ≡ M .trees .ready
         ready-root = rw (M .indices) (stored-ready (q .indices) role (S .forest .twelve) b (M .trees))
 
         goes-on : moveAll n (M .table) (M .trees .exhausted) (M .trees .ready) now
             ≡ out (leaves (value tt) (D .trees)) (D .table)
         goes-on =
             ap (λ (x : Link). moveAll n (M .table) x (M .trees .ready) now) (sym exhausted-root)
-            ∙ ap (λ (x : Link). moveAll n (M .table) (rootOf (M .queue) (9 + role)) x now) (sym ready-root) ∙ D .is
+            ∙ ap (λ (x : Link). moveAll n (M .table) (rootOf (M .queue) (budgetExhausted + role)) x now)
+            (sym ready-root) ∙ D .is
 
         drained-then : Drained S now role (onOut (moveOne t (own n) i now)
             (λ s t₁. onLeaves s (λ k x. out (leaves (refused k) x) t₁)
@@ -206,14 +220,15 @@ module _ (cpu : CpuIndex) (queued : ℕ → Bool) (now role : ℕ) (b : role < 3
         }
 
     by-head : (moves : ℕ) (rest : ℕ → Out (Leaves (Unit {0}) BudgetTrees)) → count (length t) (spent (S .place)) ≤ moves
-        → ((i : ℕ) → S .place i ≡ 9 + role → Drained S now role (rest i)) → (x : Link) → Head t (S .place) (9 + role) x
+        → ((i : ℕ) → S .place i ≡ budgetExhausted + role → Drained S now role (rest i)) → (x : Link) → Head t
+        (S .place) (budgetExhausted + role) x
         → Drained S now role (onLink x (out (leaves (value tt) (own moves)) t) rest)
     unfolding onLink
     by-head moves rest c f link.None (nobody-there n) = drained-now moves c n
     by-head moves rest c f (link.Some i) (first-of j e h) = f j e
 
     -- No moves are left only where no thread is.
-    none-spent : count (length t) (spent (S .place)) ≤ 0 → (i : ℕ) → S .place i ≡ 9 + role → ⊥
+    none-spent : count (length t) (spent (S .place)) ≤ 0 → (i : ℕ) → S .place i ≡ budgetExhausted + role → ⊥
     none-spent c i e =
         let w = count-moved (length t) i 0 (S .place) (placed i 0 (S .place)) (inside i e) (omega arith) (omega arith)
         (omega arith) (λ j. refl) in
@@ -222,14 +237,14 @@ module _ (cpu : CpuIndex) (queued : ℕ → Bool) (now role : ℕ) (b : role < 3
   drains-zero : Drains zero
   unfolding moveAll onAnswer
   drains-zero q t S c =
-      let h = head-is (S .forest) (9 + role) (omega arith) in
+      let h = head-is (S .forest) (budgetExhausted + role) (omega arith) in
       rw (h .1) (by-head q t S zero (λ id. out (leaves (refused damaged) (own q t S 0)) t) c
       (λ i e. absurd (none-spent q t S c i e)) (h .0) (h .2))
 
   drains-suc : (n : ℕ) → Drains n → Drains (suc n)
   unfolding moveAll onAnswer
   drains-suc n ih q t S c =
-      let h = head-is (S .forest) (9 + role) (omega arith) in
+      let h = head-is (S .forest) (budgetExhausted + role) (omega arith) in
       rw (h .1) (by-head q t S (suc n) _ c
       (λ i e. let M = one-moved S now role i n b e in
       drained-then q t S n i M e c (ih (M .queue) (M .table) (M .renewed .sound) (fewer q t S n i M e c))) (h .0)

@@ -20,7 +20,7 @@ use Rattle.algorithms.specs.declared.PolicyRuntime.the-variants as runtime
 use Rattle.algorithms.specs.Runtime.{epochRefreshed}
 use Rattle.thread.specs.declared.CpuIndex.{CpuIndex}
 use Rattle.thread.specs.declared.ThreadRecord.{ThreadRecord}
-use Rattle.thread.specs.Filing.{roleIndex}
+use Rattle.thread.specs.Filing.{roleIndex, budgetExhausted, budgetReady}
 use Rattle.thread.specs.FilingLaws.{role-index-le}
 use Rattle.thread.specs.Judgement.{isBadRecord}
 use Rattle.thread.specs.Records.{withRuntime}
@@ -52,7 +52,7 @@ use Rattle.sound_selection.specs.Changes.{Renewed}
 use Rattle.sound_selection.specs.ChangeLaws.{bare-besides, bare-bad, standing}
 
 -- A thread that stands in an exhausted tree is a budget thread of that role.
-exhausted-there : (r : ThreadRecord) (role : ℕ) → role < 3 → Standing r (9 + role)
+exhausted-there : (r : ThreadRecord) (role : ℕ) → role < 3 → Standing r (budgetExhausted + role)
     → (r .parameters .policy ≡ policy.Budget) × (roleIndex (r .parameters .role) ≡ role)
 exhausted-there r role b (in-fifo p e k) = absurd (omega (arith, role-index-le (r .parameters .role)))
 exhausted-there r role b (in-fair e k) = absurd (omega (arith, role-index-le (r .parameters .role)))
@@ -65,25 +65,26 @@ pub record OneMoved {cpu : CpuIndex} {queued : ℕ → Bool} {q : CpuRunQueue} {
   pub trees : BudgetTrees
   pub queue : CpuRunQueue
   pub table : List ThreadRecord
-  pub is : moveOne t (budgetTrees (rootOf q (9 + role)) (rootOf q (6 + role)) moves) i now
+  pub is : moveOne t (budgetTrees (rootOf q (budgetExhausted + role)) (rootOf q (budgetReady + role)) moves) i now
       ≡ out (leaves (value tt) trees) table
   pub indices : queue .indices ≡ withTrees (q .indices) role trees
   pub renewed : Renewed S now queue table
-  pub places : (j : ℕ) → renewed .sound .place j ≡ placed i (6 + role) (S .place) j
+  pub places : (j : ℕ) → renewed .sound .place j ≡ placed i (budgetReady + role) (S .place) j
 
 module _ {cpu : CpuIndex} {queued : ℕ → Bool} {q : CpuRunQueue} {t : List ThreadRecord} (S : Sound cpu queued q t)
-    (now role i moves : ℕ) (b : role < 3) (at : S .place i ≡ 9 + role) where
+    (now role i moves : ℕ) (b : role < 3) (at : S .place i ≡ budgetExhausted + role) where
   is-queued : queued i ≡ true
   is-queued = sym (S .stands i) ∙ lt-ltb (S .place i) treeCount (omega arith)
 
   there : (recordOf t i .parameters .policy ≡ policy.Budget) × (roleIndex (recordOf t i .parameters .role) ≡ role)
   there =
       exhausted-there (recordOf t i) role b
-      (standing (recordOf t i) (9 + role) (subst (Filed (recordOf t i)) at (S .threads i is-queued .filed)))
+      (standing (recordOf t i) (budgetExhausted + role)
+      (subst (Filed (recordOf t i)) at (S .threads i is-queued .filed)))
 
   module _ (y : PolicyRuntime) (p : BudgetParameters) (g : recordOf t i .parameters .budget ≡ option.Some p)
       (k : epochRefreshed (recordOf t i .runtime) now (recordOf t i .parameters) ≡ value y)
-      (M : Moved cpu queued q t (S .place) i (6 + role) y) where
+      (M : Moved cpu queued q t (S .place) i (budgetReady + role) y) where
     abbrev between : List ThreadRecord
     between = changed (M .out-of) i (withRuntime y)
 
@@ -113,25 +114,26 @@ module _ {cpu : CpuIndex} {queued : ℕ → Bool} {q : CpuRunQueue} {t : List Th
         (refresh-budget now (recordOf (M .out-of) i) its-judgement (M .out-of) i p y (rw its-parameters g)
         (rw (its-parameters, its-runtime) k))
 
-    removes : remove t (rootOf q (9 + role)) i ≡ out (rooted.Root (M .rest)) (M .out-of)
+    removes : remove t (rootOf q (budgetExhausted + role)) i ≡ out (rooted.Root (M .rest)) (M .out-of)
     removes = subst (λ n. remove t (rootOf q n) i ≡ out (rooted.Root (M .rest)) (M .out-of)) at (M .removes)
 
-    inserts : insert between (rootOf q (6 + role)) i ≡ out (rooted.Root (M .top)) (M .table)
+    inserts : insert between (rootOf q (budgetReady + role)) i ≡ out (rooted.Root (M .top)) (M .table)
     inserts =
         subst (λ (x : Root). insert between (x .root) i ≡ out (rooted.Root (M .top)) (M .table))
-        (getD-set-other (q .indices) (S .place i) (6 + role) (record { root = M .rest }) emptyRoot (λ z. omega arith))
+        (getD-set-other (q .indices) (S .place i) (budgetReady + role) (record { root = M .rest }) emptyRoot
+        (λ z. omega arith))
         (M .inserts)
 
     abbrev trees : BudgetTrees
     trees = budgetTrees (M .rest) (M .top) moves
 
-    moves-it : moveOne t (budgetTrees (rootOf q (9 + role)) (rootOf q (6 + role)) moves) i now
+    moves-it : moveOne t (budgetTrees (rootOf q (budgetExhausted + role)) (rootOf q (budgetReady + role)) moves) i now
         ≡ out (leaves (value tt) trees) (M .table)
     unfolding moveOne onRooted onOut onAnswer
     moves-it = rw (removes, refreshes-there, inserts)
 
     place-of : (j : ℕ) → j ≢ i → M .sound .place j ≡ S .place j
-    place-of j d = M .places j ∙ placed-other i (6 + role) (S .place) j d
+    place-of j d = M .places j ∙ placed-other i (budgetReady + role) (S .place) j d
 
     bare-other : (j : ℕ) → j ≢ i → bareAt (M .table) j ≡ bareAt t j
     unfolding bareAt
@@ -149,7 +151,8 @@ module _ {cpu : CpuIndex} {queued : ℕ → Bool} {q : CpuRunQueue} {t : List Th
     shift : (j : ℕ) → Shift now (S .place j) (bareAt t j) (M .sound .place j) (bareAt (M .table) j)
     shift j = same-or-not j i
         (λ z. subst (λ n. Shift now (S .place n) (bareAt t n) (M .sound .place n) (bareAt (M .table) n)) (sym z)
-        (shifts (omega arith) (omega arith) (omega (arith, M .places i, placed-same i (6 + role) (S .place))) bare-own))
+        (shifts (omega arith) (omega arith)
+        (omega (arith, M .places i, placed-same i (budgetReady + role) (S .place))) bare-own))
         (λ z. stays (place-of j z) (bare-other j z))
 
     one-moved-by : OneMoved S now role i moves
@@ -157,11 +160,13 @@ module _ {cpu : CpuIndex} {queued : ℕ → Bool} {q : CpuRunQueue} {t : List Th
     one-moved-by = record {
       trees = trees;
       queue =
-          withRoots q (set (set (q .indices) (S .place i) (record { root = M .rest })) (6 + role)
+          withRoots q (set (set (q .indices) (S .place i) (record { root = M .rest })) (budgetReady + role)
           (record { root = M .top }));
       table = M .table;
       is = moves-it;
-      indices = ap (λ n. set (set (q .indices) n (record { root = M .rest })) (6 + role) (record { root = M .top })) at;
+      indices = ap
+          (λ n. set (set (q .indices) n (record { root = M .rest })) (budgetReady + role)
+          (record { root = M .top })) at;
       renewed = record {
         sound = M .sound;
         beside = record { realtime = refl; total = refl; fair = refl; epoch = refl; budgets = refl; halted = refl };
@@ -180,7 +185,7 @@ module _ {cpu : CpuIndex} {queued : ℕ → Bool} {q : CpuRunQueue} {t : List Th
   one-moved-of (budgeted x p e f g h k) =
       let y = runtime.Budget (budget.refreshed x now p) in
       one-moved-by y p g k
-      (moved S i (6 + role) y is-queued e
+      (moved S i (budgetReady + role) y is-queued e
       (budget-judged now (recordOf t i) (S .threads i is-queued .judged) (budget.refreshed x now p) p e g h)
       (with-time (omega (arith, there .1))))
 

@@ -245,7 +245,7 @@ module _ (now : ℕ) (r : ThreadRecord) where
     where
       go : (y : Bool) → soundBudget q ≡ y → refreshedTo now (refreshedTo now r) ≡ refreshedTo now r
       go true h = sound-again x q e f h
-      go false h = once (not-refreshed-by now r 6 (not-sound (r .runtime) x now (r .parameters) q e f h))
+      go false h = once (not-refreshed-by now r badBudget (not-sound (r .runtime) x now (r .parameters) q e f h))
 
   pub refreshed-again : refreshedTo now (refreshedTo now r) ≡ refreshedTo now r
   refreshed-again = again-by (r .runtime) (r .parameters .budget) refl refl

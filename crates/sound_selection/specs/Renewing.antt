@@ -29,6 +29,7 @@ use Rattle.sound_queue.specs.Runtimes.{trees-sound}
 use Rattle.sound_selection.specs.Changes.{bareAt, Shift, stays, shifts}
 use Rattle.sound_selection.specs.ChangeLaws.{shift-trans}
 use Rattle.sound_selection.specs.Moves.{spent, Drained, drains}
+use Rattle.thread.specs.Filing.{budgetExhausted, budgetReady}
 
 -- What a change of period, or none, leaves. Where the epoch was this one nothing has moved; where not, no exhausted
 -- tree has a thread.
@@ -42,17 +43,20 @@ pub record Turned {cpu : CpuIndex} {queued : ℕ → Bool} {q : CpuRunQueue} {t 
   pub shift : (j : ℕ) → Shift now (S .place j) (bareAt t j) (sound .place j) (bareAt table j)
   pub others : (j : ℕ) → queued j ≡ false → recordAt table j ≡ recordAt t j
   pub still : isEpoch (q .«budget_epoch») e ≡ true → (j : ℕ) → sound .place j ≡ S .place j
-  pub clear : isEpoch (q .«budget_epoch») e ≡ false → (j : ℕ) → sound .place j < treeCount → sound .place j < 9
+  pub clear : isEpoch (q .«budget_epoch») e ≡ false → (j : ℕ) → sound .place j < treeCount
+      → sound .place j < budgetExhausted
 
 -- One role, and then the others.
 role-done : (left moves now : ℕ) (t s : List ThreadRecord) (roots : List Root) (x : BudgetTrees)
-    → moveAll moves t (rootAt roots (9 + (2 - left))) (rootAt roots (6 + (2 - left))) now ≡ out (leaves (value tt) x) s
+    → moveAll moves t (rootAt roots (budgetExhausted + (2 - left))) (rootAt roots (budgetReady + (2 - left))) now
+    ≡ out (leaves (value tt) x) s
     → renewRoles (suc left) moves t roots now ≡ renewRoles left (x .moves) s (withTrees roots (2 - left) x) now
 unfolding renewRoles given onOut onLeaves
 role-done left moves now t s roots x e = rw e
 
 -- A tree that is empty stays so.
-stays-empty : {now p : ℕ} {a : ThreadRecord} {p′ : ℕ} {b : ThreadRecord} (n : ℕ) → 9 ≤ n → Shift now p a p′ b → p ≢ n
+stays-empty : {now p : ℕ} {a : ThreadRecord} {p′ : ℕ} {b : ThreadRecord} (n : ℕ) → budgetExhausted ≤ n
+    → Shift now p a p′ b → p ≢ n
     → p′ ≢ n
 stays-empty n g (stays e f) h z = h (sym e ∙ z)
 stays-empty n g (shifts a c e f) h z = omega arith
@@ -75,7 +79,7 @@ module _ {cpu : CpuIndex} {queued : ℕ → Bool} {q : CpuRunQueue} {t : List Th
   }
 
   -- The three roles, one after the other.
-  module _ (A : Drained S now 0 (moveAll (length t) t (rootOf q 9) (rootOf q 6) now))
+  module _ (A : Drained S now 0 (moveAll (length t) t (rootOf q budgetExhausted) (rootOf q budgetReady) now))
       (B : Drained (A .renewed .sound) now 1
       (moveAll (A .trees .moves) (A .table) (rootOf (A .queue) 10) (rootOf (A .queue) 7) now))
       (C : Drained (B .renewed .sound) now 2
@@ -112,10 +116,11 @@ module _ {cpu : CpuIndex} {queued : ℕ → Bool} {q : CpuRunQueue} {t : List Th
     whole-shift : (j : ℕ) → Shift now (S .place j) (bareAt t j) (C .renewed .sound .place j) (bareAt (C .table) j)
     whole-shift j = shift-trans (A .renewed .shift j) (shift-trans (B .renewed .shift j) (C .renewed .shift j))
 
-    emptied : (j : ℕ) → C .renewed .sound .place j < treeCount → C .renewed .sound .place j < 9
+    emptied : (j : ℕ) → C .renewed .sound .place j < treeCount → C .renewed .sound .place j < budgetExhausted
     emptied j l =
-        let a : C .renewed .sound .place j ≢ 9 = stays-empty 9 (omega arith) (C .renewed .shift j)
-        (stays-empty 9 (omega arith) (B .renewed .shift j) (A .none-left j)) in
+        let a : C .renewed .sound .place j ≢ budgetExhausted = stays-empty budgetExhausted (omega arith)
+        (C .renewed .shift j)
+        (stays-empty budgetExhausted (omega arith) (B .renewed .shift j) (A .none-left j)) in
         let b : C .renewed .sound .place j ≢ 10 = stays-empty 10 (omega arith) (C .renewed .shift j) (B .none-left j) in
         let c : C .renewed .sound .place j ≢ 11 = C .none-left j in
         omega arith

@@ -18,14 +18,25 @@ budgetAvailable r = onRuntime r false (λ fair. false) (λ b. ifEqual (b .«rema
 unfoldable pub roleIndex : SchedulingRole → ℕ
 roleIndex r = onRole r 0 1 2
 
+-- The first tree of a kind; that of FIFO is 0. After `FAIR`, `BUDGET_READY` and `BUDGET_EXHAUSTED` of
+-- scheduler/queue.rs.
+abbrev pub fairIndex : ℕ
+fairIndex = 3
+
+abbrev pub budgetReady : ℕ
+budgetReady = 6
+
+abbrev pub budgetExhausted : ℕ
+budgetExhausted = 9
+
 -- FIFO 0 to 2, Fair 3 to 5, Budget with time left 6 to 8, exhausted 9 to 11, each by role; none for Idle.
 unfoldable pub indexFor : SchedulingParameters → PolicyRuntime → IndexFor
 indexFor p r =
     given (roleIndex (p .role))
     (λ role. onPolicy (p .policy)
     (λ priority. index.Index role)
-    (index.Index (3 + role))
-    (choose (budgetAvailable r) (index.Index (6 + role)) (index.Index (9 + role)))
+    (index.Index (fairIndex + role))
+    (choose (budgetAvailable r) (index.Index (budgetReady + role)) (index.Index (budgetExhausted + role)))
     index.None)
 
 -- None first.
