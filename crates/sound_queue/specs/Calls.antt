@@ -10,7 +10,7 @@ use native.Mathlib.Nat.{mod-lt}
 use lib.ListN.{length, List·getD-map}
 use lib.Dec.{eqb}
 use borrow.Author.Tests.{eqb-true, ne-eqb}
-use Rattle.refusal.specs.Answer.{value, refused, already}
+use Rattle.refusal.specs.Answer.{value, refused, damaged, badState, already}
 use Rattle.refusal.specs.Cases.{never, choose, ifEqual}
 use Rattle.policy.specs.declared.SchedulingPolicy.the-variants as policy
 use Rattle.thread.specs.declared.CpuIndex.{CpuIndex}
@@ -102,10 +102,10 @@ module _ {cpu : CpuIndex} {queued : ℕ → Bool} {q : CpuRunQueue} {t : List Th
         }) front)
     judged-enqueue front p l b d true e false g =
         let F = filing (recordOf t i .parameters) (recordOf t i .runtime) d in
-        unchanged 2 (judged-passes t q i (F .tree) _ (S .forest .small) (S .running) l b (F .is) ∙ rw (e, g))
+        unchanged badState (judged-passes t q i (F .tree) _ (S .forest .small) (S .running) l b (F .is) ∙ rw (e, g))
     judged-enqueue front p l b d false e y g =
         let F = filing (recordOf t i .parameters) (recordOf t i .runtime) d in
-        unchanged 3 (judged-passes t q i (F .tree) _ (S .forest .small) (S .running) l b (F .is) ∙ rw e)
+        unchanged already (judged-passes t q i (F .tree) _ (S .forest .small) (S .running) l b (F .is) ∙ rw e)
 
     enqueue-by : (front : Bool) → PriorityFits (recordOf t i .parameters .policy) → Verdict t q i
         → Fine cpu queued (including i queued) i q t (enqueueCall front t q i cpu)
@@ -137,7 +137,7 @@ module _ {cpu : CpuIndex} {queued : ℕ → Bool} {q : CpuRunQueue} {t : List Th
     absent-by e (refuses n r) = (n, r _)
     absent-by e (passes l b d) =
         let F = filing (recordOf t i .parameters) (recordOf t i .runtime) d in (
-          1,
+          damaged,
           judged-passes t q i (F .tree) _ (S .forest .small) (S .running) l b (F .is)
               ∙ rw (in-no-tree S i e l (F .tree) (F .is) (F .low)),
         )

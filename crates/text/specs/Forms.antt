@@ -39,7 +39,8 @@ nextWord line = given (drop (run 32 line) line) (λ l. take (before 32 l) l)
 unfoldable pub behindWord : List ℕ → List ℕ
 behindWord line = given (drop (run 32 line) line) (λ l. drop (before 32 l) l)
 
--- The place of a name among the first so many.
+-- The place of a name among the first so many. (Where there are fewer names than that, a word that is none of them has
+-- the place behind the last: a caller counts no more names than it lends.)
 unfoldable pub nameOf : List ℕ → ℕ → List ℕ → Decimal
 nameOf names count word =
     given (placeIn word (namesOf 32 names)) (λ n. ifLess n count (decimal.Number n) decimal.None)

@@ -222,7 +222,8 @@ fn no_word(line: &[u8], from: usize) -> bool
 
 // Whether a line goes with a form, and the value of each word of the form. In a form `#` is a number, `@` one of the
 // first `count` names or its number behind a `#`, `=` a new name where there are fewer than `most`, `^` a letter, `a|b`
-// one of these words and any other itself; what follows `..` may be left out.
+// one of these words and any other itself; what follows `..` may be left out. Count no more names than are lent: with a
+// greater count a word that is no name has the place behind the last.
 pub fn fit(
     form: &[u8],
     line: &[u8],
