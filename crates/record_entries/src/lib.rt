@@ -36,6 +36,7 @@ use policy::SchedulingPolicy;
 use policy::ThreadPriority;
 use policy::ThreadWeight;
 use policy::WeightOption;
+use policy_words::DeadlineWords;
 use policy_words::FIFO_PRIORITY;
 use policy_words::POLICY_TAG;
 use policy_words::ParameterWords;
@@ -59,7 +60,9 @@ use policy_words::words_of_policy;
 use policy_words::words_of_runtime;
 
 // A budget's parameters, and its runtime.
-type BudgetWords = [u64; 3];
+pub const BUDGET_WORDS: usize = 3;
+
+pub type BudgetWords = [u64; BUDGET_WORDS];
 
 const BUDGET: usize = 0;
 
@@ -77,13 +80,20 @@ const TIME_LEFT: usize = 2;
 
 const BURST_LEFT: usize = 3;
 
+// The constants; a policy, or a priority that may be absent, as its tag and its number; a pass and a turn.
+type ConstantWords = [u64; 6];
+
+type PairWords = [u64; 2];
+
+type RuntimeKeyWords = [u64; 3];
+
 // BudgetParameters::new
 #[no_mangle]
 pub extern "C" fn budget_parameters_new(
     budget_ns: u64,
     period_ns: u64,
     burst_ns: u64,
-    answer: &mut [u64; 3],
+    answer: &mut BudgetWords,
 ) -> u64
     ensures { λ r. ⌜ told r (budgetOf (now (answer .exit))) ≡ toldOf (budgetOf (now (answer .entry)))
         (newBudget «budget_ns» «period_ns» «burst_ns») ⌝ }
@@ -122,7 +132,7 @@ pub extern "C" fn thread_priority_new(value: u8) -> u8
 // The constants: the highest, the normal and the lowest priority, the default and the greatest weight, the longest
 // period.
 #[no_mangle]
-pub extern "C" fn policy_constants(answer: &mut [u64; 6])
+pub extern "C" fn policy_constants(answer: &mut ConstantWords)
     ensures { λ r. ⌜ now (answer .exit) ≡ constants ⌝ }
 {
     let highest = ThreadPriority::HIGHEST;
@@ -141,7 +151,7 @@ pub extern "C" fn policy_constants(answer: &mut [u64; 6])
 
 // SchedulingPolicy::fifo
 #[no_mangle]
-pub extern "C" fn policy_fifo(priority: u8, answer: &mut [u64; 2])
+pub extern "C" fn policy_fifo(priority: u8, answer: &mut PairWords)
     ensures { λ r. ⌜ policyOf (now (answer .exit)) ≡ SchedulingPolicy.Fifo (record { 0 = priority }) ⌝ }
 {
     let made = SchedulingPolicy::fifo(ThreadPriority(priority));
@@ -150,7 +160,7 @@ pub extern "C" fn policy_fifo(priority: u8, answer: &mut [u64; 2])
 
 // SchedulingPolicy::fair
 #[no_mangle]
-pub extern "C" fn policy_fair(answer: &mut [u64; 2])
+pub extern "C" fn policy_fair(answer: &mut PairWords)
     ensures { λ r. ⌜ policyOf (now (answer .exit)) ≡ SchedulingPolicy.Fair ⌝ }
 {
     *answer = words_of_policy(SchedulingPolicy::fair());
@@ -158,7 +168,7 @@ pub extern "C" fn policy_fair(answer: &mut [u64; 2])
 
 // SchedulingPolicy::class and SchedulingPolicy::priority, on a policy's two words. The classes are 0 to 3.
 #[no_mangle]
-pub extern "C" fn policy_class_and_priority(tag: u64, priority: u64, answer: &mut [u64; 2]) -> u64
+pub extern "C" fn policy_class_and_priority(tag: u64, priority: u64, answer: &mut PairWords) -> u64
     ensures { λ r. ⌜ told r (priorityOptionOf (now (answer .exit)))
         ≡ told (classNumber (classOf (policyFrom tag priority))) (priorityOf (policyFrom tag priority)) ⌝ }
 {
@@ -167,7 +177,7 @@ pub extern "C" fn policy_class_and_priority(tag: u64, priority: u64, answer: &mu
     number_of_class(policy.class())
 }
 
-fn words_of_priority(priority: PriorityOption) -> [u64; 2]
+fn words_of_priority(priority: PriorityOption) -> PairWords
     ensures { λ w. ⌜ priorityOptionOf w ≡ priority ⌝ }
 {
     match priority {
@@ -342,7 +352,7 @@ fn store_budget_runtime(runtime: &mut RuntimeWords, answer: BudgetAnswer) -> u64
     }
 }
 
-fn store_deadline(answer: &mut [u64; 2], given: DeadlineAnswer) -> u64
+fn store_deadline(answer: &mut DeadlineWords, given: DeadlineAnswer) -> u64
     ensures { λ r. ⌜ told r (deadlineOf (now (answer .exit))) ≡ toldOf (deadlineOf (now (answer .entry)))
         (deadlineAnswer given) ⌝ }
 {
@@ -410,7 +420,7 @@ pub extern "C" fn budget_finish_turn(runtime: &mut RuntimeWords, budget: &Budget
 pub extern "C" fn budget_period_deadline(
     now_ns: u64,
     budget: &BudgetWords,
-    answer: &mut [u64; 2],
+    answer: &mut DeadlineWords,
 ) -> u64
     ensures { λ r. ⌜ told r (deadlineOf (now (answer .exit))) ≡ toldOf (deadlineOf (now (answer .entry)))
         (budgets.periodDeadline «now_ns» (budgetOf (now (budget .entry)))) ⌝ }
@@ -421,7 +431,7 @@ pub extern "C" fn budget_period_deadline(
 
 fn store_budget_deadline(
     runtime: &mut RuntimeWords,
-    answer: &mut [u64; 2],
+    answer: &mut DeadlineWords,
     given: BudgetDeadline,
 ) -> u64
     ensures { λ r. ⌜ told r (budgetRuntimeOf (now (runtime .exit)), deadlineOf (now (answer .exit)))
@@ -444,7 +454,7 @@ pub extern "C" fn budget_deadline(
     now_ns: u64,
     budget: &BudgetWords,
     borrow: bool,
-    answer: &mut [u64; 2],
+    answer: &mut DeadlineWords,
 ) -> u64
     ensures { λ r. ⌜ told r (budgetRuntimeOf (now (runtime .exit)), deadlineOf (now (answer .exit)))
         ≡ toldOf (budgetRuntimeOf (now (runtime .entry)), deadlineOf (now (answer .entry)))
@@ -565,7 +575,7 @@ pub extern "C" fn runtime_finish_turn(row: &Row, answer: &mut PolicyRuntimeWords
     store_runtime(answer, given)
 }
 
-fn words_of_runtime_key(key: RuntimeKey) -> [u64; 3]
+fn words_of_runtime_key(key: RuntimeKey) -> RuntimeKeyWords
     ensures { λ w. ⌜ runtimeKeyOf w ≡ key ⌝ }
 {
     let pass = key.pass;
@@ -574,7 +584,7 @@ fn words_of_runtime_key(key: RuntimeKey) -> [u64; 3]
 
 // PolicyRuntime::candidate_key
 #[no_mangle]
-pub extern "C" fn runtime_candidate_key(row: &Row, turn: u64, answer: &mut [u64; 3])
+pub extern "C" fn runtime_candidate_key(row: &Row, turn: u64, answer: &mut RuntimeKeyWords)
     ensures { λ r. ⌜ runtimeKeyOf (now (answer .exit)) ≡ runtimes.candidateKey (runtimeOf (now (row .entry)))
         (parametersOf (now (row .entry))) turn ⌝ }
 {
@@ -596,7 +606,7 @@ pub extern "C" fn runtime_same_kind(row: &Row) -> bool
 
 fn store_runtime_deadline(
     after: &mut PolicyRuntimeWords,
-    answer: &mut [u64; 2],
+    answer: &mut DeadlineWords,
     given: RuntimeDeadline,
 ) -> u64
     ensures { λ r. ⌜ told r (policyRuntimeOf (now (after .exit)), deadlineOf (now (answer .exit)))
@@ -620,7 +630,7 @@ pub extern "C" fn runtime_next_deadline(
     competition: bool,
     borrow: bool,
     after: &mut PolicyRuntimeWords,
-    answer: &mut [u64; 2],
+    answer: &mut DeadlineWords,
 ) -> u64
     ensures { λ r. ⌜ told r (policyRuntimeOf (now (after .exit)), deadlineOf (now (answer .exit)))
         ≡ toldOf (policyRuntimeOf (now (after .entry)), deadlineOf (now (answer .entry)))

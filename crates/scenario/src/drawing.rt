@@ -4,9 +4,10 @@ use crate::printing::listed;
 use crate::printing::mode;
 use crate::printing::name;
 use crate::printing::plain;
+use crate::printing::put;
+use crate::printing::put_one;
 use crate::run::PICTURE;
 use crate::run::Run;
-use text::print;
 use text::saturating_add;
 use time::saturating_sub;
 use window_words::WINDOW_PERIOD;
@@ -61,10 +62,9 @@ fn shaded(left: u64, right: u64, height: u64, now: u64) {
     let place = [left, TOP, saturating_sub(right, left), height];
     let n = text::rectangle(&mut out, 0, &place, b"#d04040' fill-opacity='0.13");
     text::print_page(&out, n);
-    print(
+    put(
         b"\n<text x='%a' y='44' fill='#b03030'>protection due at %b</text>\n",
         &[left, now],
-        b"",
     );
 }
 
@@ -99,17 +99,16 @@ fn mode_in(left: u64, width: u64, y: u64, its_mode: u64) {
     if width < WIDE {
         return;
     }
-    print(
+    put(
         b"<text x='%a' y='%b' fill='white' font-size='11'>",
         &[saturating_add(left, 5), saturating_add(y, 14)],
-        b"",
     );
     mode(its_mode, b"%@</text>\n");
 }
 
 // A bar in the colour of a hook, by its letter, with a mark where it is chosen.
 fn bar_at(left: u64, width: u64, y: u64, hook: u64) {
-    print(b"<rect x='%a' y='%b' width='%c' ", &[left, y, width], b"");
+    put(b"<rect x='%a' y='%b' width='%c' ", &[left, y, width]);
     listed(
         b"height='20' fill='%@'/>\n",
         b"#9a9a9a|#2878b8|#e07b20|#3a9a50",
@@ -157,15 +156,13 @@ pub fn measured(given: Run, span: u64, lanes: u64) -> Run {
 // Up to the title.
 pub fn begin(x: Run) {
     let height = [saturating_add(down(x.lanes), 70)];
-    print(
+    put(
         b"<svg xmlns='http://www.w3.org/2000/svg' version='1.1' width='1000' height='%a' ",
         &height,
-        b"",
     );
-    print(
+    put(
         b"font-family='sans-serif' font-size='12'>\n<rect width='1000' height='%a' fill='white'/>\n",
         &height,
-        b"",
     );
     plain(b"<text x='12' y='24' font-size='16'>");
 }
@@ -173,10 +170,9 @@ pub fn begin(x: Run) {
 // A lane's name and line.
 fn lane(x: Run, id: u64) {
     let width = saturating_sub(across(x.unit, x.span), LEFT);
-    print(
+    put(
         b"<path d='M150 %a h%b' stroke='#d0d0d0'/>\n<text x='12' y='%a'>",
         &[saturating_add(down(id), 20), width],
-        b"",
     );
     name(x, id, b"%@</text>\n");
 }
@@ -195,10 +191,9 @@ fn edge(unit: u64, bottom: u64, reading: u64) {
     let mut out = [0u8; PAGE];
     let n = text::dashes(&mut out, 0, &[x, TOP, bottom]);
     text::print_page(&out, n);
-    print(
+    put(
         b"\n<text x='%a' y='%b' text-anchor='middle'>%c</text>\n",
         &[x, saturating_add(bottom, 14), reading],
-        b"",
     );
 }
 
@@ -246,15 +241,13 @@ fn legend(y: u64) {
         b"protected window",
     );
     text::print_page(&out, d);
-    print(
+    put_one(
         b"<path d='M682 %a v12' stroke='black' stroke-dasharray='5 3'/>",
-        &[y],
-        b"",
+        y,
     );
-    print(
+    put_one(
         b"<text x='692' y='%a'>edge of a period; times in nanoseconds</text>\n",
-        &[below],
-        b"",
+        below,
     );
 }
 

@@ -5,6 +5,7 @@ use crate::printing::mode;
 use crate::printing::name;
 use crate::printing::plain;
 use crate::printing::say;
+use crate::printing::say_one;
 use crate::printing::tell;
 use crate::run::NOBODY;
 use crate::run::Run;
@@ -28,7 +29,7 @@ struct Walk {
 fn key_parts(x: Run) {
     let k = x.key;
     say(
-        x,
+        x.output,
         b", urgency %a, rank %b, then algorithm rank %c, algorithm %d:%e, band %f, turn %g",
         &[
             k[window_words::KEY_URGENCY],
@@ -74,7 +75,7 @@ fn with_key(t: &[Row], x: Run, id: u64, now: u64) -> Run {
 // The thread that selection names.
 fn chosen(t: &[Row], given: Run, now: u64) -> Run {
     if given.selected[board_words::SELECTED_TAG] == 0 {
-        tell(given, b": nobody\n");
+        tell(given.output, b": nobody\n");
         return given;
     }
     let id = given.selected[board_words::SELECTED_ID];
@@ -88,7 +89,7 @@ fn chosen(t: &[Row], given: Run, now: u64) -> Run {
 fn demand(x: Run) {
     let d = x.demand;
     say(
-        x,
+        x.output,
         b"  demand: protected %a, fair %b, window sensitive %c, eligible budget %d, any budget %e; ",
         &[
             d[window_words::DEMAND_PROTECTED],
@@ -103,11 +104,11 @@ fn demand(x: Run) {
 fn lowest(x: Run) {
     let s = x.selected;
     if s[board_words::MIN_PASS_TAG] == 0 {
-        tell(x, b"no fair pass\n");
+        tell(x.output, b"no fair pass\n");
         return;
     }
     say(
-        x,
+        x.output,
         b"lowest fair pass %a:%b\n",
         &[s[board_words::MIN_PASS_HIGH], s[board_words::MIN_PASS_LOW]],
     );
@@ -115,12 +116,16 @@ fn lowest(x: Run) {
 
 fn window(x: Run) {
     if x.window[window_words::EPOCH_TAG] == 0 {
-        tell(x, b"  window: no epoch");
+        tell(x.output, b"  window: no epoch");
     } else {
-        say(x, b"  window: epoch %a", &[x.window[window_words::EPOCH]]);
+        say_one(
+            x.output,
+            b"  window: epoch %a",
+            x.window[window_words::EPOCH],
+        );
     }
     say(
-        x,
+        x.output,
         b", allowance left %a, floor left %b\n",
         &[
             x.window[window_words::ALLOWANCE_LEFT],
@@ -243,7 +248,7 @@ fn others(t: &[Row], x: Run, head: Walk) {
         told_behind(x, w.member);
         left -= 1;
     }
-    tell(x, b"\n");
+    tell(x.output, b"\n");
 }
 
 // A tree that is not empty.

@@ -3,11 +3,11 @@ use crate::performing::performed;
 use crate::performing::told;
 use crate::printing::SPACE;
 use crate::printing::plain;
+use crate::printing::put_one;
 use crate::printing::refusal;
 use crate::run::Run;
 use crate::run::TEXT;
 use crate::statements;
-use text::print;
 
 const MARK: u8 = 35;
 
@@ -53,7 +53,7 @@ fn answer(x: Run, statement: u64) {
 }
 
 fn quote(number: u64, line: &[u8], statement: u64) {
-    print(b"line %a: ", &[number], b"");
+    put_one(b"line %a: ", number);
     if statement == statements::NONE {
         plain(b"not understood: ");
     }

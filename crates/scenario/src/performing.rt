@@ -3,6 +3,7 @@ use crate::calls;
 use crate::explaining::explain;
 use crate::printing::listed;
 use crate::printing::say;
+use crate::printing::say_one;
 use crate::printing::tell;
 use crate::run::MOST_RECORDS;
 use crate::run::MOST_THREADS;
@@ -153,23 +154,23 @@ fn told_choice(x: Run) {
 
 fn told_deadline(x: Run) {
     if x.deadline[calls::IS_THERE] == 0 {
-        tell(x, b": none\n");
+        tell(x.output, b": none\n");
         return;
     }
-    say(x, b": %a\n", &[x.deadline[calls::WHEN]]);
+    say_one(x.output, b": %a\n", x.deadline[calls::WHEN]);
 }
 
 fn told_lengths(x: Run) {
     let n = x.lengths;
     say(
-        x,
+        x.output,
         b": real time %a, fair %b, budget %c\n",
         &[n[calls::REAL_TIME], n[calls::FAIR], n[calls::BUDGET]],
     );
 }
 
 fn told_word(x: Run) {
-    say(x, b": was %a\n", &[x.former]);
+    say_one(x.output, b": was %a\n", x.former);
 }
 
 // The answer of a statement, in a text; a selection and a run have theirs behind them.
@@ -189,8 +190,12 @@ pub fn told(x: Run, statement: u64) {
 
 fn told_other(x: Run, statement: u64) {
     if statement < statements::FIFO {
-        tell(x, b": made\n");
+        tell(x.output, b": made\n");
         return;
     }
-    say(x, b": thread %a\n", &[time::saturating_sub(x.threads, 1)]);
+    say(
+        x.output,
+        b": thread %a\n",
+        &[time::saturating_sub(x.threads, 1)],
+    );
 }

@@ -16,10 +16,25 @@ const BAR: u8 = 124;
 // No list has as many words.
 const BEYOND: u64 = 63;
 
-// A template with its values, in a text.
-pub fn say(x: Run, template: &[u8], values: &[u64]) {
-    if x.output == TEXT {
-        print(template, values, b"");
+// A template with its values, or with one. (A caller that has less to hand over is cheaper to check.)
+pub fn put(template: &[u8], values: &[u64]) {
+    print(template, values, b"");
+}
+
+pub fn put_one(template: &[u8], value: u64) {
+    print(template, &[value], b"");
+}
+
+// The same, in a text.
+pub fn say(output: u64, template: &[u8], values: &[u64]) {
+    if output == TEXT {
+        put(template, values);
+    }
+}
+
+pub fn say_one(output: u64, template: &[u8], value: u64) {
+    if output == TEXT {
+        put_one(template, value);
     }
 }
 
@@ -29,8 +44,8 @@ pub fn plain(words: &[u8]) {
 }
 
 // Words alone, in a text.
-pub fn tell(x: Run, words: &[u8]) {
-    if x.output == TEXT {
+pub fn tell(output: u64, words: &[u8]) {
+    if output == TEXT {
         io::write_all(STDOUT, words);
     }
 }
@@ -60,7 +75,7 @@ fn part(template: &[u8], list: &[u8], start: usize, end: usize) {
 // The name of a thread; # and its number where it has none.
 pub fn name(x: Run, id: u64, template: &[u8]) {
     if x.threads <= id {
-        print(b"#%a", &[id], b"");
+        put_one(b"#%a", id);
         return;
     }
     let mut names = x.names;
@@ -90,5 +105,5 @@ pub fn refusal(number: u64) {
         b"made|Damaged|BadState|Already|NoThread|BadConfig|BadBudget|BackInTime|TurnsSpent|Halted|BadTable|BadRecord",
         number,
     );
-    print(b"(%a)\n", &[number], b"");
+    put_one(b"(%a)\n", number);
 }

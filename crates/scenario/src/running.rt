@@ -6,8 +6,10 @@ use crate::explaining::explain;
 use crate::printing::mode;
 use crate::printing::name;
 use crate::printing::plain;
+use crate::printing::put;
+use crate::printing::put_one;
 use crate::printing::refusal;
-use crate::printing::say;
+use crate::printing::say_one;
 use crate::printing::tell;
 use crate::run::Run;
 use crate::run::TEXT;
@@ -15,7 +17,6 @@ use crate::run::at;
 use crate::run::with;
 use codec::Row;
 use lent_queue::QueueRows;
-use text::print;
 
 // A run of more wakes and stretches is stopped.
 const MOST_CYCLES: u64 = 4096;
@@ -56,7 +57,7 @@ fn selected(q: &mut QueueRows, t: &mut [Row], x: Run) -> Run {
     if b.number != 0 || b.explains == 0 {
         return b;
     }
-    say(b, b"at %a", &[b.now]);
+    say_one(b.output, b"at %a", b.now);
     explain(q, t, b, b.now)
 }
 
@@ -144,27 +145,26 @@ fn why(x: Run) {
         return;
     }
     mode(x.key[window_words::KEY_MODE], b"%16@");
-    print(
+    put(
         b"%7a%5b",
         &[
             x.key[window_words::KEY_URGENCY],
             x.key[window_words::KEY_RANK],
         ],
-        b"",
     );
 }
 
 fn until(x: Run, length: u64) {
     if x.deadline[calls::IS_THERE] == 0 {
-        print(b"%10a      none\n", &[length], b"");
+        put_one(b"%10a      none\n", length);
         return;
     }
-    print(b"%10a%10b\n", &[length, x.deadline[calls::WHEN]], b"");
+    put(b"%10a%10b\n", &[length, x.deadline[calls::WHEN]]);
 }
 
 // A line: who runs from when, why, for how long, and until which deadline at the latest.
 fn told(x: Run, length: u64) {
-    print(b"%9a  ", &[x.now], b"");
+    put_one(b"%9a  ", x.now);
     name(x, x.current, b"%16@");
     why(x);
     until(x, length);
@@ -230,9 +230,9 @@ fn closed(given: Run) -> Run {
     if x.number == 0 && x.until <= x.now {
         return x;
     }
-    say(x, b"line %a", &[x.line]);
+    say_one(x.output, b"line %a", x.line);
     if x.number == 0 {
-        tell(x, b": stopped\n");
+        tell(x.output, b": stopped\n");
     } else if x.output == TEXT {
         refusal(x.number);
     }
@@ -244,7 +244,7 @@ pub fn run(q: &mut QueueRows, t: &mut [Row], given: Run, until: u64) -> Run {
     let mut x = given;
     x.until = until;
     tell(
-        x,
+        x.output,
         b":\n  reading  thread          why             urgency rank       for  deadline\n",
     );
     closed(cycles(q, t, x))

@@ -1,4 +1,5 @@
-// The statements with their forms (crate text says what stands in a form), in the order in which a line is tried.
+// The statements with their forms (crate text says what stands in a form), in the order of their numbers, in which a
+// line is tried.
 use crate::run::MOST_THREADS;
 use crate::run::Run;
 
@@ -58,6 +59,9 @@ pub const IDLE: u64 = 23;
 // A line that is no statement.
 pub const NONE: u64 = 24;
 
+// Between the forms.
+const NEW_LINE: u8 = 10;
+
 // More than the words of a form, which give a value each.
 const VALUES: usize = 12;
 
@@ -74,85 +78,55 @@ struct Fit {
     values: Values,
 }
 
-// By one form.
-fn by(x: Run, form: &[u8], line: &[u8]) -> Fit {
+// By the n-th of some forms.
+fn by(x: Run, forms: &[u8], n: u64, line: &[u8]) -> Fit {
     let names = x.names;
     let mut values = [0u64; VALUES];
-    let goes = text::fit(form, line, &names, x.threads, MOST_THREADS, &mut values);
+    let form = text::nth(forms, NEW_LINE, n as usize);
+    let start = form.start;
+    let end = form.end;
+    let goes = text::fit(
+        &forms[start..end],
+        line,
+        &names,
+        x.threads,
+        MOST_THREADS,
+        &mut values,
+    );
     Fit { goes, values }
 }
 
-fn of_board(x: Run, n: u64, line: &[u8]) -> Fit {
-    match n {
-        WINDOW => by(x, b"window # # # # # # # .. prefer-fair", line),
-        SWITCH => by(x, b"switch # # #", line),
-        WAKE => by(x, b"wake @ # at #", line),
-        RECORDS => by(x, b"records #", line),
-        EXPLAIN => by(x, b"explain off|on", line),
-        WINDOW_WORD => by(x, b"word window # #", line),
-        _ => by(x, b"word turns # #", line),
-    }
-}
-
-fn of_table(x: Run, n: u64, line: &[u8]) -> Fit {
-    match n {
-        PREPARE => by(x, b"prepare @ back|front #", line),
-        ACCOUNT => by(
-            x,
-            b"account @ strict|priority|protected|ordinary|borrow # #",
-            line,
-        ),
-        FINISH => by(x, b"finish @", line),
-        EXPIRED => by(x, b"expired @", line),
-        _ => by(x, b"word record @ # #", line),
-    }
-}
-
-fn of_queue(x: Run, n: u64, line: &[u8]) -> Fit {
-    match n {
-        ENQUEUE => by(x, b"enqueue @", line),
-        ENQUEUE_FRONT => by(x, b"enqueue-front @", line),
-        REMOVE => by(x, b"remove @", line),
-        LENGTHS => by(x, b"lengths", line),
-        QUEUE_WORD => by(x, b"word queue # # #", line),
-        SELECT => by(x, b"select # .. current @", line),
-        DEADLINE => by(x, b"deadline @ #", line),
-        _ => by(x, b"run #", line),
-    }
-}
-
-fn of_thread(x: Run, n: u64, line: &[u8]) -> Fit {
-    match n {
-        FIFO => by(
-            x,
-            b"thread = fifo # ordinary|priority|protected .. hook ^",
-            line,
-        ),
-        FAIR => by(
-            x,
-            b"thread = fair stride|round-robin # # ordinary|priority|protected .. hook ^",
-            line,
-        ),
-        BUDGET => by(
-            x,
-            b"thread = budget # # # ordinary|priority|protected .. hook ^",
-            line,
-        ),
-        _ => by(x, b"thread = idle .. hook ^", line),
-    }
-}
-
+// By the form of the n-th statement.
 fn by_form(x: Run, n: u64, line: &[u8]) -> Fit {
-    if n < PREPARE {
-        return of_board(x, n, line);
-    }
-    if n < ENQUEUE {
-        return of_table(x, n, line);
-    }
-    if n < FIFO {
-        return of_queue(x, n, line);
-    }
-    of_thread(x, n, line)
+    by(
+        x,
+        b"window # # # # # # # .. prefer-fair\n\
+            switch # # #\n\
+            wake @ # at #\n\
+            records #\n\
+            explain off|on\n\
+            word window # #\n\
+            word turns # #\n\
+            prepare @ back|front #\n\
+            account @ strict|priority|protected|ordinary|borrow # #\n\
+            finish @\n\
+            expired @\n\
+            word record @ # #\n\
+            enqueue @\n\
+            enqueue-front @\n\
+            remove @\n\
+            lengths\n\
+            word queue # # #\n\
+            select # .. current @\n\
+            deadline @ #\n\
+            run #\n\
+            thread = fifo # ordinary|priority|protected .. hook ^\n\
+            thread = fair stride|round-robin # # ordinary|priority|protected .. hook ^\n\
+            thread = budget # # # ordinary|priority|protected .. hook ^\n\
+            thread = idle .. hook ^",
+        n,
+        line,
+    )
 }
 
 // What a line says.

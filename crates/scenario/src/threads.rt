@@ -81,7 +81,7 @@ fn hook(statement: u64, a: Values) -> u64 {
 
 // Document 01's number for a thread's parameters.
 fn judged(statement: u64, a: Values) -> u64 {
-    let mut made = [0u64; 3];
+    let mut made = [0u64; record_entries::BUDGET_WORDS];
     if statement == statements::BUDGET {
         return record_entries::budget_parameters_new(a[3], a[4], a[5], &mut made);
     }

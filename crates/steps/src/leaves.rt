@@ -17,6 +17,7 @@ use policy_words::RUNTIME_FOURTH;
 use policy_words::RUNTIME_SECOND;
 use policy_words::RUNTIME_TAG;
 use policy_words::RUNTIME_THIRD;
+use record_entries::BUDGET_WORDS;
 use record_entries::budget_parameters_new;
 use record_entries::runtime_account;
 use record_entries::runtime_epoch_refresh;
@@ -25,7 +26,7 @@ use record_entries::runtime_new;
 use record_entries::runtime_next_deadline;
 
 pub fn budget(a: Numbers) -> u64 {
-    let mut answer = [0u64; 3];
+    let mut answer = [0u64; BUDGET_WORDS];
     budget_parameters_new(a[0], a[1], a[2], &mut answer)
 }
 

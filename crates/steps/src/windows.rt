@@ -19,19 +19,21 @@ use crate::places::twelve;
 use crate::reading::Numbers;
 use board::board_key;
 use codec::Row;
+use policy_words::DEADLINE_WORDS;
 use window_entries::config_new;
 use window_entries::dispatch_keys_compare;
 use window_entries::window_account_dispatch;
 use window_entries::window_protection_deadline;
+use window_words::WindowWords;
 
-fn protection(t: &mut [Row], w: &mut [u64; 12], a: Numbers) -> u64 {
-    let mut due = [0u64; 2];
+fn protection(t: &mut [Row], w: &mut WindowWords, a: Numbers) -> u64 {
+    let mut due = [0u64; DEADLINE_WORDS];
     let number = window_protection_deadline(w, a[0], a[1] != 0, &mut due);
     set_two(t, DUE, &due);
     number
 }
 
-fn key(t: &mut [Row], w: &mut [u64; 12], reading: u64) -> u64 {
+fn key(t: &mut [Row], w: &mut WindowWords, reading: u64) -> u64 {
     let mut answer = nine(row_at(t, KEY));
     let demand = five(row_at(t, DEMAND));
     let candidate = row_at(t, CURRENT);
@@ -40,12 +42,12 @@ fn key(t: &mut [Row], w: &mut [u64; 12], reading: u64) -> u64 {
     number
 }
 
-fn interval(t: &[Row], w: &mut [u64; 12], a: Numbers) -> u64 {
+fn interval(t: &[Row], w: &mut WindowWords, a: Numbers) -> u64 {
     let row = row_at(t, places::record(a[0]));
     window_account_dispatch(w, a[2], a[3], &row, a[1])
 }
 
-fn changed(t: &mut [Row], w: &mut [u64; 12], letter: u64, a: Numbers) -> u64 {
+fn changed(t: &mut [Row], w: &mut WindowWords, letter: u64, a: Numbers) -> u64 {
     match letter {
         CONFIG => config_new(w),
         PROTECTION => protection(t, w, a),
