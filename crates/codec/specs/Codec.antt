@@ -11,7 +11,7 @@ use Rattle.thread.specs.declared.QueueMembership.{QueueMembership}
 use Rattle.thread.specs.declared.QueueMembership.the-variants as membership
 use Rattle.thread.specs.declared.QueueLinks.{QueueLinks}
 use Rattle.thread.specs.declared.ThreadRecord.{ThreadRecord}
-pub use Rattle.policy_words.specs.PolicyWords.{word}
+pub use Rattle.policy_words.specs.PolicyWords.{word, rowWords}
 unfoldable pub use Rattle.policy_words.specs.PolicyWords.{
   policyFrom,
   roleFrom,

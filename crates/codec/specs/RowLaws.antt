@@ -15,127 +15,150 @@ use Rattle.thread.specs.declared.ThreadRecord.{ThreadRecord}
 use Rattle.thread.specs.TreeKey.{algorithmKey, treeKey, readyIndexKey}
 use Rattle.thread.specs.Records.{withParameters, withRuntime, withTurn, withLinks, withLeft, withRight, withHeight}
 use Rattle.thread.specs.Records.{withQueueLinks, withCpu}
-use Rattle.codec.specs.Codec.{word, runtimeFrom, linkFrom, membershipFrom, parametersOf, runtimeOf, linksOf}
-use Rattle.codec.specs.Codec.{queueLinksOf, decoded, readyTurn, leftTag, leftWord, rightTag, rightWord}
+use Rattle.codec.specs.Codec.{word, rowWords, runtimeFrom, linkFrom, membershipFrom, parametersOf, runtimeOf}
+use Rattle.codec.specs.Codec.{linksOf, queueLinksOf, decoded, readyTurn, leftTag, leftWord, rightTag, rightWord}
 use Rattle.codec.specs.Codec.{heightWord, previousTag, previousWord, nextTag, nextWord, membershipTag}
 use Rattle.codec.specs.Codec.{membershipFirst, membershipSecond, cpuWord}
-use Rattle.policy_words.specs.PolicyWords.{bandWord}
+use Rattle.policy_words.specs.PolicyWords.{policyTag, fifoPriority, bandWord, roleTag, weightWord}
+use Rattle.policy_words.specs.PolicyWords.{quantumWord, backendTag, budgetTag, budgetWord, budgetPeriod, budgetBurst}
+use Rattle.policy_words.specs.PolicyWords.{runtimeTag, runtimeFirst, runtimeSecond, runtimeThird, runtimeFourth}
 pub use Rattle.policy_words.specs.ByWords.{by-words}
 
+-- A row with a word as another list has it, and with the words of one part stored: of parameters, a runtime, tree
+-- links, list links with the membership.
+abbrev over : ℕ → List ℕ → List ℕ → List ℕ
+over k a r = set r k (word a k)
+
+abbrev parametersStored : List ℕ → List ℕ → List ℕ
+parametersStored r a =
+    over budgetBurst a (over budgetPeriod a (over budgetWord a (over budgetTag a (over backendTag a (over quantumWord a
+    (over weightWord a (over roleTag a (over bandWord a (over fifoPriority a (over policyTag a r))))))))))
+
+abbrev runtimeStored : List ℕ → List ℕ → List ℕ
+runtimeStored r a =
+    set (set (set (set (set r runtimeTag (word a 0)) runtimeFirst (word a 1)) runtimeSecond (word a 2))
+    runtimeThird (word a 3)) runtimeFourth (word a 4)
+
+abbrev leftStored : List ℕ → List ℕ → List ℕ
+leftStored r a = set (set r leftTag (word a 0)) leftWord (word a 1)
+
+abbrev rightStored : List ℕ → List ℕ → List ℕ
+rightStored r a = set (set r rightTag (word a 0)) rightWord (word a 1)
+
+abbrev linksStored : List ℕ → List ℕ → List ℕ → ℕ → List ℕ
+linksStored r a b height = set (rightStored (leftStored r a) b) heightWord height
+
+abbrev pub previousStored : List ℕ → List ℕ → List ℕ
+previousStored r a = set (set r previousTag (word a 0)) previousWord (word a 1)
+
+abbrev pub nextStored : List ℕ → List ℕ → List ℕ
+nextStored r a = set (set r nextTag (word a 0)) nextWord (word a 1)
+
+abbrev queueLinksStored : List ℕ → List ℕ → List ℕ → List ℕ → List ℕ
+queueLinksStored r a b m =
+    set (set (set (nextStored (previousStored r a) b) membershipTag (word m 0)) membershipFirst (word m 1))
+    membershipSecond (word m 2)
+
 pub parameters-stored : (r : List ℕ) (p : SchedulingParameters) (a : List ℕ)
-    → length r ≡ 32
+    → length r ≡ rowWords
     → parametersOf a ≡ p
-    → decoded (set (set (set (set (set
-    (set (set (set (set (set (set r 0 (word a 0)) 1 (word a 1)) 2 (word a 2)) 3 (word a 3)) 4 (word a 4)) 5 (word a 5))
-    6 (word a 6)) 7 (word a 7)) 8 (word a 8)) 9 (word a 9)) 10 (word a 10)) ≡ withParameters p (decoded r)
+    → decoded (parametersStored r a) ≡ withParameters p (decoded r)
 unfolding decoded parametersOf runtimeOf linksOf queueLinksOf
 parameters-stored r p a size e =
-    by-words 32 (λ (r : List ℕ). decoded
-    (set (set (set (set (set (set (set (set (set (set (set r 0 (word a 0)) 1 (word a 1)) 2 (word a 2)) 3 (word a 3)) 4
-    (word a 4)) 5 (word a 5)) 6 (word a 6)) 7 (word a 7)) 8 (word a 8)) 9 (word a 9)) 10 (word a 10))
-    ≡ withParameters p (decoded r))
+    by-words rowWords (λ (r : List ℕ). decoded (parametersStored r a) ≡ withParameters p (decoded r))
     (λ x0 x1 x2 x3 x4 x5 x6 x7 x8 x9 x10 x11 x12 x13 x14 x15 x16 x17 x18 x19 x20 x21 x22 x23 x24 x25 x26 x27 x28 x29 x30
     x31. rw (sym e) refl)
     r size
 
 pub runtime-stored : (r : List ℕ) (x : PolicyRuntime) (a : List ℕ)
-    → length r ≡ 32
+    → length r ≡ rowWords
     → runtimeFrom (word a 0) (word a 1) (word a 2) (word a 3) (word a 4) ≡ x
-    → decoded (set (set (set (set (set r 11 (word a 0)) 12 (word a 1)) 13 (word a 2)) 14 (word a 3)) 15 (word a 4))
-    ≡ withRuntime x (decoded r)
+    → decoded (runtimeStored r a) ≡ withRuntime x (decoded r)
 unfolding decoded parametersOf runtimeOf linksOf queueLinksOf
 runtime-stored r x a size e =
-    by-words 32 (λ (r : List ℕ). decoded
-    (set (set (set (set (set r 11 (word a 0)) 12 (word a 1)) 13 (word a 2)) 14 (word a 3)) 15 (word a 4))
-    ≡ withRuntime x (decoded r))
+    by-words rowWords (λ (r : List ℕ). decoded (runtimeStored r a) ≡ withRuntime x (decoded r))
     (λ x0 x1 x2 x3 x4 x5 x6 x7 x8 x9 x10 x11 x12 x13 x14 x15 x16 x17 x18 x19 x20 x21 x22 x23 x24 x25 x26 x27 x28 x29 x30
-    x31. rw (e))
+    x31. rw e)
     r size
 
 pub turn-stored : (r : List ℕ) (n : ℕ)
-    → length r ≡ 32
-    → decoded (set r 16 n) ≡ withTurn n (decoded r)
+    → length r ≡ rowWords
+    → decoded (set r readyTurn n) ≡ withTurn n (decoded r)
 unfolding decoded parametersOf runtimeOf linksOf queueLinksOf
 turn-stored r n size =
-    by-words 32 (λ (r : List ℕ). decoded (set r 16 n) ≡ withTurn n (decoded r))
+    by-words rowWords (λ (r : List ℕ). decoded (set r readyTurn n) ≡ withTurn n (decoded r))
     (λ x0 x1 x2 x3 x4 x5 x6 x7 x8 x9 x10 x11 x12 x13 x14 x15 x16 x17 x18 x19 x20 x21 x22 x23 x24 x25 x26 x27 x28 x29 x30
     x31. refl)
     r size
 
 pub links-stored : (r : List ℕ) (l : Links) (a b : List ℕ) (height : ℕ)
-    → length r ≡ 32
+    → length r ≡ rowWords
     → linkFrom (word a 0) (word a 1) ≡ l .left
     → linkFrom (word b 0) (word b 1) ≡ l .right
     → height % 256 ≡ l .height
-    → decoded (set (set (set (set (set r 17 (word a 0)) 18 (word a 1)) 19 (word b 0)) 20 (word b 1)) 21 height)
-    ≡ withLinks l (decoded r)
+    → decoded (linksStored r a b height) ≡ withLinks l (decoded r)
 unfolding decoded parametersOf runtimeOf linksOf queueLinksOf
 links-stored r l a b height size e₁ e₂ e₃ =
-    by-words 32 (λ (r : List ℕ). decoded
-    (set (set (set (set (set r 17 (word a 0)) 18 (word a 1)) 19 (word b 0)) 20 (word b 1)) 21 height)
-    ≡ withLinks l (decoded r))
+    by-words rowWords (λ (r : List ℕ). decoded (linksStored r a b height) ≡ withLinks l (decoded r))
     (λ x0 x1 x2 x3 x4 x5 x6 x7 x8 x9 x10 x11 x12 x13 x14 x15 x16 x17 x18 x19 x20 x21 x22 x23 x24 x25 x26 x27 x28 x29 x30
     x31. rw (e₁, e₂, e₃))
     r size
 
 pub left-stored : (r : List ℕ) (l : Link) (a : List ℕ)
-    → length r ≡ 32
+    → length r ≡ rowWords
     → linkFrom (word a 0) (word a 1) ≡ l
-    → decoded (set (set r 17 (word a 0)) 18 (word a 1)) ≡ withLeft l (decoded r)
+    → decoded (leftStored r a) ≡ withLeft l (decoded r)
 unfolding decoded parametersOf runtimeOf linksOf queueLinksOf
 left-stored r l a size e =
-    by-words 32 (λ (r : List ℕ). decoded (set (set r 17 (word a 0)) 18 (word a 1)) ≡ withLeft l (decoded r))
+    by-words rowWords (λ (r : List ℕ). decoded (leftStored r a) ≡ withLeft l (decoded r))
     (λ x0 x1 x2 x3 x4 x5 x6 x7 x8 x9 x10 x11 x12 x13 x14 x15 x16 x17 x18 x19 x20 x21 x22 x23 x24 x25 x26 x27 x28 x29 x30
-    x31. rw (e))
+    x31. rw e)
     r size
 
 pub right-stored : (r : List ℕ) (l : Link) (a : List ℕ)
-    → length r ≡ 32
+    → length r ≡ rowWords
     → linkFrom (word a 0) (word a 1) ≡ l
-    → decoded (set (set r 19 (word a 0)) 20 (word a 1)) ≡ withRight l (decoded r)
+    → decoded (rightStored r a) ≡ withRight l (decoded r)
 unfolding decoded parametersOf runtimeOf linksOf queueLinksOf
 right-stored r l a size e =
-    by-words 32 (λ (r : List ℕ). decoded (set (set r 19 (word a 0)) 20 (word a 1)) ≡ withRight l (decoded r))
+    by-words rowWords (λ (r : List ℕ). decoded (rightStored r a) ≡ withRight l (decoded r))
     (λ x0 x1 x2 x3 x4 x5 x6 x7 x8 x9 x10 x11 x12 x13 x14 x15 x16 x17 x18 x19 x20 x21 x22 x23 x24 x25 x26 x27 x28 x29 x30
-    x31. rw (e))
+    x31. rw e)
     r size
 
-pub height-stored : (r : List ℕ) (n : ℕ) (height : ℕ)
-    → length r ≡ 32
+pub height-stored : (r : List ℕ) (n height : ℕ)
+    → length r ≡ rowWords
     → height % 256 ≡ n
-    → decoded (set r 21 height) ≡ withHeight n (decoded r)
+    → decoded (set r heightWord height) ≡ withHeight n (decoded r)
 unfolding decoded parametersOf runtimeOf linksOf queueLinksOf
 height-stored r n height size e =
-    by-words 32 (λ (r : List ℕ). decoded (set r 21 height) ≡ withHeight n (decoded r))
+    by-words rowWords (λ (r : List ℕ). decoded (set r heightWord height) ≡ withHeight n (decoded r))
     (λ x0 x1 x2 x3 x4 x5 x6 x7 x8 x9 x10 x11 x12 x13 x14 x15 x16 x17 x18 x19 x20 x21 x22 x23 x24 x25 x26 x27 x28 x29 x30
-    x31. rw (e))
+    x31. rw e)
     r size
 
 pub queue-links-stored : (r : List ℕ) (l : QueueLinks) (a b m : List ℕ)
-    → length r ≡ 32
+    → length r ≡ rowWords
     → linkFrom (word a 0) (word a 1) ≡ l .previous
     → linkFrom (word b 0) (word b 1) ≡ l .next
     → membershipFrom (word m 0) (word m 1) (word m 2) ≡ l .membership
-    → decoded (set (set (set (set (set (set (set r 22 (word a 0)) 23 (word a 1)) 24 (word b 0)) 25 (word b 1)) 26
-    (word m 0)) 27 (word m 1)) 28 (word m 2)) ≡ withQueueLinks l (decoded r)
+    → decoded (queueLinksStored r a b m) ≡ withQueueLinks l (decoded r)
 unfolding decoded parametersOf runtimeOf linksOf queueLinksOf
 queue-links-stored r l a b m size e₁ e₂ e₃ =
-    by-words 32 (λ (r : List ℕ). decoded
-    (set (set (set (set (set (set (set r 22 (word a 0)) 23 (word a 1)) 24 (word b 0)) 25 (word b 1)) 26 (word m 0)) 27
-    (word m 1)) 28 (word m 2)) ≡ withQueueLinks l (decoded r))
+    by-words rowWords (λ (r : List ℕ). decoded (queueLinksStored r a b m) ≡ withQueueLinks l (decoded r))
     (λ x0 x1 x2 x3 x4 x5 x6 x7 x8 x9 x10 x11 x12 x13 x14 x15 x16 x17 x18 x19 x20 x21 x22 x23 x24 x25 x26 x27 x28 x29 x30
     x31. rw (e₁, e₂, e₃))
     r size
 
 pub cpu-stored : (r : List ℕ) (c : CpuIndex) (n : ℕ)
-    → length r ≡ 32
+    → length r ≡ rowWords
     → n % 256 ≡ c .0
-    → decoded (set r 29 n) ≡ withCpu c (decoded r)
+    → decoded (set r cpuWord n) ≡ withCpu c (decoded r)
 unfolding decoded parametersOf runtimeOf linksOf queueLinksOf
 cpu-stored r c n size e =
-    by-words 32 (λ (r : List ℕ). decoded (set r 29 n) ≡ withCpu c (decoded r))
+    by-words rowWords (λ (r : List ℕ). decoded (set r cpuWord n) ≡ withCpu c (decoded r))
     (λ x0 x1 x2 x3 x4 x5 x6 x7 x8 x9 x10 x11 x12 x13 x14 x15 x16 x17 x18 x19 x20 x21 x22 x23 x24 x25 x26 x27 x28 x29 x30
-    x31. rw (e))
+    x31. rw e)
     r size
 
 -- The parts that the words of a row stand for make the row's.

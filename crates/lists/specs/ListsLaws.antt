@@ -14,8 +14,9 @@ use Rattle.thread.specs.declared.ThreadQueue.{ThreadQueue}
 use Rattle.thread.specs.declared.ThreadRecord.{ThreadRecord}
 use Rattle.thread.specs.Membership.{isUnqueued}
 use Rattle.thread.specs.Records.{withQueueLinks}
-use Rattle.codec.specs.Codec.{word, linkFrom, parametersOf, runtimeOf, linksOf, queueLinksOf, decoded, cpuWord}
-use Rattle.codec.specs.RowLaws.{by-words}
+use Rattle.codec.specs.Codec.{word, rowWords, linkFrom, parametersOf, runtimeOf, linksOf, queueLinksOf, decoded}
+use Rattle.codec.specs.Codec.{cpuWord}
+use Rattle.codec.specs.RowLaws.{by-words, nextStored, previousStored}
 use Rattle.rows.specs.declared.QueueLinksRead.the-variants as queueLinks
 use Rattle.rows.specs.Table.{Out, out, after, table, recordAt, queueLinksAt, setQueueLinks}
 use Rattle.rows.specs.TableCases.{onRecord, onQueueLinks}
@@ -82,23 +83,23 @@ unfolding decoded
 assigned-row w m e h = rw (sym e) h
 
 -- Two words stored are one link, and no other part of the record.
-pub next-stored : (r : List ℕ) (l : Link) (a : List ℕ) → length r ≡ 32 → linkFrom (word a 0) (word a 1) ≡ l
-    → decoded (set (set r 24 (word a 0)) 25 (word a 1)) ≡ withQueueLinks (withNext (decoded r .«queue_links») l)
+pub next-stored : (r : List ℕ) (l : Link) (a : List ℕ) → length r ≡ rowWords → linkFrom (word a 0) (word a 1) ≡ l
+    → decoded (nextStored r a) ≡ withQueueLinks (withNext (decoded r .«queue_links») l)
     (decoded r)
 unfolding decoded parametersOf runtimeOf linksOf queueLinksOf
 next-stored r l a size e =
-    by-words 32 (λ (r : List ℕ). decoded (set (set r 24 (word a 0)) 25 (word a 1))
+    by-words rowWords (λ (r : List ℕ). decoded (nextStored r a)
     ≡ withQueueLinks (withNext (decoded r .«queue_links») l) (decoded r))
     (λ x0 x1 x2 x3 x4 x5 x6 x7 x8 x9 x10 x11 x12 x13 x14 x15 x16 x17 x18 x19 x20 x21 x22 x23 x24 x25 x26 x27 x28 x29 x30
     x31. rw (e))
     r size
 
-pub previous-stored : (r : List ℕ) (l : Link) (a : List ℕ) → length r ≡ 32 → linkFrom (word a 0) (word a 1) ≡ l
-    → decoded (set (set r 22 (word a 0)) 23 (word a 1)) ≡ withQueueLinks (withPrevious (decoded r .«queue_links») l)
+pub previous-stored : (r : List ℕ) (l : Link) (a : List ℕ) → length r ≡ rowWords → linkFrom (word a 0) (word a 1) ≡ l
+    → decoded (previousStored r a) ≡ withQueueLinks (withPrevious (decoded r .«queue_links») l)
     (decoded r)
 unfolding decoded parametersOf runtimeOf linksOf queueLinksOf
 previous-stored r l a size e =
-    by-words 32 (λ (r : List ℕ). decoded (set (set r 22 (word a 0)) 23 (word a 1))
+    by-words rowWords (λ (r : List ℕ). decoded (previousStored r a)
     ≡ withQueueLinks (withPrevious (decoded r .«queue_links») l) (decoded r))
     (λ x0 x1 x2 x3 x4 x5 x6 x7 x8 x9 x10 x11 x12 x13 x14 x15 x16 x17 x18 x19 x20 x21 x22 x23 x24 x25 x26 x27 x28 x29 x30
     x31. rw (e))

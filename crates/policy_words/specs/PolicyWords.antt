@@ -25,6 +25,10 @@ use Rattle.algorithms.specs.declared.PolicyRuntime.the-variants as runtime
 abbrev pub word : List ℕ → ℕ → ℕ
 word w k = getD w k 0
 
+-- How many words a thread's row has.
+abbrev pub rowWords : ℕ
+rowWords = 32
+
 -- Where the words of parameters and of a policy's runtime stand in a thread's row.
 abbrev pub policyTag : ℕ
 policyTag = 0

@@ -41,10 +41,9 @@ use Rattle.thread.specs.declared.ThreadRecord.{ThreadRecord}
 use Rattle.thread.specs.Judgement.{isBadRecord}
 use Rattle.thread.specs.Records.{withRuntime}
 use Rattle.policy_words.specs.ByWords.{by-words}
-use Rattle.policy_words.specs.PolicyWords.{policyTag, fifoPriority, bandWord, roleTag, weightWord, quantumWord}
-use Rattle.policy_words.specs.PolicyWords.{backendTag, budgetTag, runtimeTag, runtimeFirst, runtimeSecond}
-use Rattle.policy_words.specs.PolicyWords.{runtimeThird, runtimeFourth}
-use Rattle.policy_words.specs.PolicyWords.{budgetTag, budgetWord, budgetPeriod, budgetBurst, runtimeTag, runtimeFourth}
+use Rattle.policy_words.specs.PolicyWords.{rowWords, policyTag, fifoPriority, bandWord, roleTag, weightWord}
+use Rattle.policy_words.specs.PolicyWords.{quantumWord, backendTag, budgetTag, budgetWord, budgetPeriod, budgetBurst}
+use Rattle.policy_words.specs.PolicyWords.{runtimeTag, runtimeFirst, runtimeSecond, runtimeThird, runtimeFourth}
 use Rattle.window_words.specs.WindowWords as words
 use Rattle.codec.specs.Codec.{word, policyFrom, epochFrom, runtimeFrom, parametersOf, runtimeOf, linksOf, queueLinksOf}
 use Rattle.codec.specs.Codec.{decoded}
@@ -419,11 +418,11 @@ pub ruleset ways = (
 )
 
 -- The burst of a budget whole again, as one word of its row.
-pub burst-stored : (w : List ℕ) → length w ≡ 32 → word w runtimeTag ≡ 2
+pub burst-stored : (w : List ℕ) → length w ≡ rowWords → word w runtimeTag ≡ 2
     → decoded (set w runtimeFourth (word w budgetBurst)) ≡ withRuntime (runtime.Budget (wholeBurst w)) (decoded w)
 unfolding decoded parametersOf runtimeOf runtimeFrom linksOf queueLinksOf ifEqual choose given
 burst-stored w size =
-    by-words 32
+    by-words rowWords
     (λ (w : List ℕ). word w runtimeTag ≡ 2
     → decoded (set w runtimeFourth (word w budgetBurst)) ≡ withRuntime (runtime.Budget (wholeBurst w)) (decoded w))
     (λ x0 x1 x2 x3 x4 x5 x6 x7 x8 x9 x10 x11 x12 x13 x14 x15 x16 x17 x18 x19 x20 x21 x22 x23 x24 x25 x26 x27 x28 x29 x30
@@ -538,13 +537,13 @@ candidateWords w row p n =
     words.candidateAvailable n)
     words.candidateTurn (word row words.candidateTurn)
 
-pub candidate-written : (w row : List ℕ) (p : Wide) (a : Bool) (n : ℕ) → length w ≡ 32
+pub candidate-written : (w row : List ℕ) (p : Wide) (a : Bool) (n : ℕ) → length w ≡ rowWords
     → p ≡ passOf (decoded row .runtime)
     → words.flagFrom n ≡ a
     → words.candidateOf (candidateWords w row p n) ≡ candidateRow row a
 unfolding words.candidateOf parametersOf candidateRow given
 candidate-written w row p a n size e f =
-    by-words 32 (λ (w : List ℕ). words.candidateOf (candidateWords w row p n) ≡ candidateRow row a)
+    by-words rowWords (λ (w : List ℕ). words.candidateOf (candidateWords w row p n) ≡ candidateRow row a)
     (λ x0 x1 x2 x3 x4 x5 x6 x7 x8 x9 x10 x11 x12 x13 x14 x15 x16 x17 x18 x19 x20 x21 x22 x23 x24 x25 x26 x27 x28 x29 x30
     x31. rw (e, f))
     w size
