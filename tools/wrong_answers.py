@@ -39,9 +39,6 @@ from functools import lru_cache
 
 PAGE = 'docs/WRONG-ANSWERS.md'
 ROOMS = 'target/wrong-answers'
-# What the programs share and what they print, whose functions are proved to be safe and to end, and promise nothing
-# else: crates, and modules of crates.
-WITHOUT_CONTRACTS = ['steps', 'text::printing']
 HEAD = """# Wrong answers that the contracts rule out
 
 Written by `python3 tools/wrong_answers.py --list`. Each wrong answer is put into a copy of its crate, and the prover
@@ -173,18 +170,16 @@ def page():
 
 
 def public(crate):
-    """The public functions of a library that have a contract to rule anything out, as the check names them: of the root
-    file, of types, exported to C, or shown by the root file's `pub use`."""
+    """The public functions of a library, as the check names them: of the root file, of types, exported to C, or shown by
+    the root file's `pub use`."""
     root = f'crates/{crate}/src/lib.rt'
-    if not os.path.exists(root) or crate in WITHOUT_CONTRACTS:
+    if not os.path.exists(root):
         return []
     with open(root) as text:
         shown = set(re.findall(r'^pub use (\w+)::(\w+);', text.read(), re.MULTILINE))
     found = []
     for path in sorted(glob.glob(f'crates/{crate}/src/*.rt')):
         module, owner = os.path.basename(path)[: -len('.rt')], ''
-        if f'{crate}::{module}' in WITHOUT_CONTRACTS:
-            continue
         with open(path) as text:
             lines = text.read().split('\n')
         for line in lines:

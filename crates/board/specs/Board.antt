@@ -1,6 +1,7 @@
 -- What a call on lent words leaves: document 01's number, 0 where it was made, and what the lent words stand for. A
 -- refusal leaves an answer's words standing for what they stood for.
 use Prim.Native.Nat.{ℕ}
+use mathlib.Core.Path.{_≡_}
 use mathlib.Core.Bool.{Bool}
 use mathlib.Core.List.{List}
 use mathlib.Core.Option.{Option, none, some}
@@ -13,14 +14,16 @@ use Rattle.arbitration.specs.declared.CpuWindow.{CpuWindow}
 use Rattle.arbitration.specs.declared.KeyOption.{KeyOption}
 use Rattle.arbitration.specs.Calls.{With, with}
 use Rattle.codec.specs.Codec.{word}
-use Rattle.rows.specs.Table.{Out, out}
+use Rattle.rows.specs.Table.{Out, out, table}
 use Rattle.queue.specs.RunQueue.{CpuRunQueue}
-use Rattle.queue.specs.Queue.{Step, step, realTimeLen, fairLen, budgetLen}
+use Rattle.queue.specs.Queue.{Step, step, newQueue, enqueueCall, removeCall, realTimeLen, fairLen, budgetLen}
+use Rattle.lent_queue.specs.LentQueue.{queueOf}
 use Rattle.selection.specs.declared.Selection.{Selection}
-use Rattle.selection.specs.Peek.{Peeked, peeked}
+use Rattle.selection.specs.Peek.{Peeked, peeked, peekNext}
+use Rattle.board_words.specs.BoardWords.{selectionFrom, currentOf}
 use Rattle.decisions.specs.declared.Turns.{Turns}
 use Rattle.runtime.specs.Prepare.{Counted, counted}
-use Rattle.window_words.specs.WindowWords.{flagFrom}
+use Rattle.window_words.specs.WindowWords.{flagFrom, windowOf}
 
 pub data Left (A : Type 0) : Type 0 where
   left : ℕ → A → Left A
@@ -45,6 +48,18 @@ processor n = record { 0 = n }
 unfoldable pub queueLeft : Out (Step (Unit {0})) → Left (CpuRunQueue × List ThreadRecord)
 queueLeft (out (step a q) t) = left (numbered a) (q, t)
 
+-- What the entries of the queue say of the words before and after: the number n that is answered, and what is left.
+abbrev pub Makes : ℕ → List (List ℕ) → Type 0
+Makes n q₁ = left n (queueOf q₁) ≡ left 0 newQueue
+
+abbrev pub Enqueues : Bool → List (List ℕ) → List (List ℕ) → ℕ → ℕ → ℕ → List (List ℕ) → List (List ℕ) → Type 0
+Enqueues front q t id cpu n q₁ t₁ =
+    left n (queueOf q₁, table t₁) ≡ queueLeft (enqueueCall front (table t) (queueOf q) id (processor cpu))
+
+abbrev pub Removes : List (List ℕ) → List (List ℕ) → ℕ → ℕ → ℕ → List (List ℕ) → List (List ℕ) → Type 0
+Removes q t id cpu n q₁ t₁ =
+    left n (queueOf q₁, table t₁) ≡ queueLeft (removeCall (table t) (queueOf q) id (processor cpu))
+
 -- How many FIFO, Fair and Budget threads are queued.
 abbrev pub realTimeLength : ℕ
 realTimeLength = 0
@@ -65,6 +80,14 @@ lengths q = (realTimeLen q, fairLen q, budgetLen q)
 unfoldable pub selectionLeft : Selection → Out (Peeked CpuRunQueue)
     → Left (Selection × (CpuWindow × CpuRunQueue × List ThreadRecord))
 selectionLeft before (out (peeked a w q) t) = beside (answered before a) (w, q, t)
+
+-- What a selection says, with the words of window, running thread and answer.
+abbrev pub Selects : List (List ℕ) → List (List ℕ) → ℕ → ℕ → List ℕ → ℕ → List ℕ → List ℕ → ℕ → List (List ℕ)
+    → List (List ℕ) → List ℕ → List ℕ → Type 0
+Selects q t cpu now window running current answer n q₁ t₁ window₁ answer₁ =
+    left n (selectionFrom answer₁, (windowOf window₁, queueOf q₁, table t₁))
+    ≡ selectionLeft (selectionFrom answer)
+    (peekNext (table t) (queueOf q) (processor cpu) now (windowOf window) (currentOf (flagFrom running) current))
 
 -- The key and the window.
 unfoldable pub keyLeft : KeyOption → With KeyOption → Left (KeyOption × CpuWindow)

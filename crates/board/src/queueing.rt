@@ -1,11 +1,9 @@
 // Calls on the queue's words and the table's rows.
 ghost use mathlib.Core.Bool.{true, false};
 ghost use mathlib.Core.Path.{_≡_};
-ghost use Rattle.rows.specs.Table.{table};
-ghost use Rattle.queue.specs.Queue as calls;
 ghost use Rattle.queue.specs.Answers.{verdictAnswer};
 ghost use Rattle.lent_queue.specs.LentQueue.{queueOf};
-ghost use Rattle.board.specs.Board.{left, numbered, processor, queueLeft, lengthsOf, lengths};
+ghost use Rattle.board.specs.Board.{left, numbered, Makes, Enqueues, Removes, lengthsOf, lengths};
 use board_words::LengthWords;
 use codec::Row;
 use lent_queue::QueueRows;
@@ -29,7 +27,7 @@ fn number_of(verdict: Verdict) -> u64
 // CpuRunQueue::new
 #[no_mangle]
 pub extern "C" fn board_new(q: &mut QueueRows) -> u64
-    ensures { λ r. ⌜ left r (queueOf (now (q .exit))) ≡ left 0 calls.newQueue ⌝ }
+    ensures { λ r. ⌜ Makes r (now (q .exit)) ⌝ }
 {
     new_lent(q);
     0
@@ -44,8 +42,7 @@ pub extern "C" fn board_enqueue(
     id: u64,
     cpu: u8,
 ) -> u64
-    ensures { λ r. ⌜ left r (queueOf (now (q .exit)), table (now (t .exit))) ≡ queueLeft
-        (calls.enqueueCall false (table (now (t .entry))) (queueOf (now (q .entry))) id (processor cpu)) ⌝ }
+    ensures { λ r. ⌜ Enqueues false (now (q .entry)) (now (t .entry)) id cpu r (now (q .exit)) (now (t .exit)) ⌝ }
 {
     number_of(enqueue_lent(q, t, path, ThreadId(id), CpuIndex(cpu), false))
 }
@@ -59,8 +56,7 @@ pub extern "C" fn board_enqueue_front(
     id: u64,
     cpu: u8,
 ) -> u64
-    ensures { λ r. ⌜ left r (queueOf (now (q .exit)), table (now (t .exit))) ≡ queueLeft
-        (calls.enqueueCall true (table (now (t .entry))) (queueOf (now (q .entry))) id (processor cpu)) ⌝ }
+    ensures { λ r. ⌜ Enqueues true (now (q .entry)) (now (t .entry)) id cpu r (now (q .exit)) (now (t .exit)) ⌝ }
 {
     number_of(enqueue_lent(q, t, path, ThreadId(id), CpuIndex(cpu), true))
 }
@@ -74,8 +70,7 @@ pub extern "C" fn board_remove(
     id: u64,
     cpu: u8,
 ) -> u64
-    ensures { λ r. ⌜ left r (queueOf (now (q .exit)), table (now (t .exit))) ≡ queueLeft
-        (calls.removeCall (table (now (t .entry))) (queueOf (now (q .entry))) id (processor cpu)) ⌝ }
+    ensures { λ r. ⌜ Removes (now (q .entry)) (now (t .entry)) id cpu r (now (q .exit)) (now (t .exit)) ⌝ }
 {
     number_of(remove_lent(q, t, path, ThreadId(id), CpuIndex(cpu)))
 }

@@ -1,12 +1,8 @@
 // Selection on the queue's words, the table's rows and the words of window, running thread and answer.
 ghost use mathlib.Core.Path.{_≡_};
-ghost use Rattle.rows.specs.Table.{table};
-ghost use Rattle.lent_queue.specs.LentQueue.{queueOf};
-ghost use Rattle.selection.specs.Peek.{peekNext};
 ghost use Rattle.selection.specs.Answers.{peekAnswer};
-ghost use Rattle.window_words.specs.WindowWords.{flagFrom, windowOf};
-ghost use Rattle.board_words.specs.BoardWords.{selectionFrom, currentOf};
-ghost use Rattle.board.specs.Board.{left, answered, processor, selectionLeft};
+ghost use Rattle.board_words.specs.BoardWords.{selectionFrom};
+ghost use Rattle.board.specs.Board.{left, answered, Selects};
 use board_words::SelectionWords;
 use board_words::current_of;
 use board_words::words_of_selection;
@@ -47,13 +43,9 @@ pub extern "C" fn board_select(
     current: &Row,
     answer: &mut SelectionWords,
 ) -> u64
-    ensures { λ r. ⌜ left r (
-      selectionFrom (now (answer .exit)),
-      (windowOf (now (window .exit)), queueOf (now (q .exit)), table (now (t .exit))),
-    )
-        ≡ selectionLeft (selectionFrom (now (answer .entry)))
-        (peekNext (table (now (t .entry))) (queueOf (now (q .entry))) (processor cpu) «now_ns»
-        (windowOf (now (window .entry))) (currentOf (flagFrom running) (now (current .entry)))) ⌝ }
+    ensures { λ r. ⌜ Selects (now (q .entry)) (now (t .entry)) cpu «now_ns» (now (window .entry)) running
+        (now (current .entry)) (now (answer .entry)) r (now (q .exit)) (now (t .exit)) (now (window .exit))
+        (now (answer .exit)) ⌝ }
 {
     // In this order, and with the answer stored first, the compiler holds fewer words over the walk.
     let its_current = current_of(running, *current);

@@ -22,3 +22,7 @@ pub mod WritingLaws
 pub mod Svg
 -- Sums that stay in range.
 pub mod Counting
+-- How much of a page is handed to the system.
+pub mod Printing
+-- Its laws.
+pub mod PrintingLaws

@@ -293,6 +293,43 @@ fn deadlines_follow_budget_peers() {
 }
 
 #[test]
+fn deadlines_follow_the_demand() {
+    let at = |demand| {
+        let mut record = running(params_fifo(5, 128, Role::Protected), Runtime::Fifo);
+        let mut mode = Mode::Borrow;
+        let deadline = deadline_rule(
+            &mut record,
+            &mut window(),
+            &mut mode,
+            1_000,
+            None,
+            demand,
+            true,
+            false,
+        )
+        .unwrap();
+        (deadline, mode)
+    };
+    let none = Demand::default();
+    let sensitive = Demand {
+        window_sensitive: true,
+        ..none
+    };
+    let any = Demand {
+        any_budget: true,
+        ..none
+    };
+    let protected = Demand {
+        protected: true,
+        ..any
+    };
+    assert_eq!(at(none), (None, Mode::Ordinary));
+    assert_eq!(at(sensitive), (Some(10_000_000), Mode::Ordinary));
+    assert_eq!(at(any), (Some(10_000_000), Mode::Ordinary));
+    assert_eq!(at(protected), (Some(7_000_000), Mode::Ordinary));
+}
+
+#[test]
 fn a_whole_processor_accounts_chooses_and_arms() {
     let mut records = vec![
         fair(Backend::RoundRobin, 0, 0),

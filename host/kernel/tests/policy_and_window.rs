@@ -216,6 +216,30 @@ fn an_exhausted_thread_has_no_key_beside_fair_demand() {
 }
 
 #[test]
+fn a_fair_thread_is_preferred_while_the_allowance_lasts() {
+    let at = |prefer_fair, priority_remaining| {
+        let preferring = Window {
+            config: config_with_prefer_fair(window().config, prefer_fair),
+            epoch: Some(0),
+            priority_remaining,
+            ..window()
+        };
+        let thread = Candidate {
+            fair_pass: 9,
+            ..candidate(fair(Role::Ordinary))
+        };
+        let (key, mode) = window_candidate_key(preferring, 1_000, thread, Demand::default())
+            .unwrap()
+            .1
+            .unwrap();
+        (key.urgency, key.rank, key.algorithm_rank, key.algorithm, mode)
+    };
+    assert_eq!(at(false, 1), (2, 2, 1, 9, Mode::Ordinary));
+    assert_eq!(at(true, 1), (2, 0, 1, 9, Mode::Priority));
+    assert_eq!(at(true, 0), (2, 2, 1, 9, Mode::Ordinary));
+}
+
+#[test]
 fn keys_compare_the_algorithm_before_the_band() {
     let low = Key {
         urgency: 2,

@@ -46,7 +46,7 @@ fn main() -> ExitCode {
     };
     let head = format!(
         "# Calls with the answers of the unchanged Rust, written by host/record --seed {} --cases {}; \
-         program replay runs them. The letters of the steps are those of\n\
+         program cases runs them. The letters of the steps are those of\n\
          # crates/cases/stdin. The text is in blocks of 65,536 bytes, each of whole cases, filled up with a comment.\n",
         options.seed, options.cases
     );
