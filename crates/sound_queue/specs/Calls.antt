@@ -45,15 +45,16 @@ pub new-sound : (cpu : CpuIndex) (t : List ThreadRecord) → length t ≤ maxRec
 new-sound = outside.new-sound
 
 module _ {cpu : CpuIndex} {queued : ℕ → Bool} {q : CpuRunQueue} {t : List ThreadRecord} (S : Sound cpu queued q t) where
-  -- Records that are not queued may change in any way, their links and membership too.
-  pub changes-sound : (s : List ThreadRecord) → length s ≡ length t
+  -- Records that are not queued may change in any way, their links and membership too, and records may be added or
+  -- dropped: any table of up to 4,096 records will do that has the queued records as they were.
+  pub changes-sound : (s : List ThreadRecord) → length s ≤ maxRecords
       → ((j : ℕ) → queued j ≡ true → recordAt s j ≡ recordAt t j) → Sound cpu queued q s
   changes-sound = outside.changes-sound S
 
   -- The same of one record.
   pub change-sound : (i : ℕ) (f : ThreadRecord → ThreadRecord) → queued i ≡ false → Sound cpu queued q (changed t i f)
   unfolding recordAt
-  change-sound i f e = changes-sound (changed t i f) (length-changed t i f)
+  change-sound i f e = changes-sound (changed t i f) (omega (arith, length-changed t i f, S .forest .small))
       (λ j h. reading-other t i f (λ (r : ThreadRecord). read.Got r) read.Damaged j
       (λ z. let w : true ≡ false = sym h ∙ ap queued z ∙ e in never cc))
 
@@ -180,8 +181,8 @@ module _ {cpu : CpuIndex} {queued : ℕ → Bool} {q : CpuRunQueue} {t : List Th
         → Kept cpu queued (excluding i queued) i t r s
     remove-sound r s e = left-by (removeCall t q i cpu) r s remove-fine e
 
--- After any accepted calls from an empty queue, with changes of any kind to records that are not queued, the queue is
--- sound.
+-- After any accepted calls from an empty queue, with changes of any kind to records that are not queued and with
+-- records added or dropped, the queue is sound.
 pub reached-sound : {cpu : CpuIndex} {queued : ℕ → Bool} {q : CpuRunQueue} {t : List ThreadRecord}
     → Reached cpu queued q t → Sound cpu queued q t
 reached-sound {cpu} (reached.new t n) = new-sound cpu t n

@@ -148,9 +148,9 @@ calls-stand cpu t small b calls a = all-stand cpu calls (fresh t) (fresh-sound c
 
 -- DEMAND 3. From a fresh queue on any table of up to 4,096 records, after every list of calls for one processor
 -- (enqueues at either end, removals, selections, each accepted or refused without a change), between which records that
--- are not queued change at will: a selection with a sound window that admits every queued thread, with one fair backend
--- among them and the budget threads filed by whether they have time left, refuses nothing and names, of all queued
--- threads, the one with the least dispatch key.
+-- are not queued change at will and records are added or dropped: a selection with a sound window that admits every
+-- queued thread, with one fair backend among them and the budget threads filed by whether they have time left, refuses
+-- nothing and names, of all queued threads, the one with the least dispatch key.
 pub demand-3 : (cpu : CpuIndex) (t : List ThreadRecord) → length t ≤ maxRecords → Bytes t → (calls : List Call)
     → AllAllowed cpu calls (fresh t)
     → (now : ℕ) (w : CpuWindow) (current : CandidateOption) → PremisesIn (afterAll cpu calls (fresh t)) now w
