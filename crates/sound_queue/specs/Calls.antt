@@ -23,14 +23,19 @@ use Rattle.rows.specs.Table.{Out, out, table, recordOf, recordAt, changed, maxR
 use Rattle.rows.specs.TableLaws.{length-changed, reading-other}
 use Rattle.rows.specs.declared.RecordRead.the-variants as read
 use Rattle.lists.specs.Lists.{onAnswer}
-use Rattle.queue.specs.RunQueue.{CpuRunQueue}
-use Rattle.queue.specs.Queue.{Step, step, newQueue, judged, enqueueCall, removeCall}
+use Rattle.ready_index.specs.declared.Contained.the-variants as contained
+use Rattle.ready_index.specs.Index.{contains}
+use Rattle.queue.specs.RunQueue.{CpuRunQueue, treeCount}
+use Rattle.queue.specs.Queue.{Step, step, newQueue, rootOf, judged, enqueueCall, removeCall}
 use Rattle.sound_queue.specs.Count.{count}
 use Rattle.sound_queue.specs.CountLaws.{count-same}
-use Rattle.sound_queue.specs.Lists.{listAt, listFor, rowOf, listCount}
-use Rattle.sound_queue.specs.ListsLaws.{list-counts}
-use Rattle.sound_queue.specs.Sound.{queuedOf, Sound, including, excluding, Kept, Accepted, Fine, unchanged, made}
-use Rattle.sound_queue.specs.Sound.{PriorityFits, MayEnqueue}
+use Rattle.sound_queue.specs.Lists.{listAt, listFor, rowOf, listCount, threadsOf, relisted}
+use Rattle.sound_queue.specs.ListsLaws.{list-counts, list-read}
+use Rattle.sound_queue.specs.LinksLaws.{same-length}
+use Rattle.sound_queue.specs.Forest.{placed}
+use Rattle.sound_queue.specs.ForestLaws.{contains-placed}
+use Rattle.sound_queue.specs.Sound.{queuedOf, Sound, Effect, enqueuing, removing, Kept, Accepted, Fine}
+use Rattle.sound_queue.specs.Sound.{unchanged, made, PriorityFits, MayEnqueue}
 use Rattle.sound_queue.specs.PartsLaws.{in-a-list, listed-not-idle, filing}
 use Rattle.sound_queue.specs.SoundLaws.{queued-inside, queued-membership}
 use Rattle.sound_queue.specs.Enqueueing.{judged-passes, enqueued}
@@ -45,15 +50,16 @@ pub new-sound : (cpu : CpuIndex) (t : List ThreadRecord) → length t ≤ maxRec
 new-sound = outside.new-sound
 
 module _ {cpu : CpuIndex} {queued : ℕ → Bool} {q : CpuRunQueue} {t : List ThreadRecord} (S : Sound cpu queued q t) where
-  -- Records that are not queued may change in any way, their links and membership too.
-  pub changes-sound : (s : List ThreadRecord) → length s ≡ length t
+  -- Records that are not queued may change in any way, their links and membership too, and records may be added or
+  -- dropped: any table of up to 4,096 records will do that has the queued records as they were.
+  pub changes-sound : (s : List ThreadRecord) → length s ≤ maxRecords
       → ((j : ℕ) → queued j ≡ true → recordAt s j ≡ recordAt t j) → Sound cpu queued q s
   changes-sound = outside.changes-sound S
 
   -- The same of one record.
   pub change-sound : (i : ℕ) (f : ThreadRecord → ThreadRecord) → queued i ≡ false → Sound cpu queued q (changed t i f)
   unfolding recordAt
-  change-sound i f e = changes-sound (changed t i f) (length-changed t i f)
+  change-sound i f e = changes-sound (changed t i f) (omega (arith, length-changed t i f, S .forest .small))
       (λ j h. reading-other t i f (λ (r : ThreadRecord). read.Got r) read.Damaged j
       (λ z. let w : true ≡ false = sym h ∙ ap queued z ∙ e in never cc))
 
@@ -74,22 +80,22 @@ module _ {cpu : CpuIndex} {queued : ℕ → Bool} {q : CpuRunQueue} {t : List Th
       (λ j. eqb (rowOf queued t j) n) (λ j l. row-tells n j b)
 
   module _ (i : ℕ) where
-    -- An enqueue of a thread that no rule of document 01 refuses is accepted, at either end; then exactly the earlier
-    -- threads and this one are queued.
+    -- An enqueue of a thread that no rule of document 01 refuses is accepted, at either end; then the thread stands in
+    -- the tree of its filing and at that end of its list, and every other thread where it stood.
     pub enqueue-accepted : (front : Bool) → MayEnqueue cpu t i
-        → Accepted cpu queued (including i queued) i t (enqueueCall front t q i cpu)
+        → Accepted S (enqueuing front t i) (enqueueCall front t q i cpu)
     enqueue-accepted front M = enqueued S i M front
 
-    -- A removal of a queued thread is accepted, also where a budget thread stands in the partner tree; then exactly the
-    -- other threads are queued.
-    pub remove-accepted : queued i ≡ true → Accepted cpu queued (excluding i queued) i t (removeCall t q i cpu)
+    -- A removal of a queued thread is accepted, also where a budget thread stands in the partner tree; then it stands
+    -- nowhere, and every other thread where it stood.
+    pub remove-accepted : queued i ≡ true → Accepted S (removing i) (removeCall t q i cpu)
     remove-accepted e = removed S i e
 
     judged-enqueue : (front : Bool) → PriorityFits (recordOf t i .parameters .policy) → i < length t
         → isBadRecord (recordOf t i) ≡ false → recordOf t i .parameters .policy ≢ policy.Idle
         → (x : Bool) → isUnqueued (recordOf t i .«queue_links» .membership) ≡ x → (y : Bool)
         → eqb (recordOf t i .cpu .0) (cpu .0) ≡ y
-        → Fine cpu queued (including i queued) i q t (enqueueCall front t q i cpu)
+        → Fine S (enqueuing front t i) (enqueueCall front t q i cpu)
     unfolding enqueueCall choose ifEqual
     judged-enqueue front p l b d true e true g = made (enqueued S i
         (record {
@@ -108,7 +114,7 @@ module _ {cpu : CpuIndex} {queued : ℕ → Bool} {q : CpuRunQueue} {t : List Th
         unchanged already (judged-passes t q i (F .tree) _ (S .forest .small) (S .running) l b (F .is) ∙ rw e)
 
     enqueue-by : (front : Bool) → PriorityFits (recordOf t i .parameters .policy) → Verdict t q i
-        → Fine cpu queued (including i queued) i q t (enqueueCall front t q i cpu)
+        → Fine S (enqueuing front t i) (enqueueCall front t q i cpu)
     unfolding enqueueCall
     enqueue-by front p (refuses n r) = unchanged n (r _)
     enqueue-by front p (passes l b d) =
@@ -118,7 +124,7 @@ module _ {cpu : CpuIndex} {queued : ℕ → Bool} {q : CpuRunQueue} {t : List Th
     -- An enqueue on a sound queue never halts: it is refused with nothing changed, or accepted with the queue sound
     -- after it.
     pub enqueue-fine : (front : Bool) → PriorityFits (recordOf t i .parameters .policy)
-        → Fine cpu queued (including i queued) i q t (enqueueCall front t q i cpu)
+        → Fine S (enqueuing front t i) (enqueueCall front t q i cpu)
     enqueue-fine front p = enqueue-by front p (verdict t q i (S .forest .small) (S .running))
 
     -- A thread that is queued is not enqueued again: Already, with nothing changed.
@@ -148,40 +154,75 @@ module _ {cpu : CpuIndex} {queued : ℕ → Bool} {q : CpuRunQueue} {t : List Th
     remove-absent e = absent-by e (verdict t q i (S .forest .small) (S .running))
 
     -- A removal on a sound queue never halts either.
-    pub remove-fine : Fine cpu queued (excluding i queued) i q t (removeCall t q i cpu)
+    pub remove-fine : Fine S (removing i) (removeCall t q i cpu)
     remove-fine = go (queued i) refl
       where
-        go : (x : Bool) → queued i ≡ x → Fine cpu queued (excluding i queued) i q t (removeCall t q i cpu)
+        go : (x : Bool) → queued i ≡ x → Fine S (removing i) (removeCall t q i cpu)
         go true e = made (removed S i e)
         go false e = let r = remove-absent e in unchanged (r .0) (r .1)
 
-    left-by : {after : ℕ → Bool} (o : Out (Step (Unit {0}))) (r : CpuRunQueue) (s : List ThreadRecord)
-        → Fine cpu queued after i q t o → o ≡ out (step (value tt) r) s
-        → Kept cpu queued after i t r s
-    left-by {after} o r s (unchanged n e) f =
-        let z : out (step (refused n) q) t ≡ out (step (value tt) r) s = sym e ∙ f in
+    left-by : (f : Effect) (o : Out (Step (Unit {0}))) (r : CpuRunQueue) (s : List ThreadRecord) → Fine S f o
+        → o ≡ out (step (value tt) r) s → Kept S f r s
+    left-by f o r s (unchanged n e) h =
+        let z : out (step (refused n) q) t ≡ out (step (value tt) r) s = sym e ∙ h in
         never cc
-    left-by {after} o r s (made A) f =
-        let z : out (step (value tt) (A .queue)) (A .table) ≡ out (step (value tt) r) s = sym (A .is) ∙ f in
+    left-by f o r s (made A) h =
+        let z : out (step (value tt) (A .queue)) (A .table) ≡ out (step (value tt) r) s = sym (A .is) ∙ h in
         let x : A .queue ≡ r = cc in
         let y : A .table ≡ s = cc in
-        subst (λ (u : List ThreadRecord). Kept cpu queued after i t r u) y
-        (subst (λ (p : CpuRunQueue). Kept cpu queued after i t p (A .table)) x (A .kept))
+        subst (λ (u : List ThreadRecord). Kept S f r u) y
+        (subst (λ (p : CpuRunQueue). Kept S f p (A .table)) x (A .kept))
 
-    -- Every accepted enqueue leaves a sound queue with exactly this thread more, and of every other record all but its
-    -- links,
+    -- Every accepted enqueue leaves a sound queue: this thread stands in the tree of its filing and at the named end of
+    -- its list, every other where it stood, and of every other record all but its links is as it was;
     pub enqueue-sound : (front : Bool) (r : CpuRunQueue) (s : List ThreadRecord)
         → PriorityFits (recordOf t i .parameters .policy)
-        → enqueueCall front t q i cpu ≡ out (step (value tt) r) s → Kept cpu queued (including i queued) i t r s
-    enqueue-sound front r s p e = left-by (enqueueCall front t q i cpu) r s (enqueue-fine front p) e
+        → enqueueCall front t q i cpu ≡ out (step (value tt) r) s → Kept S (enqueuing front t i) r s
+    enqueue-sound front r s p e =
+        left-by (enqueuing front t i) (enqueueCall front t q i cpu) r s (enqueue-fine front p) e
 
-    -- and every accepted removal one with exactly this thread less.
+    -- and every accepted removal one in which this thread stands nowhere, and every other where it stood.
     pub remove-sound : (r : CpuRunQueue) (s : List ThreadRecord) → removeCall t q i cpu ≡ out (step (value tt) r) s
-        → Kept cpu queued (excluding i queued) i t r s
-    remove-sound r s e = left-by (removeCall t q i cpu) r s remove-fine e
+        → Kept S (removing i) r s
+    remove-sound r s e = left-by (removing i) (removeCall t q i cpu) r s remove-fine e
 
--- After any accepted calls from an empty queue, with changes of any kind to records that are not queued, the queue is
--- sound.
+-- What the places and members of a sound queue say of what one computes from queue and table:
+module _ {cpu : CpuIndex} {queued : ℕ → Bool} {q : CpuRunQueue} {t : List ThreadRecord} (S : Sound cpu queued q t) where
+  -- `contains` answers Yes for the tree in which a thread of the table stands and No for every other,
+  pub tree-tells : (j k : ℕ) → k < treeCount → j < length t
+      → contains t (rootOf q k) j ≡ choose (eqb (S .place j) k) contained.Yes contained.No
+  tree-tells j k b l = contains-placed (S .forest) j k b l
+
+  -- and whoever reads a list from its head along the links finds its members, in their order.
+  pub list-tells : (n : ℕ) → n < listCount → threadsOf t (listAt q n) ≡ S .lists .members n
+  list-tells n b = list-read (S .lists .holds n b)
+
+  -- So an accepted call did this and no more, in what one computes: each tree answers as before, but for the thread of
+  -- the call, which is in the one tree named, and in no other;
+  module _ {e : Effect} {r : CpuRunQueue} {s : List ThreadRecord} (K : Kept S e r s) where
+    pub kept-trees : (j k : ℕ) → k < treeCount → j < length t
+        → contains s (rootOf r k) j
+        ≡ choose (eqb j (e .thread)) (choose (eqb (e .tree) k) contained.Yes contained.No) (contains t (rootOf q k) j)
+    unfolding choose placed
+    kept-trees j k b l =
+        contains-placed (K .sound .forest) j k b (omega (arith, same-length t s (K .besides)))
+        ∙ rw (K .places j, contains-placed (S .forest) j k b l) (go (eqb j (e .thread)))
+      where
+        go : (x : Bool) → choose (eqb (choose x (e .tree) (S .place j)) k) contained.Yes contained.No
+            ≡ choose x (choose (eqb (e .tree) k) contained.Yes contained.No)
+            (choose (eqb (S .place j) k) contained.Yes contained.No)
+        go true = refl
+        go false = refl
+
+    -- and each list reads as before, but for the one of the thread's policy, where the thread was added or taken out.
+    pub kept-lists : (n : ℕ) → n < listCount
+        → threadsOf s (listAt r n)
+        ≡ relisted (listFor (recordOf t (e .thread) .parameters .policy)) (e .list) (λ m. threadsOf t (listAt q m)) n
+    unfolding relisted
+    kept-lists n b = list-read (K .sound .lists .holds n b) ∙ K .members n ∙ rw (list-tells n b)
+
+-- After any accepted calls from an empty queue, with changes of any kind to records that are not queued and with
+-- records added or dropped, the queue is sound.
 pub reached-sound : {cpu : CpuIndex} {queued : ℕ → Bool} {q : CpuRunQueue} {t : List ThreadRecord}
     → Reached cpu queued q t → Sound cpu queued q t
 reached-sound {cpu} (reached.new t n) = new-sound cpu t n

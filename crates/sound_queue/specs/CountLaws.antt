@@ -3,7 +3,7 @@ use mathlib.Core.Path.{_≡_, refl, sym, ap, _∙_}
 use mathlib.Core.Bool.{Bool, true, false}
 use mathlib.Core.Logic.{_≢_}
 use mathlib.Core.List.{List, [], _∷_}
-use Prim.Native.Nat.{ℕ, zero, suc, _≤_, _<_}
+use Prim.Native.Nat.{ℕ, zero, suc, _+_, _≤_, _<_}
 use native.Mathlib.Omega.{arith}
 use lib.ListN.{length}
 use borrow.Author.Tests.{ne-eqb}
@@ -34,6 +34,29 @@ pub count-none : (n : ℕ) (f : ℕ → Bool) → ((j : ℕ) → j < n → f j �
 unfolding count choose
 count-none zero f h = refl
 count-none (suc n) f h = rw (h n (omega arith)) (count-none n f (λ j l. h j (omega arith)))
+
+-- Beyond n nobody has the property: counted among more numbers, they are as many,
+count-longer : (m n : ℕ) (f : ℕ → Bool) → n ≤ m → ((j : ℕ) → n ≤ j → f j ≡ false) → count m f ≡ count n f
+unfolding count choose
+count-longer zero n f l h = let z : n ≡ 0 = omega arith in rw z
+count-longer (suc m) n f l h = same-or-not n (suc m)
+    (λ z. rw z)
+    (λ z.
+    let k : n ≤ m = ne-below z in
+    rw (h m k) (count-longer m n f k h))
+  where
+    ne-below : n ≢ suc m → n ≤ m
+    ne-below z = omega arith
+
+-- and so among the numbers below either of two bounds, if all that have it are below both.
+pub count-bounds : (n m : ℕ) (f : ℕ → Bool) → ((j : ℕ) → f j ≡ true → (j < n) × (j < m)) → count n f ≡ count m f
+count-bounds n m f h =
+    sym (count-longer (n + m) n f (omega arith) (λ j l. not-true (f j) (λ e. let b = h j e .0 in omega arith)))
+    ∙ count-longer (n + m) m f (omega arith) (λ j l. not-true (f j) (λ e. let b = h j e .1 in omega arith))
+  where
+    not-true : (x : Bool) → x ≢ true → x ≡ false
+    not-true true z = absurd (z refl)
+    not-true false z = refl
 
 -- One number that did not have the property, and now perhaps has it.
 pub count-one : (n i : ℕ) (f g : ℕ → Bool) → i < n → ((j : ℕ) → j ≢ i → g j ≡ f j) → f i ≡ false

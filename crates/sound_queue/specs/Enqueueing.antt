@@ -39,17 +39,18 @@ use Rattle.sound_queue.specs.PlaceLaws.{placed-same, placed-other, same-
 use Rattle.sound_queue.specs.ForestLaws.{forest-still, planted}
 use Rattle.sound_queue.specs.Count.{count}
 use Rattle.sound_queue.specs.CountLaws.{count-most}
-use Rattle.sound_queue.specs.Lists.{listAt, membershipAt, listFor, rowOf, Lists, listCount}
+use Rattle.sound_queue.specs.Lists.{listAt, membershipAt, listFor, rowOf, Lists, listCount, joined, relisted}
 use Rattle.sound_queue.specs.ListsLaws.{lists-still, lists-same, list-counts, list-joined, back-same, back-here}
-use Rattle.sound_queue.specs.ListsLaws.{front-same}
-use Rattle.sound_queue.specs.Sound.{by-filing, Queued, queuedOf, Sound, including, Accepted, MayEnqueue}
+use Rattle.sound_queue.specs.ListsLaws.{front-same, lists-after}
+use Rattle.sound_queue.specs.Sound.{by-filing, Queued, queuedOf, Sound, including, treeFor, enqueuing, Accepted}
+use Rattle.sound_queue.specs.Sound.{MayEnqueue}
 use Rattle.sound_queue.specs.LinksLaws.{besides-queue-links, list-stores-links, list-stores-key}
 use Rattle.sound_queue.specs.LinksLaws.{list-stores-length, both-stores}
 use Rattle.sound_queue.specs.PartsLaws.{list-of, membership-for, list-for, assigned-to, in-a-list, list-stored}
 use Rattle.sound_queue.specs.PartsLaws.{list-stored-other, priorities-stored, rest-stored, filing, total-in}
 use Rattle.sound_queue.specs.PartsLaws.{counted-in, insert-work}
 use Rattle.sound_queue.specs.SoundLaws.{included, included-other, row-not-queued, row-included, counted}
-use Rattle.sound_queue.specs.SoundLaws.{sound-by, not-queued-placed, queued-membership}
+use Rattle.sound_queue.specs.SoundLaws.{sound-by, not-queued-placed, queued-membership, tree-for}
 
 -- The checks before a call's work, where none of them refuses.
 pub judged-passes : {A : Type 0} (t : List ThreadRecord) (q : CpuRunQueue) (i k : ℕ)
@@ -66,28 +67,17 @@ out-is (out b t) a e = ap (λ y. out y t) e
 -- A list with one thread more, at either end.
 pub record Joins (front : Bool) (t : List ThreadRecord) (q : ThreadQueue) (members : List ℕ) (i : ℕ)
     (m : QueueMembership) : Type 0 where
-  pub now : List ℕ
-  pub accepted : list.Accepted t (pushAt front t q i m) members i now m
-  pub here : has i now ≡ true
-  pub same : (j : ℕ) → j ≢ i → has j now ≡ has j members
+  pub accepted : list.Accepted t (pushAt front t q i m) members i (joined front i members) m
+  pub here : has i (joined front i members) ≡ true
+  pub same : (j : ℕ) → j ≢ i → has j (joined front i members) ≡ has j members
 
 joins : (front : Bool) (t : List ThreadRecord) (q : ThreadQueue) (members : List ℕ) (i : ℕ) (m : QueueMembership)
     → HoldsList t q members m → MayJoin t q members i m → Joins front t q members i m
-unfolding pushAt choose
+unfolding pushAt joined choose
 joins true t q members i m L J =
-    record {
-      now = i ∷ members;
-      accepted = push-front-holds i L J;
-      here = has-first i members;
-      same = front-same i members;
-    }
+    record { accepted = push-front-holds i L J; here = has-first i members; same = front-same i members }
 joins false t q members i m L J =
-    record {
-      now = members ++ i ∷ [];
-      accepted = push-holds i L J;
-      here = back-here i members;
-      same = back-same i members;
-    }
+    record { accepted = push-holds i L J; here = back-here i members; same = back-same i members }
 
 module _ {cpu : CpuIndex} {queued : ℕ → Bool} {q : CpuRunQueue} {t : List ThreadRecord} (S : Sound cpu queued q t)
     (i : ℕ) (M : MayEnqueue cpu t i) where
@@ -166,14 +156,14 @@ module _ {cpu : CpuIndex} {queued : ℕ → Bool} {q : CpuRunQueue} {t : List Th
       abbrev queue : CpuRunQueue
       queue = withParts q (membershipAt cpu row) k parts
 
-      new-lists : Lists (listAt queue) cpu (R .table) (rowOf (including i queued) t)
+      unfoldable new-lists : Lists (listAt queue) cpu (R .table) (rowOf (including i queued) t)
       new-lists =
           lists-same (rowOf (including i queued) t) (row-included i queued t)
           (lists-still (R .table) (λ j b. besides-queue-links listed (R .table) j (R .besides))
-          (list-joined (S .lists) row row-low i (J .accepted) (listAt queue)
+          (list-joined (S .lists) row row-low i (joined front i) (J .accepted) (listAt queue)
           (list-stored q cpu k parts row row-low (S .priorities))
-          (λ m c d. list-stored-other q cpu k parts row m d)
-          (omega (arith, row-not-queued queued t i unqueued-not-queued)) (J .here) (J .same)))
+          (λ m c d. list-stored-other q cpu k parts row m d) (J .same)
+          (omega (arith, row-not-queued queued t i unqueued-not-queued)) (J .here)))
 
       new-stands : (j : ℕ) → ltb (placed i k (S .place) j) treeCount ≡ including i queued j
       new-stands j = same-or-not j i
@@ -186,13 +176,21 @@ module _ {cpu : CpuIndex} {queued : ℕ → Bool} {q : CpuRunQueue} {t : List Th
           (record { judged = M .judged; assigned = M .assigned; listed = row-low; filed = by-filing filed }))
           (λ e. rw (placed-other i k (S .place) j e) (S .threads j (sym (included-other i queued j e) ∙ h)))
 
-      new-sound : Sound cpu (including i queued) queue (R .table)
+      unfoldable new-sound : Sound cpu (including i queued) queue (R .table)
       new-sound =
           let s = rest-stored q cpu k parts row in
           sound-by t (R .table) (both-stores t listed (R .table) (J .accepted .rest) (R .besides))
           (including i queued) cpu queue (placed i k (S .place))
           (rw (s .0) (R .forest)) new-stands new-threads (priorities-stored q cpu k parts row ∙ S .priorities) new-lists
           (s .1) (s .2) (s .3 ∙ S .running)
+
+      new-places : (j : ℕ) → new-sound .place j ≡ placed i (treeFor (recordOf t i)) (S .place) j
+      unfolding new-sound sound-by
+      new-places j = ap (λ m. placed i m (S .place) j) (sym (tree-for (recordOf t i) k filed))
+
+      new-members : (n : ℕ) → new-sound .lists .members n ≡ relisted row (joined front i) (S .lists .members) n
+      unfolding new-sound sound-by new-lists lists-same lists-still list-joined lists-after
+      new-members n = refl
 
       new-others : (j : ℕ) → queued j ≡ false → j ≢ i → recordAt (R .table) j ≡ recordAt t j
       new-others j e d =
@@ -229,7 +227,7 @@ module _ {cpu : CpuIndex} {queued : ℕ → Bool} {q : CpuRunQueue} {t : List Th
             membership-for (recordOf t i .parameters .policy) cpu (M .notIdle),
           ) work-is
 
-      enqueued-by : Accepted cpu queued (including i queued) i t (enqueueCall front t q i cpu)
+      enqueued-by : Accepted S (enqueuing front t i) (enqueueCall front t q i cpu)
       enqueued-by = record {
         queue = queue;
         table = R .table;
@@ -237,13 +235,15 @@ module _ {cpu : CpuIndex} {queued : ℕ → Bool} {q : CpuRunQueue} {t : List Th
         kept =
             record {
               sound = new-sound;
+              places = new-places;
+              members = new-members;
               besides = both-stores t listed (R .table) (J .accepted .rest) (R .besides);
               others = new-others;
             };
       }
 
   -- An enqueue that no rule of document 01 refuses is accepted, at either end.
-  pub enqueued : (front : Bool) → Accepted cpu queued (including i queued) i t (enqueueCall front t q i cpu)
+  pub enqueued : (front : Bool) → Accepted S (enqueuing front t i) (enqueueCall front t q i cpu)
   enqueued front =
       let J = joins front t (listAt q row) (S .lists .members row) i (membershipAt cpu row)
       (S .lists .holds row row-low) may-join in

@@ -1,7 +1,8 @@
--- The 257 lists of a queue in one table: list 0 is the fair one, list 1 + p that of priority p.
+-- The 257 lists of a queue in one table: list 0 is the fair one, list 1 + p that of priority p; how one reads a list,
+-- and what a call makes of it.
 use mathlib.Core.Path.{_≡_}
 use mathlib.Core.Bool.{Bool}
-use mathlib.Core.List.{List}
+use mathlib.Core.List.{List, [], _∷_, _++_}
 use Prim.Native.Nat.{ℕ, zero, suc, _<_}
 use lib.ListN.{getD}
 use lib.Dec.{eqb}
@@ -9,12 +10,14 @@ use Rattle.refusal.specs.Cases.{choose}
 use Rattle.policy.specs.declared.SchedulingPolicy.{SchedulingPolicy}
 use Rattle.policy.specs.PolicyCases.{onPolicy}
 use Rattle.thread.specs.declared.CpuIndex.{CpuIndex}
+use Rattle.thread.specs.declared.Link.{Link}
 use Rattle.thread.specs.declared.QueueMembership.{QueueMembership}
 use Rattle.thread.specs.declared.QueueMembership.the-variants as membership
 use Rattle.thread.specs.declared.ThreadQueue.{ThreadQueue}
 use Rattle.thread.specs.declared.ThreadRecord.{ThreadRecord}
-use Rattle.thread.specs.Membership.{emptyQueue}
-use Rattle.rows.specs.Table.{recordOf}
+use Rattle.thread.specs.Membership.{emptyQueue, onLink}
+use Rattle.rows.specs.Table.{recordOf, queueLinksAt}
+use Rattle.rows.specs.TableCases.{onQueueLinks}
 use Rattle.sound_lists.specs.Members.{has}
 use Rattle.sound_lists.specs.Sound.{HoldsList}
 use Rattle.queue.specs.RunQueue.{CpuRunQueue}
@@ -47,3 +50,21 @@ pub record Lists (lists : ℕ → ThreadQueue) (cpu : CpuIndex) (t : List Thread
   pub members : ℕ → List ℕ
   pub holds : (n : ℕ) → n < listCount → HoldsList t (lists n) (members n) (membershipAt cpu n)
   pub exact : (j n : ℕ) → n < listCount → has j (members n) ≡ eqb (row j) n
+
+-- Up to n threads as one reads them from a link on, each the next of the one before.
+unfoldable pub threadsFrom : ℕ → List ThreadRecord → Link → List ℕ
+threadsFrom zero t at = []
+threadsFrom (suc n) t at =
+    onLink at [] (λ i. i ∷ onQueueLinks (queueLinksAt t i) [] (λ links. threadsFrom n t (links .next)))
+
+-- The threads of a list: read from its head, as many as its length says.
+abbrev pub threadsOf : List ThreadRecord → ThreadQueue → List ℕ
+threadsOf t list = threadsFrom (list .len) t (list .head)
+
+-- A thread joined to others: as the first, or as the last.
+unfoldable pub joined : Bool → ℕ → List ℕ → List ℕ
+joined front i members = choose front (i ∷ members) (members ++ i ∷ [])
+
+-- List n changed by f, every other as it was.
+unfoldable pub relisted : ℕ → (List ℕ → List ℕ) → (ℕ → List ℕ) → ℕ → List ℕ
+relisted n f members m = choose (eqb m n) (f (members m)) (members m)

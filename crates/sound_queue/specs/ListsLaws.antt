@@ -11,21 +11,26 @@ use borrow.Author.Tests.{eqb-true, eqb-false, eq-eqb, ne-eqb}
 use Rattle.refusal.specs.Answer.{Answer}
 use Rattle.refusal.specs.Cases.{choose}
 use Rattle.thread.specs.declared.CpuIndex.{CpuIndex}
+use Rattle.thread.specs.declared.Link.{Link}
+use Rattle.thread.specs.declared.Link.the-variants as link
+use Rattle.thread.specs.declared.QueueMembership.{QueueMembership}
 use Rattle.thread.specs.declared.ThreadQueue.{ThreadQueue}
 use Rattle.thread.specs.declared.ThreadRecord.{ThreadRecord}
+use Rattle.thread.specs.Membership.{onLink}
 use Rattle.rows.specs.Table.{Out, after, queueLinksAt}
-use Rattle.sound_lists.specs.Members.{has, without}
+use Rattle.rows.specs.TableCases.{onQueueLinks}
+use Rattle.sound_lists.specs.Members.{has, firstOr, without}
 use Rattle.sound_lists.specs.MembersLaws.{has-append, has-without, or-right}
-use Rattle.sound_lists.specs.Sound.{HoldsList, Accepted}
+use Rattle.sound_lists.specs.Sound.{Linked, HoldsList, Accepted}
 use Rattle.sound_lists.specs.Frame.{member-below, holds-frame}
 use Rattle.sound_queue.specs.PlaceLaws.{joined-here, joined-else, left-here, left-else}
 use Rattle.sound_queue.specs.Forest.{placed}
 use Rattle.sound_queue.specs.Count.{count}
 use Rattle.sound_queue.specs.CountLaws.{count-same, length-counts}
-use Rattle.sound_queue.specs.Lists.{membershipAt, Lists, listCount}
+use Rattle.sound_queue.specs.Lists.{membershipAt, Lists, listCount, threadsFrom, threadsOf, relisted}
 
 -- The lists stand in every table in which their threads have the same list links.
-pub lists-still : {lists : ℕ → ThreadQueue} {cpu : CpuIndex} {t : List ThreadRecord} {row : ℕ → ℕ}
+unfoldable pub lists-still : {lists : ℕ → ThreadQueue} {cpu : CpuIndex} {t : List ThreadRecord} {row : ℕ → ℕ}
     (s : List ThreadRecord)
     → ((j : ℕ) → row j < listCount → queueLinksAt s j ≡ queueLinksAt t j) → Lists lists cpu t row
     → Lists lists cpu s row
@@ -39,9 +44,8 @@ lists-still {lists} {cpu} {t} {row} s h L = record {
     inside j n b e = let q = eqb-true (row j) n (sym (L .exact j n b) ∙ e) in omega arith
 
 -- The rows of the threads may be given by another function that is the same.
-pub lists-same : {lists : ℕ → ThreadQueue} {cpu : CpuIndex} {t : List ThreadRecord} {row : ℕ → ℕ} (other : ℕ → ℕ)
-    → ((j : ℕ) → row j ≡ other j)
-    → Lists lists cpu t row → Lists lists cpu t other
+unfoldable pub lists-same : {lists : ℕ → ThreadQueue} {cpu : CpuIndex} {t : List ThreadRecord} {row : ℕ → ℕ}
+    (other : ℕ → ℕ) → ((j : ℕ) → row j ≡ other j) → Lists lists cpu t row → Lists lists cpu t other
 lists-same other h L =
     record { members = L .members; holds = L .holds; exact = λ j n b. L .exact j n b ∙ ap (λ m. eqb m n) (h j) }
 
@@ -54,56 +58,68 @@ module _ {lists : ℕ → ThreadQueue} {cpu : CpuIndex} {t : List ThreadRecord} 
       ∙ count-same (length t) (λ j. eqb (row j) n) (λ j. has j (L .members n)) (λ j l. L .exact j n b)
 
   module _ (n : ℕ) (b : n < listCount) (i : ℕ) where
-    -- After an accepted call for i on list n: the other lists are as they were.
-    relisted : {x : Out (Answer ThreadQueue)} {now : List ℕ}
-        (A : Accepted t x (L .members n) i now (membershipAt cpu n)) (lists′ : ℕ → ThreadQueue) (row′ : ℕ → ℕ)
-        → lists′ n ≡ A .list → ((m : ℕ) → m < listCount → m ≢ n → lists′ m ≡ lists m)
+    -- After an accepted call for i on list n, which made f of its threads: the other lists are as they were.
+    unfoldable pub lists-after : {x : Out (Answer ThreadQueue)} (f : List ℕ → List ℕ)
+        (A : Accepted t x (L .members n) i (f (L .members n)) (membershipAt cpu n)) (lists′ : ℕ → ThreadQueue)
+        (row′ : ℕ → ℕ) → lists′ n ≡ A .list → ((m : ℕ) → m < listCount → m ≢ n → lists′ m ≡ lists m)
         → ((m : ℕ) → m < listCount → m ≢ n → row i ≢ m)
-        → ((j : ℕ) → has j now ≡ eqb (row′ j) n)
+        → ((j : ℕ) → has j (f (L .members n)) ≡ eqb (row′ j) n)
         → ((j m : ℕ) → m < listCount → m ≢ n → eqb (row j) m ≡ eqb (row′ j) m)
         → Lists lists′ cpu (after x) row′
-    relisted {x} {now} A lists′ row′ e f apart here else = record {
-      members = members;
+    unfolding relisted choose
+    lists-after {x} f A lists′ row′ e g apart here else = record {
+      members = relisted n f (L .members);
       holds = λ m c. holds-by m c (eqb m n) refl;
       exact = λ j m c. exact-by j m c (eqb m n) refl;
     }
       where
-        membersIf : Bool → ℕ → List ℕ
-        membersIf true m = now
-        membersIf false m = L .members m
-
-        members : ℕ → List ℕ
-        members m = membersIf (eqb m n) m
-
         holds-by : (m : ℕ) → m < listCount → (y : Bool) → eqb m n ≡ y
-            → HoldsList (after x) (lists′ m) (membersIf y m) (membershipAt cpu m)
+            → HoldsList (after x) (lists′ m) (choose y (f (L .members m)) (L .members m)) (membershipAt cpu m)
         holds-by m c true z = rw (eqb-true m n z, e) (A .holds)
-        holds-by m c false z = rw (f m c (eqb-false m n z)) (holds-frame (L .holds m c) (after x)
+        holds-by m c false z = rw (g m c (eqb-false m n z)) (holds-frame (L .holds m c) (after x)
             (λ j h.
             let r = eqb-true (row j) m (sym (L .exact j m c) ∙ h) in
             A .others j (L .exact j n b ∙ ne-eqb (row j) n (λ w. eqb-false m n z (sym r ∙ w)))
             (λ w. apart m c (eqb-false m n z) (ap row (sym w) ∙ r)) .1))
 
-        exact-by : (j m : ℕ) → m < listCount → (y : Bool) → eqb m n ≡ y → has j (membersIf y m) ≡ eqb (row′ j) m
-        exact-by j m c true z = here j ∙ ap (eqb (row′ j)) (sym (eqb-true m n z))
+        exact-by : (j m : ℕ) → m < listCount → (y : Bool) → eqb m n ≡ y
+            → has j (choose y (f (L .members m)) (L .members m)) ≡ eqb (row′ j) m
+        exact-by j m c true z = rw (eqb-true m n z) (here j)
         exact-by j m c false z = L .exact j m c ∙ else j m c (eqb-false m n z)
 
-    module _ {x : Out (Answer ThreadQueue)} {now : List ℕ} (A : Accepted t x (L .members n) i now (membershipAt cpu n))
+    module _ {x : Out (Answer ThreadQueue)} (f : List ℕ → List ℕ)
+        (A : Accepted t x (L .members n) i (f (L .members n)) (membershipAt cpu n))
         (lists′ : ℕ → ThreadQueue)
-        (e : lists′ n ≡ A .list) (f : (m : ℕ) → m < listCount → m ≢ n → lists′ m ≡ lists m) where
+        (e : lists′ n ≡ A .list) (g : (m : ℕ) → m < listCount → m ≢ n → lists′ m ≡ lists m)
+        (s : (j : ℕ) → j ≢ i → has j (f (L .members n)) ≡ has j (L .members n)) where
       -- A thread that stood in no list stands in list n.
-      pub list-joined : listCount ≤ row i → has i now ≡ true → ((j : ℕ) → j ≢ i → has j now ≡ has j (L .members n))
+      unfoldable pub list-joined : listCount ≤ row i → has i (f (L .members n)) ≡ true
           → Lists lists′ cpu (after x) (placed i n row)
-      list-joined o h s = relisted A lists′ (placed i n row) e f (λ m c d z. omega arith)
-          (joined-here listCount i n row b (λ j. has j (L .members n)) (λ j. has j now) (λ j. L .exact j n b) s h)
+      list-joined o h = lists-after f A lists′ (placed i n row) e g (λ m c d z. omega arith)
+          (joined-here listCount i n row b (λ j. has j (L .members n)) (λ j. has j (f (L .members n)))
+          (λ j. L .exact j n b) s h)
           (λ j m c d. joined-else listCount i n row j m c d o)
 
       -- A thread that stood in list n stands in none.
-      pub list-left : row i ≡ n → has i now ≡ false → ((j : ℕ) → j ≢ i → has j now ≡ has j (L .members n))
+      unfoldable pub list-left : row i ≡ n → has i (f (L .members n)) ≡ false
           → Lists lists′ cpu (after x) (placed i listCount row)
-      list-left o h s = relisted A lists′ (placed i listCount row) e f (λ m c d z. d (sym z ∙ o))
-          (left-here listCount i n row b (λ j. has j (L .members n)) (λ j. has j now) (λ j. L .exact j n b) s h)
+      list-left o h = lists-after f A lists′ (placed i listCount row) e g (λ m c d z. d (sym z ∙ o))
+          (left-here listCount i n row b (λ j. has j (L .members n)) (λ j. has j (f (L .members n)))
+          (λ j. L .exact j n b) s h)
           (λ j m c d. left-else listCount i n row j m c d o)
+
+-- Threads that are linked are read from the first on.
+read-linked : (t : List ThreadRecord) (m : QueueMembership) (p : Link) (l : List ℕ)
+    → Linked (queueLinksAt t) m p l link.None → threadsFrom (length l) t (firstOr l link.None) ≡ l
+unfolding threadsFrom onLink onQueueLinks
+read-linked t m p [] h = refl
+read-linked t m p (i ∷ l) h =
+    rw (h .here) (ap (λ (s : List ℕ). i ∷ s) (read-linked t m (link.Some i) l (h .rest)))
+
+-- What one reads of a list is what it holds.
+pub list-read : {t : List ThreadRecord} {q : ThreadQueue} {members : List ℕ} {m : QueueMembership}
+    → HoldsList t q members m → threadsOf t q ≡ members
+list-read {t} {q} {members} {m} H = rw (H .len, H .head) (read-linked t m link.None members (H .linked))
 
 -- Who is in a sequence with one added at the back or at the front, or with one taken out.
 module _ (i : ℕ) (l : List ℕ) where

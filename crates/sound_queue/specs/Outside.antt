@@ -13,7 +13,7 @@ use Rattle.thread.specs.declared.ThreadRecord.{ThreadRecord}
 use Rattle.thread.specs.Membership.{emptyQueue}
 use Rattle.rows.specs.declared.RecordRead.the-variants as read
 use Rattle.rows.specs.Table.{recordOf, recordAt, queueLinksAt, maxRecords}
-use Rattle.rows.specs.TableLaws.{record-within, queue-links-within}
+use Rattle.rows.specs.TableLaws.{record-within, record-got-within, queue-links-within}
 use Rattle.avl.specs.Tree.{leaf, inOrder}
 use Rattle.sound_index.specs.TableLaws.{record-links, record-key}
 use Rattle.sound_index.specs.Soundness.{holds-empty}
@@ -22,7 +22,8 @@ use Rattle.queue.specs.declared.Root.{Root}
 use Rattle.queue.specs.RunQueue.{CpuRunQueue, treeCount}
 use Rattle.queue.specs.Queue.{emptyRoot, newQueue, isFifo, isBudget}
 use Rattle.sound_queue.specs.ForestLaws.{forest-still, placed-inside}
-use Rattle.sound_queue.specs.CountLaws.{count-same, count-none}
+use Rattle.sound_queue.specs.Count.{count}
+use Rattle.sound_queue.specs.CountLaws.{count-same, count-bounds, count-none}
 use Rattle.sound_queue.specs.Lists.{listAt, membershipAt, listFor, rowOf, listCount}
 use Rattle.sound_queue.specs.ListsLaws.{lists-still, lists-same}
 use Rattle.sound_queue.specs.Sound.{Queued, queuedOf, Sound}
@@ -63,23 +64,25 @@ new-sound cpu t n = record {
 }
 
 -- The records of the queued threads, where those threads' records are kept.
-module _ (t s : List ThreadRecord) (l : length s ≡ length t) (j : ℕ) (b : j < length t)
-    (e : recordAt s j ≡ recordAt t j) where
+module _ (t s : List ThreadRecord) (j : ℕ) (b : j < length t) (e : recordAt s j ≡ recordAt t j) where
+  kept-inside : j < length s
+  kept-inside = record-got-within s j (e ∙ record-within t j b)
+
   kept-record : recordOf s j ≡ recordOf t j
   kept-record =
-      let k : read.Got (recordOf s j) ≡ read.Got (recordOf t j) = sym (record-within s j (omega arith)) ∙ e
+      let k : read.Got (recordOf s j) ≡ read.Got (recordOf t j) = sym (record-within s j kept-inside) ∙ e
       ∙ record-within t j b in cc
 
   kept-queue-links : queueLinksAt s j ≡ queueLinksAt t j
   kept-queue-links =
-      queue-links-within s j (omega arith) ∙ ap (λ (r : ThreadRecord). queueLinks.Got (r .«queue_links»)) kept-record
+      queue-links-within s j kept-inside ∙ ap (λ (r : ThreadRecord). queueLinks.Got (r .«queue_links»)) kept-record
       ∙ sym (queue-links-within t j b)
 
 module _ {cpu : CpuIndex} {queued : ℕ → Bool} {q : CpuRunQueue} {t : List ThreadRecord} (S : Sound cpu queued q t)
     (s : List ThreadRecord)
-    (l : length s ≡ length t) (h : (j : ℕ) → queued j ≡ true → recordAt s j ≡ recordAt t j) where
+    (small : length s ≤ maxRecords) (h : (j : ℕ) → queued j ≡ true → recordAt s j ≡ recordAt t j) where
   same-record : (j : ℕ) → queued j ≡ true → recordOf s j ≡ recordOf t j
-  same-record j e = kept-record t s l j (queued-inside S j e) (h j e)
+  same-record j e = kept-record t s j (queued-inside S j e) (h j e)
 
   row-kept : (j : ℕ) → rowOf queued t j ≡ rowOf queued s j
   unfolding rowOf choose
@@ -100,6 +103,22 @@ module _ {cpu : CpuIndex} {queued : ℕ → Bool} {q : CpuRunQueue} {t : List Th
       go true e = rw (same-record j e)
       go false e = refl
 
+  -- A queued thread is in both tables, so that a count of queued threads is the same in both.
+  in-both : (p : SchedulingPolicy → Bool) (j : ℕ) → queuedOf p queued s j ≡ true → (j < length t) × (j < length s)
+  unfolding queuedOf
+  in-both p j = go (queued j) refl
+    where
+      go : (x : Bool) → queued j ≡ x → x && p (recordOf s j .parameters .policy) ≡ true
+          → (j < length t) × (j < length s)
+      go true e z = let b = queued-inside S j e in (b, kept-inside t s j b (h j e))
+      go false e z = never cc
+
+  counts-kept : (p : SchedulingPolicy → Bool)
+      → count (length t) (queuedOf p queued t) ≡ count (length s) (queuedOf p queued s)
+  counts-kept p =
+      count-same (length t) (queuedOf p queued s) (queuedOf p queued t) (λ j m. of-kept p j)
+      ∙ count-bounds (length t) (length s) (queuedOf p queued s) (in-both p)
+
   queued-if-placed : (j : ℕ) → S .place j < treeCount → queued j ≡ true
   queued-if-placed j b = sym (S .stands j) ∙ lt-ltb (S .place j) treeCount b
 
@@ -110,11 +129,11 @@ module _ {cpu : CpuIndex} {queued : ℕ → Bool} {q : CpuRunQueue} {t : List Th
       go true e = e
       go false e = let a = row-not-queued queued t j e in absurd (omega arith)
 
-  -- Records that are not queued may change in any way, their links and membership too.
+  -- Records that are not queued may change in any way, their links and membership too; records may be added or dropped.
   pub changes-sound : Sound cpu queued q s
   changes-sound = record {
     place = S .place;
-    forest = forest-still s (omega (arith, S .forest .small))
+    forest = forest-still s small
         (λ j b. (
           record-links t s j (placed-inside (S .forest) j b) (h j (queued-if-placed j b)),
           record-key t s j (placed-inside (S .forest) j b) (h j (queued-if-placed j b)),
@@ -123,13 +142,9 @@ module _ {cpu : CpuIndex} {queued : ℕ → Bool} {q : CpuRunQueue} {t : List Th
     threads = λ j e. subst (λ (r : ThreadRecord). Queued cpu r (S .place j)) (sym (same-record j e)) (S .threads j e);
     priorities = S .priorities;
     lists = lists-same (rowOf queued s) row-kept
-        (lists-still s (λ j b. kept-queue-links t s l j (queued-inside S j (queued-if-listed j b))
+        (lists-still s (λ j b. kept-queue-links t s j (queued-inside S j (queued-if-listed j b))
         (h j (queued-if-listed j b))) (S .lists));
-    total =
-        S .total ∙ rw l (count-same (length t) (queuedOf isFifo queued s) (queuedOf isFifo queued t)
-        (λ j m. of-kept isFifo j));
-    budgets =
-        S .budgets ∙ rw l (count-same (length t) (queuedOf isBudget queued s) (queuedOf isBudget queued t)
-        (λ j m. of-kept isBudget j));
+    total = S .total ∙ counts-kept isFifo;
+    budgets = S .budgets ∙ counts-kept isBudget;
     running = S .running;
   }

@@ -17,9 +17,9 @@ use Rattle.sound_queue.specs.Sound.{including, excluding, PriorityFits}
 abbrev pub nobody : ℕ → Bool
 nobody j = false
 
--- From a new queue over any table of up to 4,096 records: accepted enqueues and removals on one processor, and changes
--- of any kind to records that are not queued. The set is of those whose enqueue was accepted and who were not removed
--- since.
+-- From a new queue over any table of up to 4,096 records: accepted enqueues and removals on one processor, changes of
+-- any kind to records that are not queued, and records added or dropped behind the queued ones. The set is of those
+-- whose enqueue was accepted and who were not removed since.
 pub data Reached (cpu : CpuIndex) : (ℕ → Bool) → CpuRunQueue → List ThreadRecord → Type 0 where
   new : (t : List ThreadRecord) → length t ≤ maxRecords → Reached cpu nobody newQueue t
   enqueued : (queued : ℕ → Bool) (q r : CpuRunQueue) (t s : List ThreadRecord) (front : Bool) (i : ℕ)
@@ -29,5 +29,5 @@ pub data Reached (cpu : CpuIndex) : (ℕ → Bool) → CpuRunQueue → List Thre
       → removeCall t q i cpu ≡ out (step (value tt) r) s
       → Reached cpu (excluding i queued) r s
   changed : (queued : ℕ → Bool) (q : CpuRunQueue) (t s : List ThreadRecord) → Reached cpu queued q t
-      → length s ≡ length t
+      → length s ≤ maxRecords
       → ((j : ℕ) → queued j ≡ true → recordAt s j ≡ recordAt t j) → Reached cpu queued q s

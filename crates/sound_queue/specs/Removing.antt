@@ -33,9 +33,11 @@ use Rattle.sound_queue.specs.Forest.{Forest, placed, Replanted}
 use Rattle.sound_queue.specs.PlaceLaws.{placed-same, placed-other, same-or-not}
 use Rattle.sound_queue.specs.ForestLaws.{forest-still, contains-placed, uprooted}
 use Rattle.sound_queue.specs.Count.{count}
-use Rattle.sound_queue.specs.Lists.{listAt, membershipAt, listFor, rowOf, Lists, listCount}
-use Rattle.sound_queue.specs.ListsLaws.{lists-still, lists-same, list-left, without-same, without-here}
-use Rattle.sound_queue.specs.Sound.{Filed, by-filing, in-partner, Queued, queuedOf, Sound, excluding, Accepted}
+use Rattle.sound_queue.specs.Lists.{listAt, membershipAt, listFor, rowOf, Lists, listCount, relisted}
+use Rattle.sound_queue.specs.ListsLaws.{lists-still, lists-same, list-left, lists-after, without-same}
+use Rattle.sound_queue.specs.ListsLaws.{without-here}
+use Rattle.sound_queue.specs.Sound.{Filed, by-filing, in-partner, Queued, queuedOf, Sound, excluding, removing}
+use Rattle.sound_queue.specs.Sound.{Accepted}
 use Rattle.sound_queue.specs.LinksLaws.{besides-queue-links, list-stores-links, list-stores-key}
 use Rattle.sound_queue.specs.LinksLaws.{list-stores-length, both-stores}
 use Rattle.sound_queue.specs.PartsLaws.{list-of, list-fifo, list-stored, list-stored-other, priorities-stored}
@@ -159,14 +161,14 @@ module _ {cpu : CpuIndex} {queued : ℕ → Bool} {q : CpuRunQueue} {t : List Th
         abbrev queue : CpuRunQueue
         queue = withParts q (membershipAt cpu row) (S .place i) parts
 
-        new-lists : Lists (listAt queue) cpu (R .table) (rowOf (excluding i queued) t)
+        unfoldable new-lists : Lists (listAt queue) cpu (R .table) (rowOf (excluding i queued) t)
         new-lists =
             lists-same (rowOf (excluding i queued) t) (row-excluded i queued t)
             (lists-still (R .table) (λ j b. besides-queue-links listed (R .table) j (R .besides))
-            (list-left (S .lists) row row-low i A (listAt queue)
+            (list-left (S .lists) row row-low i (without i) A (listAt queue)
             (list-stored q cpu (S .place i) parts row row-low (S .priorities))
-            (λ m c d. list-stored-other q cpu (S .place i) parts row m d) row-is
-            (without-here i (S .lists .members row)) (without-same i (S .lists .members row))))
+            (λ m c d. list-stored-other q cpu (S .place i) parts row m d) (without-same i (S .lists .members row))
+            row-is (without-here i (S .lists .members row))))
 
         new-stands : (j : ℕ) → ltb (placed i treeCount (S .place) j) treeCount ≡ excluding i queued j
         new-stands j = same-or-not j i
@@ -181,13 +183,21 @@ module _ {cpu : CpuIndex} {queued : ℕ → Bool} {q : CpuRunQueue} {t : List Th
             never cc)
             (λ z. rw (placed-other i treeCount (S .place) j z) (S .threads j (sym (excluded-other i queued j z) ∙ h)))
 
-        new-sound : Sound cpu (excluding i queued) queue (R .table)
+        unfoldable new-sound : Sound cpu (excluding i queued) queue (R .table)
         new-sound =
             let s = rest-stored q cpu (S .place i) parts row in
             sound-by t (R .table) (both-stores t listed (R .table) (A .rest) (R .besides))
             (excluding i queued) cpu queue (placed i treeCount (S .place))
             (rw (s .0) (R .forest)) new-stands new-threads
             (priorities-stored q cpu (S .place i) parts row ∙ S .priorities) new-lists (s .1) (s .2) (s .3 ∙ S .running)
+
+        new-places : (j : ℕ) → new-sound .place j ≡ placed i treeCount (S .place) j
+        unfolding new-sound sound-by
+        new-places j = refl
+
+        new-members : (n : ℕ) → new-sound .lists .members n ≡ relisted row (without i) (S .lists .members) n
+        unfolding new-sound sound-by new-lists lists-same lists-still list-left lists-after
+        new-members n = refl
 
         new-others : (j : ℕ) → queued j ≡ false → j ≢ i → recordAt (R .table) j ≡ recordAt t j
         new-others j h d =
@@ -220,7 +230,7 @@ module _ {cpu : CpuIndex} {queued : ℕ → Bool} {q : CpuRunQueue} {t : List Th
             (S .threads i e .judged) (G .is)
             ∙ rw (G .tree) (remove-ready t q i cpu (recordOf t i) (S .place i) row (queued-membership S i e) ∙ work-is)
 
-        removed-by : Found → Accepted cpu queued (excluding i queued) i t (removeCall t q i cpu)
+        removed-by : Found → Accepted S (removing i) (removeCall t q i cpu)
         removed-by G = record {
           queue = queue;
           table = R .table;
@@ -228,13 +238,15 @@ module _ {cpu : CpuIndex} {queued : ℕ → Bool} {q : CpuRunQueue} {t : List Th
           kept =
               record {
                 sound = new-sound;
+                places = new-places;
+                members = new-members;
                 besides = both-stores t listed (R .table) (A .rest) (R .besides);
                 others = new-others;
               };
         }
 
     -- The removal of a queued thread is accepted, also where a budget thread stands in the partner tree.
-    pub removed : Accepted cpu queued (excluding i queued) i t (removeCall t q i cpu)
+    pub removed : Accepted S (removing i) (removeCall t q i cpu)
     removed =
         let A = remove-holds i (S .lists .holds row row-low)
         (S .lists .exact i row row-low ∙ eq-eqb (rowOf queued t i) row row-is) .0 in

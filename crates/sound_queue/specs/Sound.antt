@@ -17,14 +17,15 @@ use Rattle.thread.specs.declared.IndexFor.the-variants as index
 use Rattle.thread.specs.declared.QueueMembership.the-variants as membership
 use Rattle.thread.specs.declared.ThreadRecord.{ThreadRecord}
 use Rattle.thread.specs.Judgement.{isBadRecord}
-use Rattle.thread.specs.Filing.{indexFor}
+use Rattle.thread.specs.Filing.{indexFor, onIndex}
 use Rattle.rows.specs.Table.{Out, out, recordOf, recordAt}
 use Rattle.sound_index.specs.Holds.{besidesLinks}
+use Rattle.sound_lists.specs.Members.{without}
 use Rattle.sound_lists.specs.Sound.{withoutLists}
 use Rattle.queue.specs.RunQueue.{CpuRunQueue, treeCount}
 use Rattle.queue.specs.Queue.{Step, step, isFifo, isBudget, partner}
-use Rattle.sound_queue.specs.Forest.{Forest}
-use Rattle.sound_queue.specs.Lists.{listAt, listFor, rowOf, Lists, listCount}
+use Rattle.sound_queue.specs.Forest.{Forest, placed}
+use Rattle.sound_queue.specs.Lists.{listAt, listFor, rowOf, Lists, listCount, joined, relisted}
 use Rattle.sound_queue.specs.Count.{count}
 
 -- The tree in which a record may stand: that of its filing; of a budget also the partner, since its time may have run
@@ -72,27 +73,53 @@ excluding i queued j = choose (eqb j i) false (queued j)
 abbrev pub withoutLinks : List ThreadRecord → List ThreadRecord
 withoutLinks t = besidesLinks (withoutLists t)
 
--- A call that names thread i left queue q and table s: the queue is sound, and now `after` are queued. Of every record
--- only links changed, and a record that is neither queued nor i did not change at all.
-pub record Kept (cpu : CpuIndex) (queued after : ℕ → Bool) (i : ℕ) (t : List ThreadRecord) (q : CpuRunQueue)
-    (s : List ThreadRecord) : Type 0 where
-  pub sound : Sound cpu after q s
+-- The tree of a record's filing; `treeCount` where it has none.
+unfoldable pub treeFor : ThreadRecord → ℕ
+treeFor r = onIndex (indexFor (r .parameters) (r .runtime)) treeCount (λ k. k)
+
+-- What an accepted call does: to which thread; who is queued after it; the tree in which the thread then stands,
+-- `treeCount` for none; and what becomes of the list of its policy.
+pub record Effect : Type 0 where
+  pub thread : ℕ
+  pub after : (ℕ → Bool) → ℕ → Bool
+  pub tree : ℕ
+  pub list : List ℕ → List ℕ
+
+-- An enqueue puts thread i into the tree of its filing and to the named end of its list.
+abbrev pub enqueuing : Bool → List ThreadRecord → ℕ → Effect
+enqueuing front t i =
+    record { thread = i; after = including i; tree = treeFor (recordOf t i); list = joined front i }
+
+-- A removal takes it out of the tree in which it stood, and out of its list, where the others keep their order.
+abbrev pub removing : ℕ → Effect
+removing i = record { thread = i; after = excluding i; tree = treeCount; list = without i }
+
+-- From a sound queue a call left queue r and table s: the queue is sound, and has that effect on it and no other. Each
+-- of the twelve trees and each of the 257 lists holds what it held, but for the one thread (`kept-trees` and
+-- `kept-lists` in Calls.antt say so of `contains` and of reading the list). Of every record only links changed, and a
+-- record that is neither queued nor the thread's did not change at all.
+pub record Kept {cpu : CpuIndex} {queued : ℕ → Bool} {q : CpuRunQueue} {t : List ThreadRecord}
+    (S : Sound cpu queued q t) (e : Effect) (r : CpuRunQueue) (s : List ThreadRecord) : Type 0 where
+  pub sound : Sound cpu (e .after queued) r s
+  pub places : (j : ℕ) → sound .place j ≡ placed (e .thread) (e .tree) (S .place) j
+  pub members : (n : ℕ) → sound .lists .members n
+      ≡ relisted (listFor (recordOf t (e .thread) .parameters .policy)) (e .list) (S .lists .members) n
   pub besides : withoutLinks s ≡ withoutLinks t
-  pub others : (j : ℕ) → queued j ≡ false → j ≢ i → recordAt s j ≡ recordAt t j
+  pub others : (j : ℕ) → queued j ≡ false → j ≢ e .thread → recordAt s j ≡ recordAt t j
 
 -- The call was accepted, and that is what it left.
-pub record Accepted (cpu : CpuIndex) (queued after : ℕ → Bool) (i : ℕ) (t : List ThreadRecord)
-    (o : Out (Step (Unit {0}))) : Type 0 where
+pub record Accepted {cpu : CpuIndex} {queued : ℕ → Bool} {q : CpuRunQueue} {t : List ThreadRecord}
+    (S : Sound cpu queued q t) (e : Effect) (o : Out (Step (Unit {0}))) : Type 0 where
   pub queue : CpuRunQueue
   pub table : List ThreadRecord
   pub is : o ≡ out (step (value tt) queue) table
-  pub kept : Kept cpu queued after i t queue table
+  pub kept : Kept S e queue table
 
 -- Refused with queue and table as they were, or accepted: what every call on a sound queue comes to.
-pub data Fine (cpu : CpuIndex) (queued after : ℕ → Bool) (i : ℕ) (q : CpuRunQueue) (t : List ThreadRecord)
-    (o : Out (Step (Unit {0}))) : Type 0 where
-  unchanged : (n : ℕ) → o ≡ out (step (refused n) q) t → Fine cpu queued after i q t o
-  made : Accepted cpu queued after i t o → Fine cpu queued after i q t o
+pub data Fine {cpu : CpuIndex} {queued : ℕ → Bool} {q : CpuRunQueue} {t : List ThreadRecord}
+    (S : Sound cpu queued q t) (e : Effect) (o : Out (Step (Unit {0}))) : Type 0 where
+  unchanged : (n : ℕ) → o ≡ out (step (refused n) q) t → Fine S e o
+  made : Accepted S e o → Fine S e o
 
 -- A FIFO priority is a byte, as in every record of the code; the definitions' numbers have no bound of their own.
 abbrev pub PriorityFits : SchedulingPolicy → Type 0

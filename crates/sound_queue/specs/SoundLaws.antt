@@ -10,8 +10,10 @@ use borrow.Author.Tests.{ltb-true, ltb-false, eq-eqb, ne-eqb}
 use Rattle.refusal.specs.Cases.{choose}
 use Rattle.policy.specs.declared.SchedulingPolicy.{SchedulingPolicy}
 use Rattle.thread.specs.declared.CpuIndex.{CpuIndex}
+use Rattle.thread.specs.declared.IndexFor.the-variants as index
 use Rattle.thread.specs.declared.QueueLinks.{QueueLinks}
 use Rattle.thread.specs.declared.ThreadRecord.{ThreadRecord}
+use Rattle.thread.specs.Filing.{indexFor, onIndex}
 use Rattle.rows.specs.declared.QueueLinksRead.the-variants as queueLinks
 use Rattle.rows.specs.Table.{recordOf}
 use Rattle.rows.specs.TableLaws.{queue-links-within}
@@ -25,8 +27,13 @@ use Rattle.sound_queue.specs.Count.{count}
 use Rattle.sound_queue.specs.CountLaws.{count-same, count-one}
 use Rattle.sound_queue.specs.Lists.{listAt, membershipAt, listFor, rowOf, Lists, listCount}
 use Rattle.sound_queue.specs.ListsLaws.{lists-same}
-use Rattle.sound_queue.specs.Sound.{Queued, queuedOf, Sound, including, excluding, withoutLinks}
+use Rattle.sound_queue.specs.Sound.{Queued, queuedOf, Sound, including, excluding, withoutLinks, treeFor}
 use Rattle.sound_queue.specs.LinksLaws.{same-length, same-parameters, same-runtime, same-cpu, queued-still}
+
+-- The tree of a record's filing, by its name.
+pub tree-for : (r : ThreadRecord) (k : ℕ) → indexFor (r .parameters) (r .runtime) ≡ index.Index k → treeFor r ≡ k
+unfolding treeFor onIndex
+tree-for r k e = rw e
 
 -- Who is queued with one thread more, and with one less.
 module _ (i : ℕ) (queued : ℕ → Bool) where
@@ -102,11 +109,11 @@ module _ (p : SchedulingPolicy → Bool) (f g : ℕ → Bool) (t : List ThreadRe
 
 -- A table alike but for links: rows and counts are the same.
 module _ (t s : List ThreadRecord) (e : withoutLinks s ≡ withoutLinks t) (queued : ℕ → Bool) where
-  row-still : (j : ℕ) → rowOf queued s j ≡ rowOf queued t j
+  pub row-still : (j : ℕ) → rowOf queued s j ≡ rowOf queued t j
   unfolding rowOf
   row-still j = rw (same-parameters t s e j)
 
-  count-still : (p : SchedulingPolicy → Bool)
+  pub count-still : (p : SchedulingPolicy → Bool)
       → count (length s) (queuedOf p queued s) ≡ count (length t) (queuedOf p queued t)
   unfolding queuedOf
   count-still p =
@@ -114,7 +121,7 @@ module _ (t s : List ThreadRecord) (e : withoutLinks s ≡ withoutLinks t) (queu
       (λ j l. rw (same-parameters t s e j)))
 
   -- So soundness may be shown by the earlier table, but for trees and lists.
-  pub sound-by : (cpu : CpuIndex) (q : CpuRunQueue) (place : ℕ → ℕ) → Forest (q .indices) s place
+  unfoldable pub sound-by : (cpu : CpuIndex) (q : CpuRunQueue) (place : ℕ → ℕ) → Forest (q .indices) s place
       → ((j : ℕ) → ltb (place j) treeCount ≡ queued j)
       → ((j : ℕ) → queued j ≡ true → Queued cpu (recordOf t j) (place j)) → length (q .realtime) ≡ 256
       → Lists (listAt q) cpu s (rowOf queued t)

@@ -1,5 +1,5 @@
 -- The words of demand 3, after document 01, "Keys and filing".
-use Prim.Native.Nat.{ℕ, zero, suc, _+_, _/_, _<_}
+use Prim.Native.Nat.{ℕ, zero, suc, _+_, _/_, _≤_, _<_}
 use mathlib.Core.Path.{_≡_}
 use mathlib.Core.Bool.{Bool, true, false, not}
 use mathlib.Core.Logic.{_≢_}
@@ -24,7 +24,7 @@ use Rattle.thread.specs.declared.CpuIndex.{CpuIndex}
 use Rattle.thread.specs.declared.ThreadRecord.{ThreadRecord}
 use Rattle.thread.specs.Filing.{budgetAvailable, roleIndex, budgetReady}
 use Rattle.thread.specs.Records.{withRuntime}
-use Rattle.rows.specs.Table.{Out, out, recordOf, recordAt}
+use Rattle.rows.specs.Table.{Out, out, recordOf, recordAt, maxRecords}
 use Rattle.lists.specs.Lists.{onAnswer}
 use Rattle.ready_index.specs.Index.{contains}
 use Rattle.queue.specs.RunQueue.{CpuRunQueue}
@@ -150,13 +150,14 @@ after cpu (changeTo t) s = record { queue = s .queue; table = t; queued = s .que
 abbrev pub Bytes : List ThreadRecord → Type 0
 Bytes t = (i : ℕ) → i < length t → PriorityFits (recordOf t i .parameters .policy)
 
--- Any call may be made. Records change only while they are not queued, then in any way: their membership and links too.
+-- Any call may be made. Records change only while they are not queued, then in any way: their membership and links too;
+-- and records may be added or dropped, up to 4,096 in all. A queued thread's record is in both tables.
 abbrev pub Allowed : Call → State → Type 0
 Allowed (enqueueAt front i) s = Unit {0}
 Allowed (removeAt i) s = Unit {0}
 Allowed (selectAt now w current) s = Unit {0}
 Allowed (changeTo t) s =
-    (length t ≡ length (s .table)) × ((j : ℕ) → s .queued j ≡ true → recordAt t j ≡ recordAt (s .table) j) × Bytes t
+    (length t ≤ maxRecords) × ((j : ℕ) → s .queued j ≡ true → recordAt t j ≡ recordAt (s .table) j) × Bytes t
 
 -- One call after the other, each on what the one before left.
 unfoldable pub afterAll : CpuIndex → List Call → State → State

@@ -17,7 +17,7 @@ use Rattle.queue.specs.RunQueue.{CpuRunQueue}
 use Rattle.queue.specs.Queue.{Step, enqueueCall, removeCall}
 use Rattle.demands.specs.declared.CandidateOption.{CandidateOption}
 use Rattle.selection.specs.Peek.{Peeked, peekNext}
-use Rattle.sound_queue.specs.Sound.{Sound, including, excluding, Fine, PriorityFits}
+use Rattle.sound_queue.specs.Sound.{Sound, including, excluding, Effect, enqueuing, removing, Fine, PriorityFits}
 use Rattle.sound_queue.specs.LinksLaws.{same-length, same-parameters}
 use Rattle.sound_queue.specs.Sound as sound
 use Rattle.sound_queue.specs.Calls.{new-sound, changes-sound, enqueue-fine, remove-fine, rows-fit}
@@ -53,13 +53,13 @@ any-byte t b i = go (ltb i (length t)) refl
 
 module _ (cpu : CpuIndex) (s : State) where
   -- What a call leaves that is fine, and that it stands.
-  fine-sound : (o : Out (Step (Unit {0}))) (i : ℕ) (after : ℕ → Bool) → SoundIn cpu s
-      → Fine cpu (s .queued) after i (s .queue) (s .table) o → SoundIn cpu (leftBy o (s .queued) after)
-  fine-sound o i after S (sound.unchanged n e) =
-      subst (λ (x : Out (Step (Unit {0}))). SoundIn cpu (leftBy x (s .queued) after)) (sym e)
+  fine-sound : (o : Out (Step (Unit {0}))) (f : Effect) (S : SoundIn cpu s) → Fine (S .sound) f o
+      → SoundIn cpu (leftBy o (s .queued) (f .after (s .queued)))
+  fine-sound o f S (sound.unchanged n e) =
+      subst (λ (x : Out (Step (Unit {0}))). SoundIn cpu (leftBy x (s .queued) (f .after (s .queued)))) (sym e)
       (record { sound = S .sound; bytes = S .bytes })
-  fine-sound o i after S (sound.made A) =
-      subst (λ (x : Out (Step (Unit {0}))). SoundIn cpu (leftBy x (s .queued) after)) (sym (A .is))
+  fine-sound o f S (sound.made A) =
+      subst (λ (x : Out (Step (Unit {0}))). SoundIn cpu (leftBy x (s .queued) (f .after (s .queued)))) (sym (A .is))
       (record {
         sound = A .kept .sound;
         bytes = same-bytes (s .table) (A .table) (same-length (s .table) (A .table) (A .kept .besides))
@@ -84,28 +84,28 @@ module _ (cpu : CpuIndex) (s : State) where
   call-sound : (c : Call) → SoundIn cpu s → Allowed c s → SoundIn cpu (after cpu c s)
   unfolding after
   call-sound (enqueueAt front i) S a =
-      fine-sound (enqueueCall front (s .table) (s .queue) i cpu) i (including i (s .queued)) S
+      fine-sound (enqueueCall front (s .table) (s .queue) i cpu) (enqueuing front (s .table) i) S
       (enqueue-fine (S .sound) i front (any-byte (s .table) (S .bytes) i))
   call-sound (removeAt i) S a =
-      fine-sound (removeCall (s .table) (s .queue) i cpu) i (excluding i (s .queued)) S (remove-fine (S .sound) i)
+      fine-sound (removeCall (s .table) (s .queue) i cpu) (removing i) S (remove-fine (S .sound) i)
   call-sound (selectAt now w current) S a =
       selection-sound (peekNext (s .table) (s .queue) cpu now w current) now w S (select-fine (S .sound) now w current)
   call-sound (changeTo t) S a = record { sound = changes-sound (S .sound) t (a .0) (a .1); bytes = a .2 }
 
-  enqueue-stands : (front : Bool) (i : ℕ)
-      → Fine cpu (s .queued) (including i (s .queued)) i (s .queue) (s .table)
-      (enqueueCall front (s .table) (s .queue) i cpu) → Stands cpu (enqueueAt front i) s
+  enqueue-stands : (S : SoundIn cpu s) (front : Bool) (i : ℕ)
+      → Fine (S .sound) (enqueuing front (s .table) i) (enqueueCall front (s .table) (s .queue) i cpu)
+      → Stands cpu (enqueueAt front i) s
   unfolding after
-  enqueue-stands front i (sound.unchanged n e) =
+  enqueue-stands S front i (sound.unchanged n e) =
       unchanged (ap (λ (x : Out (Step (Unit {0}))). leftBy x (s .queued) (including i (s .queued))) e)
-  enqueue-stands front i (sound.made A) = accepted (A .queue, A .table, A .is)
+  enqueue-stands S front i (sound.made A) = accepted (A .queue, A .table, A .is)
 
-  remove-stands : (i : ℕ) → Fine cpu (s .queued) (excluding i (s .queued)) i (s .queue) (s .table)
-      (removeCall (s .table) (s .queue) i cpu) → Stands cpu (removeAt i) s
+  remove-stands : (S : SoundIn cpu s) (i : ℕ)
+      → Fine (S .sound) (removing i) (removeCall (s .table) (s .queue) i cpu) → Stands cpu (removeAt i) s
   unfolding after
-  remove-stands i (sound.unchanged n e) =
+  remove-stands S i (sound.unchanged n e) =
       unchanged (ap (λ (x : Out (Step (Unit {0}))). leftBy x (s .queued) (excluding i (s .queued))) e)
-  remove-stands i (sound.made A) = accepted (A .queue, A .table, A .is)
+  remove-stands S i (sound.made A) = accepted (A .queue, A .table, A .is)
 
   select-stands : (now : ℕ) (w : CpuWindow) (current : CandidateOption)
       → FineSelection cpu (s .queued) (s .queue) (s .table) now w (peekNext (s .table) (s .queue) cpu now w current)
@@ -117,8 +117,8 @@ module _ (cpu : CpuIndex) (s : State) where
 
   call-stands : (c : Call) → SoundIn cpu s → Allowed c s → Stands cpu c s
   call-stands (enqueueAt front i) S a =
-      enqueue-stands front i (enqueue-fine (S .sound) i front (any-byte (s .table) (S .bytes) i))
-  call-stands (removeAt i) S a = remove-stands i (remove-fine (S .sound) i)
+      enqueue-stands S front i (enqueue-fine (S .sound) i front (any-byte (s .table) (S .bytes) i))
+  call-stands (removeAt i) S a = remove-stands S i (remove-fine (S .sound) i)
   call-stands (selectAt now w current) S a = select-stands now w current (select-fine (S .sound) now w current)
   call-stands (changeTo t) S a = accepted tt
 
@@ -148,9 +148,9 @@ calls-stand cpu t small b calls a = all-stand cpu calls (fresh t) (fresh-sound c
 
 -- DEMAND 3. From a fresh queue on any table of up to 4,096 records, after every list of calls for one processor
 -- (enqueues at either end, removals, selections, each accepted or refused without a change), between which records that
--- are not queued change at will: a selection with a sound window that admits every queued thread, with one fair backend
--- among them and the budget threads filed by whether they have time left, refuses nothing and names, of all queued
--- threads, the one with the least dispatch key.
+-- are not queued change at will and records are added or dropped: a selection with a sound window that admits every
+-- queued thread, with one fair backend among them and the budget threads filed by whether they have time left, refuses
+-- nothing and names, of all queued threads, the one with the least dispatch key.
 pub demand-3 : (cpu : CpuIndex) (t : List ThreadRecord) → length t ≤ maxRecords → Bytes t → (calls : List Call)
     → AllAllowed cpu calls (fresh t)
     → (now : ℕ) (w : CpuWindow) (current : CandidateOption) → PremisesIn (afterAll cpu calls (fresh t)) now w
