@@ -16,3 +16,5 @@ pub mod Rows
 pub mod RowLaws
 -- Laws by which the functions meet the definitions.
 pub mod RuntimeLaws
+-- That a refusal leaves every word.
+pub mod UnmovedLaws

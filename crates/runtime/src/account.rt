@@ -20,7 +20,7 @@ ghost use Rattle.runtime.specs.Account.{accountCurrent, finishTurn, pass
 ghost use Rattle.runtime.specs.Account.{expired};
 ghost use Rattle.runtime.specs.Rows.{wholeBurst, chargedRow, accountedRow, accountAt, finishedRow, candidateRow};
 ghost use Rattle.runtime.specs.Rows.{refreshedRow, candidateAt};
-ghost use Rattle.runtime.specs.Answers.{expiredAnswer};
+ghost use Rattle.runtime.specs.Answers.{expiredAnswer, Unmoved};
 use crate::ExpiredAnswer;
 use crate::judging::budget_parameters;
 use crate::judging::budget_runtime;
@@ -66,6 +66,7 @@ fn charge_at(t: &mut [Row], id: u64, start: u64, end: u64)
     requires { ⌜ id < length (now t) ⌝ }
     ensures { λ r. ⌜ table (now (t .exit))
         ≡ chargedRow (table (now (t .entry))) id (getD (now (t .entry)) id []) start end ⌝ }
+    ensures { λ r. ⌜ (end < start → now (t .exit) ≡ now (t .entry)) ⌝ }
 {
     let k = id as usize;
     if t[k][RUNTIME_TAG] == 2 {
@@ -87,8 +88,10 @@ fn account_row(
     end: u64,
 ) -> WindowStep
     requires { ⌜ id < length (now t) ⌝ }
+    requires { ⌜ soundConfig (window .config) ≡ true ⌝ }
     ensures { λ r. ⌜ out (windowStep r) (table (now (t .exit))) ≡ accountedRow (table (now (t .entry))) id
         (getD (now (t .entry)) id []) window mode start end ⌝ }
+    ensures { λ r. ⌜ Unmoved (verdictOf (r .answer)) (now (t .entry)) (now (t .exit)) ⌝ }
 {
     let k = id as usize;
     let row = t[k];
@@ -109,6 +112,7 @@ fn account_at(
     requires { ⌜ soundConfig (window .config) ≡ true ⌝ }
     ensures { λ r. ⌜ out (windowStep r) (table (now (t .exit)))
         ≡ accountAt (table (now (t .entry))) id window mode start end ⌝ }
+    ensures { λ r. ⌜ Unmoved (verdictOf (r .answer)) (now (t .entry)) (now (t .exit)) ⌝ }
 {
     let k = id as usize;
     if k < t.len() {
@@ -137,6 +141,7 @@ pub fn account_current(
 ) -> WindowStep
     ensures { λ r. ⌜ out (windowStep r) (table (now (t .exit))) ≡ accountCurrent (table (now (t .entry)))
         (id .0) window mode start end ⌝ }
+    ensures { λ r. ⌜ Unmoved (verdictOf (r .answer)) (now (t .entry)) (now (t .exit)) ⌝ }
 {
     let config = window.config;
     if MAX_RECORDS < t.len() {
@@ -180,6 +185,7 @@ fn finish_at(t: &mut [Row], id: u64)
 // The turn of an expired or yielding thread ends: order 10, 4, 11.
 pub fn finish_turn(t: &mut [Row], id: ThreadId) -> Verdict
     ensures { λ r. ⌜ out (verdictOf r) (table (now (t .exit))) ≡ finishTurn (table (now (t .entry))) (id .0) ⌝ }
+    ensures { λ r. ⌜ Unmoved (verdictOf r) (now (t .entry)) (now (t .exit)) ⌝ }
 {
     let k = id.0 as usize;
     if MAX_RECORDS < t.len() {
@@ -266,6 +272,9 @@ fn candidate_at(t: &mut [Row], id: u64, running: bool, reading: u64, current: &m
     ensures { λ r. ⌜ out (verdictOf r, words.candidateOf (now (current .exit))) (table (now (t .exit)))
         ≡ candidateStored (words.candidateOf (now (current .entry)))
         (candidateAt (table (now (t .entry))) id running reading) ⌝ }
+    ensures { λ r. ⌜ Unmoved (verdictOf r) (now (t .entry)) (now (t .exit)) ⌝ }
+    ensures { λ r. ⌜ Unmoved (verdictOf r) (now (current .entry)) (now (current .exit)) ⌝ }
+    ensures { λ r. ⌜ (running ≡ false → now (current .exit) ≡ now (current .entry)) ⌝ }
 {
     let k = id as usize;
     if k < t.len() {
@@ -295,6 +304,9 @@ pub fn current_candidate(
     ensures { λ r. ⌜ out (verdictOf r, words.candidateOf (now (current .exit))) (table (now (t .exit)))
         ≡ candidateStored (words.candidateOf (now (current .entry)))
         (currentCandidate (table (now (t .entry))) (id .0) running reading) ⌝ }
+    ensures { λ r. ⌜ Unmoved (verdictOf r) (now (t .entry)) (now (t .exit)) ⌝ }
+    ensures { λ r. ⌜ Unmoved (verdictOf r) (now (current .entry)) (now (current .exit)) ⌝ }
+    ensures { λ r. ⌜ (running ≡ false → now (current .exit) ≡ now (current .entry)) ⌝ }
 {
     if MAX_RECORDS < t.len() {
         return Verdict::Refused(Refusal::BadTable);

@@ -7,10 +7,12 @@ ghost use Prim.Native.Nat.{_<_};
 ghost use lib.ListN.{length, getD};
 ghost use Rattle.window_config.specs.Config.{soundConfig};
 ghost use Rattle.rows.specs.Table.{table, out};
+ghost use Rattle.budget.specs.Answers.{deadlineAnswer};
 ghost use Rattle.arbitration.specs.Answers.{windowDeadline};
 ghost use Rattle.runtime.specs.Deadline.{refreshDeadline};
 ghost use Rattle.runtime.specs.Rows.{sliceEnd, refreshedEnd, budgetEnd, ownEnd, earlierOf, dueRow, keylessDue};
 ghost use Rattle.runtime.specs.Rows.{deadlineAt};
+ghost use Rattle.runtime.specs.Answers.{Unmoved};
 use crate::judging::budget_parameters;
 use crate::judging::budget_runtime;
 use crate::judging::is_bad_at;
@@ -145,8 +147,10 @@ fn due_with(
     contention: Contention,
 ) -> WindowDeadline
     requires { ⌜ id < length (now t) ⌝ }
+    requires { ⌜ soundConfig (window .config) ≡ true ⌝ }
     ensures { λ r. ⌜ out (windowDeadline r) (table (now (t .exit)))
         ≡ dueRow (table (now (t .entry))) id (getD (now (t .entry)) id []) reading mode window contention ⌝ }
+    ensures { λ r. ⌜ Unmoved (deadlineAnswer (r .answer)) (now (t .entry)) (now (t .exit)) ⌝ }
 {
     let demand = contention.demand;
     let own = own_end(t, id, reading, mode, contention);
@@ -182,6 +186,7 @@ fn due_at(
     requires { ⌜ soundConfig (window .config) ≡ true ⌝ }
     ensures { λ r. ⌜ out (windowDeadline r) (table (now (t .exit)))
         ≡ deadlineAt (table (now (t .entry))) id reading mode window contention ⌝ }
+    ensures { λ r. ⌜ Unmoved (deadlineAnswer (r .answer)) (now (t .entry)) (now (t .exit)) ⌝ }
 {
     let k = id as usize;
     if k < t.len() {
@@ -217,6 +222,7 @@ pub fn refresh_deadline(
 ) -> WindowDeadline
     ensures { λ r. ⌜ out (windowDeadline r) (table (now (t .exit))) ≡ refreshDeadline (table (now (t .entry)))
         (id .0) reading mode window contention ⌝ }
+    ensures { λ r. ⌜ Unmoved (deadlineAnswer (r .answer)) (now (t .entry)) (now (t .exit)) ⌝ }
 {
     let config = window.config;
     if MAX_RECORDS < t.len() {

@@ -10,6 +10,7 @@ ghost use Rattle.rows.specs.Table.{table};
 ghost use Rattle.budget.specs.Answers.{budgetAnswer};
 ghost use Rattle.queue.specs.RowJudgement.{budgetRuntime, budgetParameters};
 ghost use Rattle.runtime.specs.Rows.{badBudget, budgetStored};
+ghost use Rattle.runtime.specs.Answers.{Unmoved};
 use algorithms::PolicyRuntime;
 use budget::BudgetAnswer;
 use budget::BudgetRuntime;
@@ -93,6 +94,7 @@ pub fn budget_parameters(w: Row) -> BudgetParameters
 // A budget's runtime as a call leaves it; a refusal stores nothing.
 pub fn store_budget(t: &mut [Row], id: u64, answer: BudgetAnswer)
     ensures { λ r. ⌜ table (now (t .exit)) ≡ budgetStored (table (now (t .entry))) id (budgetAnswer answer) ⌝ }
+    ensures { λ r. ⌜ Unmoved (budgetAnswer answer) (now (t .entry)) (now (t .exit)) ⌝ }
 {
     match answer {
         BudgetAnswer::Refused(_) => {}

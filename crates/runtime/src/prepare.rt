@@ -6,7 +6,8 @@ ghost use lib.ListN.{length, getD};
 ghost use Rattle.rows.specs.Table.{table, out};
 ghost use Rattle.runtime.specs.Prepare.{prepareEnqueue};
 ghost use Rattle.runtime.specs.Rows.{preparedRow, rowPrepared};
-ghost use Rattle.runtime.specs.Answers.{preparedAnswer};
+ghost use Rattle.arbitration.specs.Answers.{verdictOf};
+ghost use Rattle.runtime.specs.Answers.{preparedAnswer, Unmoved};
 use crate::Prepared;
 use crate::account::refresh_at;
 use crate::judging::is_bad_at;
@@ -40,6 +41,7 @@ fn prepare_row(t: &mut [Row], id: u64, front: bool, reading: u64, turns: Turns) 
     requires { ⌜ id < length (now t) ⌝ }
     ensures { λ r. ⌜ out (preparedAnswer r) (table (now (t .exit))) ≡ rowPrepared (table (now (t .entry))) id
         (getD (now (t .entry)) id []) front reading turns ⌝ }
+    ensures { λ r. ⌜ Unmoved (verdictOf (r .answer)) (now (t .entry)) (now (t .exit)) ⌝ }
 {
     let k = id as usize;
     let row = t[k];
@@ -80,6 +82,7 @@ pub fn prepare_enqueue(
 ) -> Prepared
     ensures { λ r. ⌜ out (preparedAnswer r) (table (now (t .exit))) ≡ prepareEnqueue (table (now (t .entry)))
         (id .0) front reading turns ⌝ }
+    ensures { λ r. ⌜ Unmoved (verdictOf (r .answer)) (now (t .entry)) (now (t .exit)) ⌝ }
 {
     let k = id.0 as usize;
     if MAX_RECORDS < t.len() {

@@ -1,5 +1,6 @@
 -- The budget, then the window.
 use Rattle.runtime.specs.RuntimeLaws.{budgets}
+use Rattle.runtime.specs.UnmovedLaws.{unmoving}
 use borrow.Author.Needs.{needs}
 use Rattle.runtime.proofs.account.account_row.Statement.{statement}
 use Rattle.runtime.proofs.account.account_row.Tie as tie
@@ -14,4 +15,4 @@ account-row-spec =
     (λ c κs. search needs)
     (λ c κs. search needs)
     (λ c. search needs)
-    (λ c. search budgets depth 8))
+    (λ c. search (budgets, unmoving) depth 8))

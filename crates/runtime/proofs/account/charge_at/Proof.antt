@@ -2,6 +2,7 @@
 use Rattle.refusal.specs.Cases.{cases}
 use Rattle.runtime.specs.Rows.{chargedRow}
 use Rattle.runtime.specs.RuntimeLaws.{budgets}
+use Rattle.runtime.specs.UnmovedLaws.{unmoving}
 use borrow.Author.Needs.{needs}
 use Rattle.runtime.proofs.account.charge_at.Statement.{statement}
 use Rattle.runtime.proofs.account.charge_at.Tie as tie
@@ -21,5 +22,5 @@ charge-at-spec =
     (λ c κs. search needs)
     (λ c κs. search needs)
     (λ c. search needs)
-    (λ c. search (cases, budgets) depth 8)
-    (λ c. search (cases, budgets) depth 8))
+    (λ c. search (cases, budgets, unmoving) depth 8)
+    (λ c. search (cases, budgets, unmoving) depth 8))

@@ -1,5 +1,6 @@
 -- The table's length, then the judgement.
 use Rattle.runtime.specs.RuntimeLaws.{ways}
+use Rattle.runtime.specs.UnmovedLaws.{unmoving}
 use borrow.Author.Needs.{needs}
 use Rattle.runtime.proofs.account.current_candidate.Statement.{statement}
 use Rattle.runtime.proofs.account.current_candidate.Tie as tie
@@ -8,7 +9,7 @@ pub current-candidate-spec : {M : Type 1} → statement M
 current-candidate-spec =
     tie.close
     (tie.spec
-    (λ c. search ways depth 8)
+    (λ c. (search ways depth 8, (search unmoving, (search unmoving, search unmoving))))
     (λ c κs. search needs)
     (λ c. search needs)
-    (λ c. search ways depth 8))
+    (λ c. (search ways depth 8, (search unmoving, (search unmoving, search unmoving)))))

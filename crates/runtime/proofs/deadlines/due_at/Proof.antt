@@ -1,5 +1,6 @@
 -- One law for each way through the judgement.
 use Rattle.runtime.specs.RuntimeLaws.{ways}
+use Rattle.runtime.specs.UnmovedLaws.{unmoving}
 use borrow.Author.Needs.{needs}
 use Rattle.runtime.proofs.deadlines.due_at.Statement.{statement}
 use Rattle.runtime.proofs.deadlines.due_at.Tie as tie
@@ -10,13 +11,13 @@ due-at-spec =
     (tie.spec
     (λ c κs. search needs)
     (λ c. search needs)
-    (λ c. search ways depth 8)
+    (λ c. search (ways, unmoving) depth 8)
     (λ c. search needs)
     (λ c κs. search needs)
     (λ c. search needs)
-    (λ c. search ways depth 8)
+    (λ c. search (ways, unmoving) depth 8)
     (λ c. search needs)
     (λ c κs. search needs)
     (λ c. search needs)
-    (λ c. search ways depth 8)
-    (λ c. search ways depth 8))
+    (λ c. search (ways, unmoving) depth 8)
+    (λ c. search (ways, unmoving) depth 8))

@@ -1,5 +1,6 @@
 -- The thread's own, the window's, the earlier of the two.
 use Rattle.runtime.specs.RuntimeLaws.{budgets}
+use Rattle.runtime.specs.UnmovedLaws.{unmoving}
 use borrow.Author.Needs.{needs}
 use Rattle.runtime.proofs.deadlines.due_with.Statement.{statement}
 use Rattle.runtime.proofs.deadlines.due_with.Tie as tie
@@ -12,4 +13,4 @@ due-with-spec =
     (λ c κs. search needs)
     (λ c κs. search needs)
     (λ c. search needs)
-    (λ c. search budgets depth 8))
+    (λ c. search (budgets, unmoving) depth 8))

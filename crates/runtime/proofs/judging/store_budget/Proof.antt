@@ -1,6 +1,7 @@
 -- A runtime is stored, a refusal is not.
 use Rattle.runtime.specs.Rows.{budgetStored}
 use Rattle.runtime.specs.RuntimeLaws.{budgets}
+use Rattle.runtime.specs.UnmovedLaws.{unmoving}
 use borrow.Author.Needs.{needs}
 use Rattle.runtime.proofs.judging.store_budget.Statement.{statement}
 use Rattle.runtime.proofs.judging.store_budget.Tie as tie
@@ -13,6 +14,6 @@ store-budget-spec =
     (λ c. search needs)
     (λ c. search needs)
     (λ c κs. search needs)
-    (λ c. search budgets depth 8)
+    (λ c. search (budgets, unmoving) depth 8)
     (λ c. search needs)
-    (λ c. search budgets depth 8))
+    (λ c. search (budgets, unmoving) depth 8))
