@@ -44,11 +44,13 @@ listFor p = onPolicy p (λ priority. suc (priority .0)) 0 0 listCount
 unfoldable pub rowOf : (ℕ → Bool) → List ThreadRecord → ℕ → ℕ
 rowOf queued t j = choose (queued j) (listFor (recordOf t j .parameters .policy)) listCount
 
--- The table holds these lists. `row` gives the list in which a thread stands, `listCount` or more where in none:
--- each list has exactly the threads whose row it is, so that no two have one in common.
-pub record Lists (lists : ℕ → ThreadQueue) (cpu : CpuIndex) (t : List ThreadRecord) (row : ℕ → ℕ) : Type 0 where
+-- The table holds these lists, the threads of each with its processor. `row` gives the list in which a thread stands,
+-- `listCount` or more where in none: each list has exactly the threads whose row it is, so that no two have one in
+-- common.
+pub record Lists (lists : ℕ → ThreadQueue) (cpus : ℕ → CpuIndex) (t : List ThreadRecord)
+    (row : ℕ → ℕ) : Type 0 where
   pub members : ℕ → List ℕ
-  pub holds : (n : ℕ) → n < listCount → HoldsList t (lists n) (members n) (membershipAt cpu n)
+  pub holds : (n : ℕ) → n < listCount → HoldsList t (lists n) (members n) (membershipAt (cpus n) n)
   pub exact : (j n : ℕ) → n < listCount → has j (members n) ≡ eqb (row j) n
 
 -- Up to n threads as one reads them from a link on, each the next of the one before.
