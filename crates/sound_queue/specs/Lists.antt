@@ -4,7 +4,7 @@ use mathlib.Core.Path.{_≡_}
 use mathlib.Core.Bool.{Bool}
 use mathlib.Core.List.{List, [], _∷_, _++_}
 use Prim.Native.Nat.{ℕ, zero, suc, _<_}
-use lib.ListN.{getD}
+use lib.ListN.{length, getD}
 use lib.Dec.{eqb}
 use Rattle.refusal.specs.Cases.{choose}
 use Rattle.policy.specs.declared.SchedulingPolicy.{SchedulingPolicy}
@@ -59,9 +59,9 @@ threadsFrom zero t at = []
 threadsFrom (suc n) t at =
     onLink at [] (λ i. i ∷ onQueueLinks (queueLinksAt t i) [] (λ links. threadsFrom n t (links .next)))
 
--- The threads of a list: read from its head, as many as its length says.
+-- The threads of a list: read from its head until there is no next. No list is longer than the table.
 abbrev pub threadsOf : List ThreadRecord → ThreadQueue → List ℕ
-threadsOf t list = threadsFrom (list .len) t (list .head)
+threadsOf t list = threadsFrom (length t) t (list .head)
 
 -- A thread joined to others: as the first, or as the last.
 unfoldable pub joined : Bool → ℕ → List ℕ → List ℕ

@@ -3,7 +3,7 @@ use mathlib.Core.Path.{_≡_, refl, sym, ap, _∙_}
 use mathlib.Core.Bool.{Bool, true, false, _||_}
 use mathlib.Core.Logic.{_≢_}
 use mathlib.Core.List.{List, [], _∷_, _++_}
-use Prim.Native.Nat.{ℕ, _≤_, _<_}
+use Prim.Native.Nat.{ℕ, zero, suc, _≤_, _<_}
 use native.Mathlib.Omega.{arith}
 use lib.ListN.{length}
 use lib.Dec.{eqb}
@@ -26,7 +26,7 @@ use Rattle.sound_lists.specs.Frame.{member-below, holds-frame}
 use Rattle.sound_queue.specs.PlaceLaws.{placed-same, placed-other, joined-here, joined-else, left-here, left-else}
 use Rattle.sound_queue.specs.Forest.{placed}
 use Rattle.sound_queue.specs.Count.{count}
-use Rattle.sound_queue.specs.CountLaws.{count-same, length-counts}
+use Rattle.sound_queue.specs.CountLaws.{count-same, count-most, length-counts}
 use Rattle.sound_queue.specs.Lists.{membershipAt, Lists, listCount, threadsFrom, threadsOf, relisted}
 
 -- The lists stand in every table in which their threads have the same list links.
@@ -118,17 +118,25 @@ module _ {lists : ℕ → ThreadQueue} {cpus : ℕ → CpuIndex} {t : List Threa
           (λ j m c d. left-else listCount i n row j m c d o)
 
 -- Threads that are linked are read from the first on.
-read-linked : (t : List ThreadRecord) (m : QueueMembership) (p : Link) (l : List ℕ)
-    → Linked (queueLinksAt t) m p l link.None → threadsFrom (length l) t (firstOr l link.None) ≡ l
+read-linked : (n : ℕ) (t : List ThreadRecord) (m : QueueMembership) (p : Link) (l : List ℕ) → length l ≤ n
+    → Linked (queueLinksAt t) m p l link.None → threadsFrom n t (firstOr l link.None) ≡ l
 unfolding threadsFrom onLink onQueueLinks
-read-linked t m p [] h = refl
-read-linked t m p (i ∷ l) h =
-    rw (h .here) (ap (λ (s : List ℕ). i ∷ s) (read-linked t m (link.Some i) l (h .rest)))
+read-linked zero t m p [] b h = refl
+read-linked zero t m p (i ∷ l) b h = absurd (omega arith)
+read-linked (suc n) t m p [] b h = refl
+read-linked (suc n) t m p (i ∷ l) b h =
+    rw (h .here) (ap (λ (s : List ℕ). i ∷ s) (read-linked n t m (link.Some i) l (omega arith) (h .rest)))
 
 -- What one reads of a list is what it holds.
 pub list-read : {t : List ThreadRecord} {q : ThreadQueue} {members : List ℕ} {m : QueueMembership}
     → HoldsList t q members m → threadsOf t q ≡ members
-list-read {t} {q} {members} {m} H = rw (H .len, H .head) (read-linked t m link.None members (H .linked))
+list-read {t} {q} {members} {m} H = rw (H .head) (read-linked (length t) t m link.None members few (H .linked))
+  where
+    few : length members ≤ length t
+    few =
+        let a = length-counts (length t) members (H .distinct) (member-below H) in
+        let b = count-most (length t) (λ j. has j members) in
+        omega arith
 
 -- Who is in a sequence with one added at the back or at the front, or with one taken out.
 module _ (i : ℕ) (l : List ℕ) where
