@@ -82,8 +82,8 @@ here = then (enqueueCall false mixed newQueue 0 (cpu 0)) (leftBy [])
 abbrev both : Left
 both = then (enqueueCall false (here .table) (here .queue) 1 (cpu 1)) (leftBy [])
 
-abbrev back : Left
-back = then (removeCall (both .table) (both .queue) 1 (cpu 1)) (leftBy [])
+abbrev gone : Left
+gone = then (removeCall (both .table) (both .queue) 1 (cpu 1)) (leftBy [])
 
 -- The two are queued.
 abbrev pair : ℕ → Bool
@@ -133,8 +133,8 @@ pub record Computed : Type 0 where
       ≡ out (step (refused damaged) (both .queue)) (both .table)
   pub not-removed : removeCall (both .table) (both .queue) 1 (cpu 0)
       ≡ out (step (refused damaged) (both .queue)) (both .table)
-  pub removed : removeCall (both .table) (both .queue) 1 (cpu 1) ≡ out (step (value tt) (back .queue)) (back .table)
-  pub left : threadsOf (back .table) (listAt (back .queue) 7) ≡ []
+  pub removed : removeCall (both .table) (both .queue) 1 (cpu 1) ≡ out (step (value tt) (gone .queue)) (gone .table)
+  pub left : threadsOf (gone .table) (listAt (gone .queue) 7) ≡ []
 
 pub computed : Computed
 unfolding choose ifLess ifEqual given compareNumbers thenBy compareParts onOrdering onPolicy onRole onBackend onBudget
@@ -261,5 +261,5 @@ pub both-sound : Sound (including 1 (including 0 nobody)) (both .queue) (both .t
 both-sound =
     enqueue-sound here-sound (cpu 1) 1 false (both .queue) (both .table) (computed .priority) (computed .theirs) .sound
 
-pub back-sound : Sound (excluding 1 (including 1 (including 0 nobody))) (back .queue) (back .table)
-back-sound = remove-sound both-sound (cpu 1) 1 (back .queue) (back .table) (computed .removed) .sound
+pub gone-sound : Sound (excluding 1 (including 1 (including 0 nobody))) (gone .queue) (gone .table)
+gone-sound = remove-sound both-sound (cpu 1) 1 (gone .queue) (gone .table) (computed .removed) .sound
