@@ -1,13 +1,13 @@
 -- An enqueue, at either end, on a sound queue.
-use mathlib.Core.Path.{_≡_, refl, sym, ap, _∙_}
+use mathlib.Core.Path.{_≡_, refl, sym, ap, _∙_, subst}
 use mathlib.Core.Bool.{Bool, true, false}
 use mathlib.Core.Logic.{_≢_}
-use mathlib.Core.List.{List, [], _∷_, _++_}
+use mathlib.Core.List.{List, [], _∷_}
 use Prim.Native.Nat.{ℕ, suc, _≤_, _<_}
 use native.Mathlib.Omega.{arith}
 use lib.ListN.{length, getD}
 use lib.Dec.{ltb, eqb}
-use borrow.Author.Tests.{eq-eqb, ne-eqb, le-ltb, lt-ltb}
+use borrow.Author.Tests.{eq-eqb, eqb-true, ne-eqb, le-ltb, lt-ltb}
 use Rattle.refusal.specs.Answer.{value}
 use Rattle.refusal.specs.Cases.{never, choose, ifLess, ifEqual, given}
 use Rattle.policy.specs.declared.SchedulingPolicy.{SchedulingPolicy}
@@ -23,7 +23,6 @@ use Rattle.thread.specs.Filing.{indexFor, onIndex}
 use Rattle.rows.specs.Table.{Out, out, answer, after, recordOf, recordAt, maxRecords}
 use Rattle.rows.specs.TableCases.{onRecord}
 use Rattle.rows.specs.TableLaws.{record-within}
-use Rattle.lists.specs.Checks.{maxLength}
 use Rattle.ready_index.specs.Index.{insert}
 use Rattle.sound_lists.specs.Members.{has}
 use Rattle.sound_lists.specs.MembersLaws.{has-first}
@@ -38,7 +37,6 @@ use Rattle.sound_queue.specs.Forest.{Forest, placed, Replanted}
 use Rattle.sound_queue.specs.PlaceLaws.{placed-same, placed-other, same-or-not}
 use Rattle.sound_queue.specs.ForestLaws.{forest-still, planted}
 use Rattle.sound_queue.specs.Count.{count}
-use Rattle.sound_queue.specs.CountLaws.{count-most}
 use Rattle.sound_queue.specs.Lists.{listAt, membershipAt, listFor, rowOf, Lists, listCount, joined, relisted}
 use Rattle.sound_queue.specs.ListsLaws.{lists-still, lists-same, list-counts, list-joined, back-same, back-here}
 use Rattle.sound_queue.specs.ListsLaws.{front-same, lists-after}
@@ -48,9 +46,10 @@ use Rattle.sound_queue.specs.LinksLaws.{besides-queue-links, list-stores
 use Rattle.sound_queue.specs.LinksLaws.{list-stores-length, both-stores}
 use Rattle.sound_queue.specs.PartsLaws.{list-of, membership-for, list-for, assigned-to, in-a-list, list-stored}
 use Rattle.sound_queue.specs.PartsLaws.{list-stored-other, priorities-stored, rest-stored, filing, total-in}
-use Rattle.sound_queue.specs.PartsLaws.{counted-in, insert-work}
-use Rattle.sound_queue.specs.SoundLaws.{included, included-other, row-not-queued, row-included, counted}
-use Rattle.sound_queue.specs.SoundLaws.{sound-by, not-queued-placed, queued-membership, tree-for}
+use Rattle.sound_queue.specs.PartsLaws.{counted-in, insert-work, cpu-by}
+use Rattle.sound_queue.specs.SoundLaws.{included, included-other, row-queued, row-not-queued, row-included}
+use Rattle.sound_queue.specs.SoundLaws.{counted, sound-by, not-queued-placed, queued-membership, tree-for}
+use Rattle.sound_queue.specs.SoundLaws.{queued-if-listed, few}
 
 -- The checks before a call's work, where none of them refuses.
 pub judged-passes : {A : Type 0} (t : List ThreadRecord) (q : CpuRunQueue) (i k : ℕ)
@@ -79,8 +78,8 @@ joins true t q members i m L J =
 joins false t q members i m L J =
     record { accepted = push-holds i L J; here = back-here i members; same = back-same i members }
 
-module _ {cpu : CpuIndex} {queued : ℕ → Bool} {q : CpuRunQueue} {t : List ThreadRecord} (S : Sound cpu queued q t)
-    (i : ℕ) (M : MayEnqueue cpu t i) where
+module _ {queued : ℕ → Bool} {q : CpuRunQueue} {t : List ThreadRecord} (S : Sound queued q t) (cpu : CpuIndex) (i : ℕ)
+    (M : MayEnqueue cpu queued t i) where
   -- A thread in no list is not queued.
   pub unqueued-not-queued : queued i ≡ false
   unfolding isUnqueued onMembership
@@ -90,8 +89,8 @@ module _ {cpu : CpuIndex} {queued : ℕ → Bool} {q : CpuRunQueue} {t : List Th
       go false e = e
       go true e =
           let n = listFor (recordOf t i .parameters .policy) in
-          let z : membership.None ≡ membershipAt cpu n = sym (M .unqueued) ∙ queued-membership S i e in
-          let y : true ≡ false = ap isUnqueued z ∙ in-a-list cpu n in
+          let z : membership.None ≡ membershipAt (S .cpus n) n = sym (M .unqueued) ∙ queued-membership S i e in
+          let y : true ≡ false = ap isUnqueued z ∙ in-a-list (S .cpus n) n in
           never cc
 
   abbrev row : ℕ
@@ -100,8 +99,22 @@ module _ {cpu : CpuIndex} {queued : ℕ → Bool} {q : CpuRunQueue} {t : List Th
   row-low : row < listCount
   row-low = list-for (recordOf t i .parameters .policy) (M .notIdle) (M .fits)
 
-  few : (f : ℕ → Bool) (n : ℕ) → n ≡ count (length t) f → n < maxLength
-  few f n e = let a = count-most (length t) f in let b = S .forest .small in omega arith
+  -- Its list is one of this processor's, or empty and so anybody's.
+  list-ours : HoldsList t (listAt q row) (S .lists .members row) (membershipAt cpu row)
+  list-ours = go (S .lists .members row) refl (S .lists .holds row row-low)
+    where
+      go : (l : List ℕ) → S .lists .members row ≡ l → HoldsList t (listAt q row) l (membershipAt (S .cpus row) row)
+          → HoldsList t (listAt q row) l (membershipAt cpu row)
+      go [] z H = record { head = H .head; tail = H .tail; len = H .len; linked = tt; distinct = tt }
+      go (j ∷ l) z H =
+          let h = S .lists .exact j row row-low in
+          let b : rowOf queued t j ≡ row = eqb-true (rowOf queued t j) row
+          (sym h ∙ ap (has j) z ∙ has-first j l) in
+          let f = queued-if-listed S j (omega (arith, b, row-low)) in
+          let g : listFor (recordOf t j .parameters .policy) ≡ row = sym (row-queued queued t j f) ∙ b in
+          let c : S .cpus row ≡ cpu = cpu-by (S .cpus row) cpu
+          (ap (λ m. S .cpus m .0) (sym g) ∙ sym (S .threads j f .assigned) ∙ M .ours j f g) in
+          subst (λ (d : CpuIndex). HoldsList t (listAt q row) (j ∷ l) (membershipAt d row)) c H
 
   may-join : MayJoin t (listAt q row) (S .lists .members row) i (membershipAt cpu row)
   may-join = record {
@@ -110,7 +123,7 @@ module _ {cpu : CpuIndex} {queued : ℕ → Bool} {q : CpuRunQueue} {t : List Th
         (λ z. let a = row-not-queued queued t i unqueued-not-queued in let b = row-low in omega arith);
     unqueued = M .unqueued;
     assigned = assigned-to cpu (recordOf t i .cpu) row (M .assigned);
-    room = few (λ j. eqb (rowOf queued t j) row) (listAt q row .len) (list-counts (S .lists) row row-low);
+    room = few S (λ j. eqb (rowOf queued t j) row) (listAt q row .len) (list-counts (S .lists) row row-low);
   }
 
   module _ (front : Bool) (J : Joins front t (listAt q row) (S .lists .members row) i (membershipAt cpu row)) (k : ℕ)
@@ -156,11 +169,11 @@ module _ {cpu : CpuIndex} {queued : ℕ → Bool} {q : CpuRunQueue} {t : List Th
       abbrev queue : CpuRunQueue
       queue = withParts q (membershipAt cpu row) k parts
 
-      unfoldable new-lists : Lists (listAt queue) cpu (R .table) (rowOf (including i queued) t)
+      unfoldable new-lists : Lists (listAt queue) (placed row cpu (S .cpus)) (R .table) (rowOf (including i queued) t)
       new-lists =
           lists-same (rowOf (including i queued) t) (row-included i queued t)
           (lists-still (R .table) (λ j b. besides-queue-links listed (R .table) j (R .besides))
-          (list-joined (S .lists) row row-low i (joined front i) (J .accepted) (listAt queue)
+          (list-joined (S .lists) row row-low i (joined front i) cpu (J .accepted) (listAt queue)
           (list-stored q cpu k parts row row-low (S .priorities))
           (λ m c d. list-stored-other q cpu k parts row m d) (J .same)
           (omega (arith, row-not-queued queued t i unqueued-not-queued)) (J .here)))
@@ -170,17 +183,37 @@ module _ {cpu : CpuIndex} {queued : ℕ → Bool} {q : CpuRunQueue} {t : List Th
           (λ e. rw (e, placed-same i k (S .place)) (lt-ltb k treeCount low ∙ sym (included i queued)))
           (λ e. rw (placed-other i k (S .place) j e) (S .stands j ∙ sym (included-other i queued j e)))
 
-      new-threads : (j : ℕ) → including i queued j ≡ true → Queued cpu (recordOf t j) (placed i k (S .place) j)
+      abbrev cpus : ℕ → CpuIndex
+      cpus = placed row cpu (S .cpus)
+
+      still-assigned : (j : ℕ) → queued j ≡ true
+          → recordOf t j .cpu .0 ≡ cpus (listFor (recordOf t j .parameters .policy)) .0
+      still-assigned j h = same-or-not (listFor (recordOf t j .parameters .policy)) row
+          (λ e. rw (e, placed-same row cpu (S .cpus)) (M .ours j h e))
+          (λ e. rw (placed-other row cpu (S .cpus) (listFor (recordOf t j .parameters .policy)) e)
+          (S .threads j h .assigned))
+
+      still-queued : (j : ℕ) → queued j ≡ true → Queued cpus (recordOf t j) (S .place j)
+      still-queued j h =
+          let Q = S .threads j h in
+          record { judged = Q .judged; assigned = still-assigned j h; listed = Q .listed; filed = Q .filed }
+
+      new-threads : (j : ℕ) → including i queued j ≡ true → Queued cpus (recordOf t j) (placed i k (S .place) j)
       new-threads j h = same-or-not j i
           (λ e. rw (e, placed-same i k (S .place))
-          (record { judged = M .judged; assigned = M .assigned; listed = row-low; filed = by-filing filed }))
-          (λ e. rw (placed-other i k (S .place) j e) (S .threads j (sym (included-other i queued j e) ∙ h)))
+          (record {
+            judged = M .judged;
+            assigned = rw (placed-same row cpu (S .cpus)) (M .assigned);
+            listed = row-low;
+            filed = by-filing filed;
+          }))
+          (λ e. rw (placed-other i k (S .place) j e) (still-queued j (sym (included-other i queued j e) ∙ h)))
 
-      unfoldable new-sound : Sound cpu (including i queued) queue (R .table)
+      unfoldable new-sound : Sound (including i queued) queue (R .table)
       new-sound =
           let s = rest-stored q cpu k parts row in
           sound-by t (R .table) (both-stores t listed (R .table) (J .accepted .rest) (R .besides))
-          (including i queued) cpu queue (placed i k (S .place))
+          (including i queued) cpus queue (placed i k (S .place))
           (rw (s .0) (R .forest)) new-stands new-threads (priorities-stored q cpu k parts row ∙ S .priorities) new-lists
           (s .1) (s .2) (s .3 ∙ S .running)
 
@@ -208,13 +241,13 @@ module _ {cpu : CpuIndex} {queued : ℕ → Bool} {q : CpuRunQueue} {t : List Th
           (isBudget (recordOf t i .parameters .policy)) t listed (R .table) (partsOf q (membershipAt cpu row) k) parts i
           (membershipAt cpu row) total (J .accepted .list) (R .link) front
           (total-in (isFifo (recordOf t i .parameters .policy)) (q .«realtime_len») total
-          (few (queuedOf isFifo queued t) (q .«realtime_len») (S .total))
+          (few S (queuedOf isFifo queued t) (q .«realtime_len») (S .total))
           (total-is isFifo (q .«realtime_len») (S .total)))
           (rw (list-of q cpu row) (out-is (pushAt front t (listAt q row) i (membershipAt cpu row))
           (value (J .accepted .list)) (J .accepted .accepted)))
           (R .is)
           (counted-in (isBudget (recordOf t i .parameters .policy)) _ budgets
-          (few (queuedOf isBudget queued t) (q .«budget_threads») (S .budgets))
+          (few S (queuedOf isBudget queued t) (q .«budget_threads») (S .budgets))
           (total-is isBudget (q .«budget_threads») (S .budgets))))
 
       call-is : enqueueCall front t q i cpu ≡ out (step (value tt) queue) (R .table)
@@ -246,6 +279,6 @@ module _ {cpu : CpuIndex} {queued : ℕ → Bool} {q : CpuRunQueue} {t : List Th
   pub enqueued : (front : Bool) → Accepted S (enqueuing front t i) (enqueueCall front t q i cpu)
   enqueued front =
       let J = joins front t (listAt q row) (S .lists .members row) i (membershipAt cpu row)
-      (S .lists .holds row row-low) may-join in
+      list-ours may-join in
       let F = filing (recordOf t i .parameters) (recordOf t i .runtime) (M .notIdle) in
       enqueued-by front J (F .tree) (F .low) (F .is) (is-planted front J (F .tree) (F .low) (F .is))

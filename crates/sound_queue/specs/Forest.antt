@@ -28,8 +28,8 @@ pub record Forest (roots : List Root) (t : List ThreadRecord) (place : ℕ → �
   pub balanced : (k : ℕ) → k < treeCount → Balanced (trees k)
   pub exact : (j k : ℕ) → k < treeCount → has j (inOrder (trees k)) ≡ eqb (place j) k
 
--- Thread i placed at k, every other as it was.
-unfoldable pub placed : ℕ → ℕ → (ℕ → ℕ) → ℕ → ℕ
+-- Number i placed at k, every other as it was.
+unfoldable pub placed : {A : Type 0} → ℕ → A → (ℕ → A) → ℕ → A
 placed i k place j = choose (eqb j i) k (place j)
 
 -- An accepted call for thread i on tree k: a root is answered, with which the twelve trees then stand as `after` places

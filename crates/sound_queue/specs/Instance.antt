@@ -1,10 +1,11 @@
 -- A small sound queue, by computation: the premises of the theorems can be met, and a budget thread does stand in a
 -- partner tree.
-use Prim.Native.Nat.{ℕ, _≤_}
+use Prim.Native.Nat.{ℕ}
 use mathlib.Core.Path.{_≡_, refl, sym, _∙_}
 use mathlib.Core.Bool.{true, false, Bool}
 use mathlib.Core.List.{List, [], _∷_, _++_}
 use lib.ListN.{length, take}
+use Rattle.refusal.specs.Answer.{value, refused, damaged}
 use Rattle.refusal.specs.Cases.{never, choose, ifLess, ifEqual, given}
 use Rattle.order.specs.Order.{compareNumbers, thenBy, compareParts, onOrdering}
 use Rattle.policy.specs.declared.SchedulingPolicy.the-variants as policy
@@ -20,7 +21,7 @@ use Rattle.thread.specs.Filing.{budgetAvailable, roleIndex, indexFor, onIndex}
 use Rattle.thread.specs.Records.{withRuntime}
 use Rattle.thread.specs.TreeKey.{algorithmKey, treeKey, readyIndexKey, parts, compareTreeKeys}
 use Rattle.rows.specs.Table.{recordOf, changed, reading, storing, linksAt, keyAt, queueLinksAt, recordAt, setLinks}
-use Rattle.rows.specs.Table.{setQueueLinks, maxRecords}
+use Rattle.rows.specs.Table.{setQueueLinks, out}
 use Rattle.rows.specs.TableCases.{onLinks, onKey, onQueueLinks, onRecord, onMade}
 use Rattle.lists.specs.Checks.{assignedTo, headAgrees, tailAgrees, endsAgree, preflightInsert, previousValid}
 use Rattle.lists.specs.Checks.{nextValid, validateNeighbors}
@@ -35,17 +36,17 @@ use Rattle.ready_index.specs.Index.{soughtAt, onSearch, search, onSuccessor, su
 use Rattle.ready_index.specs.Index as index
 use Rattle.ready_index.specs.declared.Contained.the-variants as contained
 use Rattle.queue_work.specs.Work.{countedIn, countedOut, totalIn, totalOut, pushAt, insertWork, removeWork}
-use Rattle.queue.specs.Queue.{newQueue, rootOf, listOf, partsOf, withParts, worked, isFifo, isBudget, membershipFor}
-use Rattle.queue.specs.Queue.{judged, enqueueCall, partner, onContained, treeWith, removeReady, removeFrom, removeCall}
-use Rattle.queue.specs.Samples.{nine, enqueueAt, Left, made, andAfter, then, leftBy, budgetThread, cpu}
+use Rattle.queue.specs.Queue.{step, newQueue, rootOf, listOf, partsOf, withParts, worked, isFifo, isBudget}
+use Rattle.queue.specs.Queue.{membershipFor, judged, enqueueCall, partner, onContained, treeWith, removeReady}
+use Rattle.queue.specs.Queue.{removeFrom, removeCall}
+use Rattle.queue.specs.Samples.{nine, enqueueAt, Left, made, andAfter, then, leftBy, fifo, budgetThread, cpu}
 use native.Mathlib.Omega.{arith}
 use Rattle.sound_queue.specs.Lists.{listAt, threadsFrom, threadsOf}
-use Rattle.sound_queue.specs.Sound.{Sound, including, excluding, treeFor, removing, Accepted, MayEnqueue}
+use Rattle.sound_queue.specs.Sound.{Sound, nobody, including, excluding, treeFor, removing, Accepted}
+use Rattle.sound_queue.specs.Sound.{PriorityFits, MayEnqueue}
 use Rattle.sound_queue.specs.PlaceLaws.{same-or-not}
 use Rattle.sound_queue.specs.SoundLaws.{included-other}
-use Rattle.sound_queue.specs.Reached.{nobody, Reached}
-use Rattle.sound_queue.specs.Reached as reached
-use Rattle.sound_queue.specs.Calls.{reached-sound, remove-accepted}
+use Rattle.sound_queue.specs.Calls.{new-sound, changes-sound, enqueue-sound, remove-sound, remove-accepted}
 use Rattle.sound_queue.specs.Runtimes.{refresh-sound}
 
 -- One FIFO thread, then a budget thread with time left at the front.
@@ -69,6 +70,21 @@ longer = two .table ++ budgetThread 1 ∷ []
 abbrev shorter : List ThreadRecord
 shorter = take 3 (two .table)
 
+-- Two FIFO threads of different priorities and processors, and a third that has the one's priority and the other's
+-- processor.
+abbrev mixed : List ThreadRecord
+mixed = fifo 5 0 ∷ fifo 6 1 ∷ fifo 5 1 ∷ []
+
+-- The two are enqueued, each by its processor; then the second is removed.
+abbrev here : Left
+here = then (enqueueCall false mixed newQueue 0 (cpu 0)) (leftBy [])
+
+abbrev both : Left
+both = then (enqueueCall false (here .table) (here .queue) 1 (cpu 1)) (leftBy [])
+
+abbrev gone : Left
+gone = then (removeCall (both .table) (both .queue) 1 (cpu 1)) (leftBy [])
+
 -- The two are queued.
 abbrev pair : ℕ → Bool
 pair = including 2 (including 0 nobody)
@@ -77,13 +93,15 @@ pair = including 2 (including 0 nobody)
 abbrev ranOut : List ThreadRecord
 ranOut = changed (two .table) 2 (withRuntime (budgetThread 0 .runtime))
 
--- What computation gives of the sample table and of these calls.
+-- What computation gives of the sample tables and of these calls.
 pub record Computed : Type 0 where
   -- No rule refuses the FIFO thread of the sample table, nor the fair one, nor either budget thread.
-  pub mayEnqueue : (MayEnqueue (cpu 0) nine 0) × (MayEnqueue (cpu 0) nine 1) × (MayEnqueue (cpu 0) nine 2)
-      × (MayEnqueue (cpu 0) nine 3)
+  pub mayEnqueue : (MayEnqueue (cpu 0) nobody nine 0) × (MayEnqueue (cpu 0) nobody nine 1)
+      × (MayEnqueue (cpu 0) nobody nine 2) × (MayEnqueue (cpu 0) nobody nine 3)
   -- Two accepted calls lead to the pair.
-  pub reached : Reached (cpu 0) pair (two .queue) (two .table)
+  pub first : enqueueCall false nine newQueue 0 (cpu 0) ≡ out (step (value tt) (one .queue)) (one .table)
+  pub second : enqueueCall true (one .table) (one .queue) 2 (cpu 0)
+      ≡ out (step (value tt) (two .queue)) (two .table)
   -- A longer and a shorter table have the records of the two.
   pub added : (length longer ≡ 10) × (recordAt longer 0 ≡ recordAt (two .table) 0)
       × (recordAt longer 2 ≡ recordAt (two .table) 2)
@@ -97,10 +115,26 @@ pub record Computed : Type 0 where
       × (contains (backed .table) (rootOf (backed .queue) (treeFor (recordOf nine 2))) 1 ≡ contained.No)
       × (contains (backed .table) (rootOf (backed .queue) (treeFor (recordOf nine 1))) 1 ≡ contained.Yes)
   pub elsewhere : threadsOf (backed .table) (listAt (backed .queue) 6) ≡ []
-  -- The second is a queued budget thread, and its record is not bad when its time has run out.
+  -- The second is a queued budget thread of processor 0, and its record is not bad when its time has run out.
   pub queued : pair 2 ≡ true
+  pub fits : PriorityFits (recordOf (one .table) 2 .parameters .policy)
   pub budgeted : recordOf (two .table) 2 .parameters .policy ≡ policy.Budget
   pub judged : isBadRecord (withRuntime (budgetThread 0 .runtime) (recordOf (two .table) 2)) ≡ false
+  pub assigned : recordOf ranOut 2 .cpu .0 ≡ cpu 0 .0
+  -- Threads of two processors stand in one queue, each in its list; one of them is removed by its own processor, and
+  -- not by the other's; a third does not join a list of the other processor.
+  pub ours : enqueueCall false mixed newQueue 0 (cpu 0) ≡ out (step (value tt) (here .queue)) (here .table)
+  pub theirs : enqueueCall false (here .table) (here .queue) 1 (cpu 1)
+      ≡ out (step (value tt) (both .queue)) (both .table)
+  pub priority : PriorityFits (recordOf (here .table) 1 .parameters .policy)
+  pub lists : (threadsOf (both .table) (listAt (both .queue) 6) ≡ 0 ∷ [])
+      × (threadsOf (both .table) (listAt (both .queue) 7) ≡ 1 ∷ [])
+  pub not-joined : enqueueCall false (both .table) (both .queue) 2 (cpu 1)
+      ≡ out (step (refused damaged) (both .queue)) (both .table)
+  pub not-removed : removeCall (both .table) (both .queue) 1 (cpu 0)
+      ≡ out (step (refused damaged) (both .queue)) (both .table)
+  pub removed : removeCall (both .table) (both .queue) 1 (cpu 1) ≡ out (step (value tt) (gone .queue)) (gone .table)
+  pub left : threadsOf (gone .table) (listAt (gone .queue) 7) ≡ []
 
 pub computed : Computed
 unfolding choose ifLess ifEqual given compareNumbers thenBy compareParts onOrdering onPolicy onRole onBackend onBudget
@@ -124,14 +158,38 @@ computed = record {
       unqueued = refl;
       assigned = refl;
       fits = omega arith;
+      ours = λ j e f. never cc;
     },
-    record { below = omega arith; judged = refl; notIdle = λ e. never cc; unqueued = refl; assigned = refl; fits = tt },
-    record { below = omega arith; judged = refl; notIdle = λ e. never cc; unqueued = refl; assigned = refl; fits = tt },
-    record { below = omega arith; judged = refl; notIdle = λ e. never cc; unqueued = refl; assigned = refl; fits = tt },
+    record {
+      below = omega arith;
+      judged = refl;
+      notIdle = λ e. never cc;
+      unqueued = refl;
+      assigned = refl;
+      fits = tt;
+      ours = λ j e f. never cc;
+    },
+    record {
+      below = omega arith;
+      judged = refl;
+      notIdle = λ e. never cc;
+      unqueued = refl;
+      assigned = refl;
+      fits = tt;
+      ours = λ j e f. never cc;
+    },
+    record {
+      below = omega arith;
+      judged = refl;
+      notIdle = λ e. never cc;
+      unqueued = refl;
+      assigned = refl;
+      fits = tt;
+      ours = λ j e f. never cc;
+    },
   );
-  reached = reached.enqueued (including 0 nobody) (one .queue) (two .queue) (one .table) (two .table) true 2
-      (reached.enqueued nobody newQueue (one .queue) nine (one .table) false 0 (reached.new nine (omega arith))
-      (omega arith) refl) tt refl;
+  first = refl;
+  second = refl;
   added = (refl, refl, refl);
   dropped = (refl, refl, refl);
   at-front = refl;
@@ -139,13 +197,29 @@ computed = record {
   in-tree = (refl, refl, refl);
   elsewhere = refl;
   queued = refl;
+  fits = tt;
   budgeted = refl;
   judged = refl;
+  assigned = refl;
+  ours = refl;
+  theirs = refl;
+  priority = omega arith;
+  lists = (refl, refl);
+  not-joined = refl;
+  not-removed = refl;
+  removed = refl;
+  left = refl;
 }
 
 -- The queue is sound,
-pub two-sound : Sound (cpu 0) pair (two .queue) (two .table)
-two-sound = reached-sound (computed .reached)
+one-sound : Sound (including 0 nobody) (one .queue) (one .table)
+unfolding recordOf
+one-sound =
+    enqueue-sound (new-sound nine (omega arith)) (cpu 0) 0 false (one .queue) (one .table) (omega arith)
+    (computed .first) .sound
+
+pub two-sound : Sound pair (two .queue) (two .table)
+two-sound = enqueue-sound one-sound (cpu 0) 2 true (two .queue) (two .table) (computed .fits) (computed .second) .sound
 
 -- with a record added behind, or all behind the two dropped,
 pair-of : {A : Type 0} (j : ℕ) → pair j ≡ true → (j ≡ 0 → A) → (j ≡ 2 → A) → A
@@ -153,28 +227,39 @@ pair-of j e f g = same-or-not j 2 g (λ x. same-or-not j 0 f
     (λ y. absurd (let z : false ≡ true =
     sym (included-other 2 (including 0 nobody) j x ∙ included-other 0 nobody j y) ∙ e in never cc)))
 
-resized-reached : (s : List ThreadRecord) → length s ≤ maxRecords → recordAt s 0 ≡ recordAt (two .table) 0
-    → recordAt s 2 ≡ recordAt (two .table) 2 → Reached (cpu 0) pair (two .queue) s
-resized-reached s l f g = reached.changed pair (two .queue) (two .table) s (computed .reached) l
-    (λ j e. pair-of j e (λ z. rw z f) (λ z. rw z g))
-
-pub longer-sound : Sound (cpu 0) pair (two .queue) longer
+pub longer-sound : Sound pair (two .queue) longer
 longer-sound =
-    let a = computed .added in reached-sound (resized-reached longer (omega (arith, a .0)) (a .1) (a .2))
+    let a = computed .added in changes-sound two-sound longer (omega (arith, a .0))
+    (λ j e. pair-of j e (λ z. rw z (a .1)) (λ z. rw z (a .2)))
 
-pub shorter-sound : Sound (cpu 0) pair (two .queue) shorter
+pub shorter-sound : Sound pair (two .queue) shorter
 shorter-sound =
-    let a = computed .dropped in reached-sound (resized-reached shorter (omega (arith, a .0)) (a .1) (a .2))
+    let a = computed .dropped in changes-sound two-sound shorter (omega (arith, a .0))
+    (λ j e. pair-of j e (λ z. rw z (a .1)) (λ z. rw z (a .2)))
 
 -- also when the budget thread's time has run out, so that it stands in the partner of the tree of its filing;
-pub exhausted-sound : Sound (cpu 0) pair (two .queue) ranOut
+pub exhausted-sound : Sound pair (two .queue) ranOut
 exhausted-sound =
     refresh-sound two-sound 2 (budgetThread 0 .runtime) (computed .queued) (computed .budgeted) (computed .judged)
 
 -- from there it is removed, and the FIFO thread alone is queued.
 pub exhausted-removed : Accepted exhausted-sound (removing 2) (removeCall ranOut (two .queue) 2 (cpu 0))
-exhausted-removed = remove-accepted exhausted-sound 2 (computed .queued)
+exhausted-removed = remove-accepted exhausted-sound (cpu 0) 2 (computed .queued) (computed .assigned)
 
 pub alone-queued : (excluding 2 pair 0 ≡ true) × (excluding 2 pair 2 ≡ false) × (excluding 2 pair 1 ≡ false)
 unfolding including excluding choose
 alone-queued = (refl, refl, refl)
+
+-- The queue with threads of two processors is sound, and so it is once the one is removed.
+here-sound : Sound (including 0 nobody) (here .queue) (here .table)
+unfolding recordOf
+here-sound =
+    enqueue-sound (new-sound mixed (omega arith)) (cpu 0) 0 false (here .queue) (here .table) (omega arith)
+    (computed .ours) .sound
+
+pub both-sound : Sound (including 1 (including 0 nobody)) (both .queue) (both .table)
+both-sound =
+    enqueue-sound here-sound (cpu 1) 1 false (both .queue) (both .table) (computed .priority) (computed .theirs) .sound
+
+pub gone-sound : Sound (excluding 1 (including 1 (including 0 nobody))) (gone .queue) (gone .table)
+gone-sound = remove-sound both-sound (cpu 1) 1 (gone .queue) (gone .table) (computed .removed) .sound

@@ -6,8 +6,6 @@ pub mod Lists
 pub mod Count
 -- A sound queue, and what a call on it is to leave.
 pub mod Sound
--- Document 01's sound queues, by their calls.
-pub mod Reached
 -- Laws of placing a thread.
 pub mod PlaceLaws
 -- Laws of counting.
@@ -24,6 +22,8 @@ pub mod PartsLaws
 pub mod SoundLaws
 -- A new queue, and changes to records that are not queued.
 pub mod Outside
+-- Whether a thread may join its list.
+pub mod Joining
 -- An enqueue, at either end, on a sound queue.
 pub mod Enqueueing
 -- A removal on a sound queue.

@@ -104,12 +104,12 @@ module _ (t s : List ThreadRecord) (e : withoutLinks s ≡ withoutLinks t) where
   same-cpu j = ap (λ (r : ThreadRecord). r .cpu) (alike-record bare t s j bare-table)
 
 -- What is asked of a queued record is asked of no links.
-pub queued-still : (cpu : CpuIndex) (r s : ThreadRecord) (k : ℕ) → s .parameters ≡ r .parameters
-    → s .runtime ≡ r .runtime → s .cpu ≡ r .cpu → Queued cpu r k → Queued cpu s k
+pub queued-still : (cpus : ℕ → CpuIndex) (r s : ThreadRecord) (k : ℕ) → s .parameters ≡ r .parameters
+    → s .runtime ≡ r .runtime → s .cpu ≡ r .cpu → Queued cpus r k → Queued cpus s k
 unfolding isBadRecord
-queued-still cpu r s k e f g h = record {
+queued-still cpus r s k e f g h = record {
   judged = rw (e, f) (h .judged);
-  assigned = rw g (h .assigned);
+  assigned = rw (g, e) (h .assigned);
   listed = rw e (h .listed);
   filed = filed-still (h .filed);
 }

@@ -4,7 +4,7 @@ use mathlib.Core.Path.{_≡_}
 use mathlib.Core.Bool.{Bool}
 use mathlib.Core.List.{List, [], _∷_, _++_}
 use Prim.Native.Nat.{ℕ, zero, suc, _<_}
-use lib.ListN.{getD}
+use lib.ListN.{length, getD}
 use lib.Dec.{eqb}
 use Rattle.refusal.specs.Cases.{choose}
 use Rattle.policy.specs.declared.SchedulingPolicy.{SchedulingPolicy}
@@ -44,11 +44,13 @@ listFor p = onPolicy p (λ priority. suc (priority .0)) 0 0 listCount
 unfoldable pub rowOf : (ℕ → Bool) → List ThreadRecord → ℕ → ℕ
 rowOf queued t j = choose (queued j) (listFor (recordOf t j .parameters .policy)) listCount
 
--- The table holds these lists. `row` gives the list in which a thread stands, `listCount` or more where in none:
--- each list has exactly the threads whose row it is, so that no two have one in common.
-pub record Lists (lists : ℕ → ThreadQueue) (cpu : CpuIndex) (t : List ThreadRecord) (row : ℕ → ℕ) : Type 0 where
+-- The table holds these lists, the threads of each with its processor. `row` gives the list in which a thread stands,
+-- `listCount` or more where in none: each list has exactly the threads whose row it is, so that no two have one in
+-- common.
+pub record Lists (lists : ℕ → ThreadQueue) (cpus : ℕ → CpuIndex) (t : List ThreadRecord)
+    (row : ℕ → ℕ) : Type 0 where
   pub members : ℕ → List ℕ
-  pub holds : (n : ℕ) → n < listCount → HoldsList t (lists n) (members n) (membershipAt cpu n)
+  pub holds : (n : ℕ) → n < listCount → HoldsList t (lists n) (members n) (membershipAt (cpus n) n)
   pub exact : (j n : ℕ) → n < listCount → has j (members n) ≡ eqb (row j) n
 
 -- Up to n threads as one reads them from a link on, each the next of the one before.
@@ -57,9 +59,9 @@ threadsFrom zero t at = []
 threadsFrom (suc n) t at =
     onLink at [] (λ i. i ∷ onQueueLinks (queueLinksAt t i) [] (λ links. threadsFrom n t (links .next)))
 
--- The threads of a list: read from its head, as many as its length says.
+-- The threads of a list: read from its head until there is no next. No list is longer than the table.
 abbrev pub threadsOf : List ThreadRecord → ThreadQueue → List ℕ
-threadsOf t list = threadsFrom (list .len) t (list .head)
+threadsOf t list = threadsFrom (length t) t (list .head)
 
 -- A thread joined to others: as the first, or as the last.
 unfoldable pub joined : Bool → ℕ → List ℕ → List ℕ

@@ -12,7 +12,6 @@ use borrow.Author.Tests.{lt-ltb}
 use Rattle.refusal.specs.Cases.{never}
 use Rattle.policy.specs.declared.SchedulingPolicy.the-variants as policy
 use Rattle.algorithms.specs.declared.PolicyRuntime.{PolicyRuntime}
-use Rattle.thread.specs.declared.CpuIndex.{CpuIndex}
 use Rattle.thread.specs.declared.Link.{Link}
 use Rattle.thread.specs.declared.ThreadRecord.{ThreadRecord}
 use Rattle.thread.specs.Records.{withRuntime}
@@ -55,7 +54,7 @@ withRoots q roots =
 -- The removal is accepted, then the insertion; the queue is sound, with the same threads queued, the thread in its new
 -- tree and every other where it stood. Of every record only tree links changed, of the thread also the runtime, and a
 -- record that is not queued did not change at all.
-pub record Moved (cpu : CpuIndex) (queued : ℕ → Bool) (q : CpuRunQueue) (t : List ThreadRecord) (place : ℕ → ℕ)
+pub record Moved (queued : ℕ → Bool) (q : CpuRunQueue) (t : List ThreadRecord) (place : ℕ → ℕ)
     (i to : ℕ) (x : PolicyRuntime) : Type 0 where
   pub out-of : List ThreadRecord
   pub rest : Link
@@ -64,14 +63,14 @@ pub record Moved (cpu : CpuIndex) (queued : ℕ → Bool) (q : CpuRunQueue) (t :
   pub top : Link
   pub inserts : insert (changed out-of i (withRuntime x))
       (getD (set (q .indices) (place i) (record { root = rest })) to emptyRoot .root) i ≡ out (rooted.Root top) table
-  pub sound : Sound cpu queued (withRoots q
+  pub sound : Sound queued (withRoots q
       (set (set (q .indices) (place i) (record { root = rest })) to (record { root = top }))) table
   pub places : (j : ℕ) → sound .place j ≡ placed i to place j
   pub uprooted : besidesLinks out-of ≡ besidesLinks t
   pub planted : besidesLinks table ≡ besidesLinks (changed out-of i (withRuntime x))
   pub others : (j : ℕ) → queued j ≡ false → recordAt table j ≡ recordAt t j
 
-module _ {cpu : CpuIndex} {queued : ℕ → Bool} {q : CpuRunQueue} {t : List ThreadRecord} (S : Sound cpu queued q t)
+module _ {queued : ℕ → Bool} {q : CpuRunQueue} {t : List ThreadRecord} (S : Sound queued q t)
     (i to : ℕ) (x : PolicyRuntime)
     (e : queued i ≡ true) (b : recordOf t i .parameters .policy ≡ policy.Budget)
     (g : isBadRecord (withRuntime x (recordOf t i)) ≡ false)
@@ -154,8 +153,8 @@ module _ {cpu : CpuIndex} {queued : ℕ → Bool} {q : CpuRunQueue} {t : List Th
           (λ z. rw (z, placed-same i to (placed i treeCount (S .place))) (lt-ltb to treeCount low ∙ sym e))
           (λ z. rw (place j z) (S .stands j))
 
-      moved-record : Queued cpu (recordOf (P .table) i) to
-      moved-record = queued-still cpu (withRuntime x (recordOf t i)) (recordOf (P .table) i) to (parameters i)
+      moved-record : Queued (S .cpus) (recordOf (P .table) i) to
+      moved-record = queued-still (S .cpus) (withRuntime x (recordOf t i)) (recordOf (P .table) i) to (parameters i)
           (same-runtime refreshed (P .table) again i ∙ ap (λ (r : ThreadRecord). r .runtime) refreshed-same)
           (same-cpu refreshed (P .table) again i ∙ ap (λ (r : ThreadRecord). r .cpu) refreshed-same
           ∙ same-cpu t (R .table) alike i)
@@ -166,8 +165,8 @@ module _ {cpu : CpuIndex} {queued : ℕ → Bool} {q : CpuRunQueue} {t : List Th
             filed = file-in (withRuntime x (recordOf t i)) to b into;
           })
 
-      other-record : (j : ℕ) → j ≢ i → queued j ≡ true → Queued cpu (recordOf (P .table) j) (S .place j)
-      other-record j d h = queued-still cpu (recordOf t j) (recordOf (P .table) j) (S .place j) (parameters j)
+      other-record : (j : ℕ) → j ≢ i → queued j ≡ true → Queued (S .cpus) (recordOf (P .table) j) (S .place j)
+      other-record j d h = queued-still (S .cpus) (recordOf t j) (recordOf (P .table) j) (S .place j) (parameters j)
           (same-runtime refreshed (P .table) again j ∙ ap (λ (r : ThreadRecord). r .runtime) (refreshed-other j d)
           ∙ same-runtime t (R .table) alike j)
           (same-cpu refreshed (P .table) again j ∙ ap (λ (r : ThreadRecord). r .cpu) (refreshed-other j d)
@@ -175,7 +174,7 @@ module _ {cpu : CpuIndex} {queued : ℕ → Bool} {q : CpuRunQueue} {t : List Th
           (S .threads j h)
 
       threads : (j : ℕ) → queued j ≡ true
-          → Queued cpu (recordOf (P .table) j) (placed i to (placed i treeCount (S .place)) j)
+          → Queued (S .cpus) (recordOf (P .table) j) (placed i to (placed i treeCount (S .place)) j)
       threads j h = same-or-not j i
           (λ z. rw (z, placed-same i to (placed i treeCount (S .place))) moved-record)
           (λ z. rw (place j z) (other-record j z h))
@@ -193,7 +192,7 @@ module _ {cpu : CpuIndex} {queued : ℕ → Bool} {q : CpuRunQueue} {t : List Th
           ∙ reading-other (R .table) i (withRuntime x) (λ (r : ThreadRecord). read.Got r) read.Damaged j d
           ∙ R .others j (not-queued-placed S j h) d
 
-      moved-by : Moved cpu queued q t (S .place) i to x
+      moved-by : Moved queued q t (S .place) i to x
       unfolding trees-sound
       moved-by = record {
         out-of = R .table;
@@ -214,5 +213,5 @@ module _ {cpu : CpuIndex} {queued : ℕ → Bool} {q : CpuRunQueue} {t : List Th
       }
 
   -- A queued budget thread moves to either tree of its role, with any runtime that its record is not bad with.
-  pub moved : Moved cpu queued q t (S .place) i to x
+  pub moved : Moved queued q t (S .place) i to x
   moved = let R = is-taken in moved-by R (is-put R)

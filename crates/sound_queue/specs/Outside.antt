@@ -8,7 +8,6 @@ use lib.ListN.{length, length-replicate, getD-replicate}
 use borrow.Author.Tests.{lt-ltb, ne-eqb}
 use Rattle.refusal.specs.Cases.{never, choose}
 use Rattle.policy.specs.declared.SchedulingPolicy.{SchedulingPolicy}
-use Rattle.thread.specs.declared.CpuIndex.{CpuIndex}
 use Rattle.thread.specs.declared.ThreadRecord.{ThreadRecord}
 use Rattle.thread.specs.Membership.{emptyQueue}
 use Rattle.rows.specs.declared.RecordRead.the-variants as read
@@ -26,9 +25,8 @@ use Rattle.sound_queue.specs.Count.{count}
 use Rattle.sound_queue.specs.CountLaws.{count-same, count-bounds, count-none}
 use Rattle.sound_queue.specs.Lists.{listAt, membershipAt, listFor, rowOf, listCount}
 use Rattle.sound_queue.specs.ListsLaws.{lists-still, lists-same}
-use Rattle.sound_queue.specs.Sound.{Queued, queuedOf, Sound}
-use Rattle.sound_queue.specs.SoundLaws.{row-not-queued, queued-inside}
-use Rattle.sound_queue.specs.Reached.{nobody}
+use Rattle.sound_queue.specs.Sound.{Queued, queuedOf, Sound, nobody}
+use Rattle.sound_queue.specs.SoundLaws.{row-not-queued, queued-inside, queued-if-listed}
 use Rattle.rows.specs.declared.QueueLinksRead.the-variants as queueLinks
 
 new-list : (n : ℕ) → n < listCount → listAt newQueue n ≡ emptyQueue
@@ -37,9 +35,10 @@ new-list zero b = refl
 new-list (suc p) b = getD-replicate 256 p emptyQueue emptyQueue (omega arith)
 
 -- A new queue over any table of up to 4,096 records is sound, with nobody queued.
-pub new-sound : (cpu : CpuIndex) (t : List ThreadRecord) → length t ≤ maxRecords → Sound cpu nobody newQueue t
+pub new-sound : (t : List ThreadRecord) → length t ≤ maxRecords → Sound nobody newQueue t
 unfolding inOrder queuedOf
-new-sound cpu t n = record {
+new-sound t n = record {
+  cpus = λ m. record { 0 = 0 };
   place = λ j. treeCount;
   forest = record {
     trees = λ k. leaf;
@@ -55,7 +54,7 @@ new-sound cpu t n = record {
   priorities = length-replicate 256 emptyQueue;
   lists = record {
     members = λ m. [];
-    holds = λ m b. rw (new-list m b) (empty-holds t (membershipAt cpu m));
+    holds = λ m b. rw (new-list m b) (empty-holds t (membershipAt (record { 0 = 0 }) m));
     exact = λ j m b. sym (ne-eqb (rowOf nobody t j) m (λ z. let a = row-not-queued nobody t j refl in omega arith));
   };
   total = sym (count-none (length t) (queuedOf isFifo nobody t) (λ j l. refl));
@@ -78,10 +77,10 @@ module _ (t s : List ThreadRecord) (j : ℕ) (b : j < length t) (e : recordAt s 
       queue-links-within s j kept-inside ∙ ap (λ (r : ThreadRecord). queueLinks.Got (r .«queue_links»)) kept-record
       ∙ sym (queue-links-within t j b)
 
-module _ {cpu : CpuIndex} {queued : ℕ → Bool} {q : CpuRunQueue} {t : List ThreadRecord} (S : Sound cpu queued q t)
+module _ {queued : ℕ → Bool} {q : CpuRunQueue} {t : List ThreadRecord} (S : Sound queued q t)
     (s : List ThreadRecord)
     (small : length s ≤ maxRecords) (h : (j : ℕ) → queued j ≡ true → recordAt s j ≡ recordAt t j) where
-  same-record : (j : ℕ) → queued j ≡ true → recordOf s j ≡ recordOf t j
+  pub same-record : (j : ℕ) → queued j ≡ true → recordOf s j ≡ recordOf t j
   same-record j e = kept-record t s j (queued-inside S j e) (h j e)
 
   row-kept : (j : ℕ) → rowOf queued t j ≡ rowOf queued s j
@@ -122,16 +121,10 @@ module _ {cpu : CpuIndex} {queued : ℕ → Bool} {q : CpuRunQueue} {t : List Th
   queued-if-placed : (j : ℕ) → S .place j < treeCount → queued j ≡ true
   queued-if-placed j b = sym (S .stands j) ∙ lt-ltb (S .place j) treeCount b
 
-  queued-if-listed : (j : ℕ) → rowOf queued t j < listCount → queued j ≡ true
-  queued-if-listed j b = go (queued j) refl
-    where
-      go : (x : Bool) → queued j ≡ x → queued j ≡ true
-      go true e = e
-      go false e = let a = row-not-queued queued t j e in absurd (omega arith)
-
   -- Records that are not queued may change in any way, their links and membership too; records may be added or dropped.
-  pub changes-sound : Sound cpu queued q s
+  pub changes-sound : Sound queued q s
   changes-sound = record {
+    cpus = S .cpus;
     place = S .place;
     forest = forest-still s small
         (λ j b. (
@@ -139,11 +132,12 @@ module _ {cpu : CpuIndex} {queued : ℕ → Bool} {q : CpuRunQueue} {t : List Th
           record-key t s j (placed-inside (S .forest) j b) (h j (queued-if-placed j b)),
         )) (S .forest);
     stands = S .stands;
-    threads = λ j e. subst (λ (r : ThreadRecord). Queued cpu r (S .place j)) (sym (same-record j e)) (S .threads j e);
+    threads =
+        λ j e. subst (λ (r : ThreadRecord). Queued (S .cpus) r (S .place j)) (sym (same-record j e)) (S .threads j e);
     priorities = S .priorities;
     lists = lists-same (rowOf queued s) row-kept
-        (lists-still s (λ j b. kept-queue-links t s j (queued-inside S j (queued-if-listed j b))
-        (h j (queued-if-listed j b))) (S .lists));
+        (lists-still s (λ j b. kept-queue-links t s j (queued-inside S j (queued-if-listed S j b))
+        (h j (queued-if-listed S j b))) (S .lists));
     total = S .total ∙ counts-kept isFifo;
     budgets = S .budgets ∙ counts-kept isBudget;
     running = S .running;

@@ -40,6 +40,10 @@ use Rattle.queue.specs.Queue.{listOf, withParts, isFifo, isBudget, membershipFo
 use Rattle.sound_queue.specs.Lists.{listAt, membershipAt, listFor, listCount}
 use Rattle.sound_queue.specs.Sound.{PriorityFits}
 
+-- A processor is its number.
+pub cpu-by : (c d : CpuIndex) → c .0 ≡ d .0 → c ≡ d
+cpu-by c d e = ap (λ n. record { 0 = n }) e
+
 -- A membership's list.
 pub list-of : (q : CpuRunQueue) (cpu : CpuIndex) (n : ℕ) → listOf q (membershipAt cpu n) ≡ listAt q n
 unfolding listOf onMembership membershipAt listAt

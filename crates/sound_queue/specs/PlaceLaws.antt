@@ -11,12 +11,12 @@ use Rattle.refusal.specs.Cases.{choose}
 use Rattle.sound_queue.specs.Forest.{placed}
 
 -- Where the thread stands.
-pub placed-same : (i k : ℕ) (place : ℕ → ℕ) → placed i k place i ≡ k
+pub placed-same : {A : Type 0} (i : ℕ) (k : A) (place : ℕ → A) → placed i k place i ≡ k
 unfolding placed choose
 placed-same i k place = rw (eq-eqb i i refl)
 
 -- Where every other stands.
-pub placed-other : (i k : ℕ) (place : ℕ → ℕ) (j : ℕ) → j ≢ i → placed i k place j ≡ place j
+pub placed-other : {A : Type 0} (i : ℕ) (k : A) (place : ℕ → A) (j : ℕ) → j ≢ i → placed i k place j ≡ place j
 unfolding placed choose
 placed-other i k place j h = rw (ne-eqb j i h)
 
@@ -27,6 +27,11 @@ same-or-not {A} j i f g = go (eqb j i) refl
     go : (x : Bool) → eqb j i ≡ x → A
     go true e = f (eqb-true j i e)
     go false e = g (eqb-false j i e)
+
+-- Placed where it was, nothing changes.
+pub placed-kept : {A : Type 0} (i : ℕ) (place : ℕ → A) (j : ℕ) → placed i (place i) place j ≡ place j
+placed-kept i place j = same-or-not j i
+    (λ e. rw (e, placed-same i (place i) place)) (λ e. placed-other i (place i) place j e)
 
 -- f tells whom number k has before, g afterwards.
 module _ (limit i k : ℕ) (place : ℕ → ℕ) (b : k < limit) (f g : ℕ → Bool) (is : (j : ℕ) → f j ≡ eqb (place j) k)

@@ -30,12 +30,12 @@ use Rattle.queue_work.specs.Work.{removeWork}
 use Rattle.queue.specs.Queue.{step, emptyRoot, rootOf, partsOf, withParts, worked, isFifo, isBudget, partner}
 use Rattle.queue.specs.Queue.{onContained, treeWith, removeReady, removeFrom, removeCall}
 use Rattle.sound_queue.specs.Forest.{Forest, placed, Replanted}
-use Rattle.sound_queue.specs.PlaceLaws.{placed-same, placed-other, same-or-not}
+use Rattle.sound_queue.specs.PlaceLaws.{placed-same, placed-other, placed-kept, same-or-not}
 use Rattle.sound_queue.specs.ForestLaws.{forest-still, contains-placed, uprooted}
 use Rattle.sound_queue.specs.Count.{count}
 use Rattle.sound_queue.specs.Lists.{listAt, membershipAt, listFor, rowOf, Lists, listCount, relisted}
-use Rattle.sound_queue.specs.ListsLaws.{lists-still, lists-same, list-left, lists-after, without-same}
-use Rattle.sound_queue.specs.ListsLaws.{without-here}
+use Rattle.sound_queue.specs.ListsLaws.{lists-still, lists-assigned, lists-same, list-left, lists-after}
+use Rattle.sound_queue.specs.ListsLaws.{without-same, without-here}
 use Rattle.sound_queue.specs.Sound.{Filed, by-filing, in-partner, Queued, queuedOf, Sound, excluding, removing}
 use Rattle.sound_queue.specs.Sound.{Accepted}
 use Rattle.sound_queue.specs.LinksLaws.{besides-queue-links, list-stores-links, list-stores-key}
@@ -48,15 +48,23 @@ use Rattle.sound_queue.specs.SoundLaws.{counted, sound-by, queued-placed
 use Rattle.sound_queue.specs.SoundLaws.{queued-membership}
 use Rattle.sound_queue.specs.Enqueueing.{judged-passes, out-is}
 
--- From a list of this processor: what is left to be done once the tree is known.
-remove-ready : (t : List ThreadRecord) (q : CpuRunQueue) (i : ℕ) (cpu : CpuIndex) (r : ThreadRecord) (k n : ℕ)
-    → r .«queue_links» .membership ≡ membershipAt cpu n
-    → removeFrom t q i cpu r k ≡ worked q (membershipAt cpu n) k
-    (removeWork (ltb 0 n) (isBudget (r .parameters .policy)) t (partsOf q (membershipAt cpu n) k) i
-    (membershipAt cpu n))
-unfolding removeFrom removeReady given onMembership membershipAt ifEqual choose
-remove-ready t q i cpu r k zero e = rw (e, eq-eqb (cpu .0) (cpu .0) refl)
-remove-ready t q i cpu r k (suc p) e = rw (e, eq-eqb (cpu .0) (cpu .0) refl, lt-ltb 0 (suc p) (omega arith))
+-- Once the tree is known, for a thread in a list of processor d:
+module _ (t : List ThreadRecord) (q : CpuRunQueue) (i : ℕ) (cpu d : CpuIndex) (r : ThreadRecord) (k : ℕ) where
+  -- what is left to be done if that is the call's processor,
+  remove-ready : (n : ℕ) → r .«queue_links» .membership ≡ membershipAt d n → d .0 ≡ cpu .0
+      → removeFrom t q i cpu r k ≡ worked q (membershipAt d n) k
+      (removeWork (ltb 0 n) (isBudget (r .parameters .policy)) t (partsOf q (membershipAt d n) k) i
+      (membershipAt d n))
+  unfolding removeFrom removeReady given onMembership membershipAt ifEqual choose
+  remove-ready zero e c = rw (e, eq-eqb (d .0) (cpu .0) c)
+  remove-ready (suc p) e c = rw (e, eq-eqb (d .0) (cpu .0) c, lt-ltb 0 (suc p) (omega arith))
+
+  -- and Damaged if it is not.
+  remove-elsewhere : (n : ℕ) → r .«queue_links» .membership ≡ membershipAt d n → d .0 ≢ cpu .0
+      → removeFrom t q i cpu r k ≡ out (step (refused damaged) q) t
+  unfolding removeFrom removeReady given onMembership membershipAt ifEqual choose
+  remove-elsewhere zero e c = rw (e, ne-eqb (d .0) (cpu .0) c)
+  remove-elsewhere (suc p) e c = rw (e, ne-eqb (d .0) (cpu .0) c)
 
 -- The tree with a thread, by where it stands: in the tree of its filing, in a budget's other tree, or in none.
 module _ (t : List ThreadRecord) (q : CpuRunQueue) (i : ℕ) where
@@ -78,8 +86,7 @@ module _ (t : List ThreadRecord) (q : CpuRunQueue) (i : ℕ) where
   unfolding treeWith onContained choose
   found-not-as-filed f e = rw e
 
-module _ {cpu : CpuIndex} {queued : ℕ → Bool} {q : CpuRunQueue} {t : List ThreadRecord} (S : Sound cpu queued q t)
-    (i : ℕ) where
+module _ {queued : ℕ → Bool} {q : CpuRunQueue} {t : List ThreadRecord} (S : Sound queued q t) (i : ℕ) where
   stands-in : (k : ℕ) → k < treeCount → i < length t → S .place i ≡ k → contains t (rootOf q k) i ≡ contained.Yes
   unfolding choose
   stands-in k b l e = contains-placed (S .forest) i k b l ∙ rw (eq-eqb (S .place i) k e)
@@ -97,6 +104,10 @@ module _ {cpu : CpuIndex} {queued : ℕ → Bool} {q : CpuRunQueue} {t : List Th
 
     row-is : rowOf queued t i ≡ row
     row-is = row-queued queued t i e
+
+    -- The processor of its list, which is its own.
+    abbrev own : CpuIndex
+    own = S .cpus row
 
     -- The tree of the record's filing, and the tree that holds it.
     pub record Found : Type 0 where
@@ -121,13 +132,28 @@ module _ {cpu : CpuIndex} {queued : ℕ → Bool} {q : CpuRunQueue} {t : List Th
               (stands-in (partner f) (d .0) (queued-inside S i e) (sym y)) ∙ ap value y);
         }
 
+    -- The call goes as far as the thread's list.
+    call-goes : (cpu : CpuIndex) → removeCall t q i cpu ≡ removeFrom t q i cpu (recordOf t i) (S .place i)
+    unfolding removeCall onAnswer
+    call-goes cpu =
+        let G = found-by (S .threads i e .filed) in
+        judged-passes t q i (G .filed) _ (S .forest .small) (S .running) (queued-inside S i e) (S .threads i e .judged)
+        (G .is) ∙ rw (G .tree)
+
+    -- For another processor than the thread's own it is Damaged, with nothing changed.
+    pub removed-elsewhere : (cpu : CpuIndex) → recordOf t i .cpu .0 ≢ cpu .0
+        → removeCall t q i cpu ≡ out (step (refused damaged) q) t
+    removed-elsewhere cpu d =
+        call-goes cpu ∙ remove-elsewhere t q i cpu own (recordOf t i) (S .place i) row (queued-membership S i e)
+        (λ z. d (S .threads i e .assigned ∙ z))
+
     abbrev Left : Type 0
-    Left = list.Accepted t (lists·.remove t (listAt q row) i (membershipAt cpu row)) (S .lists .members row) i
-        (without i (S .lists .members row)) (membershipAt cpu row)
+    Left = list.Accepted t (lists·.remove t (listAt q row) i (membershipAt own row)) (S .lists .members row) i
+        (without i (S .lists .members row)) (membershipAt own row)
 
     module _ (A : Left) where
       abbrev listed : List ThreadRecord
-      listed = after (lists·.remove t (listAt q row) i (membershipAt cpu row))
+      listed = after (lists·.remove t (listAt q row) i (membershipAt own row))
 
       listed-forest : Forest (q .indices) listed (S .place)
       listed-forest = forest-still listed (omega (arith, S .forest .small, list-stores-length t listed (A .rest)))
@@ -159,16 +185,17 @@ module _ {cpu : CpuIndex} {queued : ℕ → Bool} {q : CpuRunQueue} {t : List Th
         parts = record { list = A .list; «realtime_len» = total; root = R .link; «budget_threads» = budgets }
 
         abbrev queue : CpuRunQueue
-        queue = withParts q (membershipAt cpu row) (S .place i) parts
+        queue = withParts q (membershipAt own row) (S .place i) parts
 
-        unfoldable new-lists : Lists (listAt queue) cpu (R .table) (rowOf (excluding i queued) t)
+        unfoldable new-lists : Lists (listAt queue) (S .cpus) (R .table) (rowOf (excluding i queued) t)
         new-lists =
             lists-same (rowOf (excluding i queued) t) (row-excluded i queued t)
+            (lists-assigned (S .cpus) (placed-kept row (S .cpus))
             (lists-still (R .table) (λ j b. besides-queue-links listed (R .table) j (R .besides))
-            (list-left (S .lists) row row-low i (without i) A (listAt queue)
-            (list-stored q cpu (S .place i) parts row row-low (S .priorities))
-            (λ m c d. list-stored-other q cpu (S .place i) parts row m d) (without-same i (S .lists .members row))
-            row-is (without-here i (S .lists .members row))))
+            (list-left (S .lists) row row-low i (without i) own A (listAt queue)
+            (list-stored q own (S .place i) parts row row-low (S .priorities))
+            (λ m c d. list-stored-other q own (S .place i) parts row m d) (without-same i (S .lists .members row))
+            row-is (without-here i (S .lists .members row)))))
 
         new-stands : (j : ℕ) → ltb (placed i treeCount (S .place) j) treeCount ≡ excluding i queued j
         new-stands j = same-or-not j i
@@ -176,27 +203,27 @@ module _ {cpu : CpuIndex} {queued : ℕ → Bool} {q : CpuRunQueue} {t : List Th
             (λ z. rw (placed-other i treeCount (S .place) j z) (S .stands j ∙ sym (excluded-other i queued j z)))
 
         new-threads : (j : ℕ) → excluding i queued j ≡ true
-            → Queued cpu (recordOf t j) (placed i treeCount (S .place) j)
+            → Queued (S .cpus) (recordOf t j) (placed i treeCount (S .place) j)
         new-threads j h = same-or-not j i
             (λ z.
             let y : false ≡ true = sym (excluded i queued) ∙ ap (excluding i queued) (sym z) ∙ h in
             never cc)
             (λ z. rw (placed-other i treeCount (S .place) j z) (S .threads j (sym (excluded-other i queued j z) ∙ h)))
 
-        unfoldable new-sound : Sound cpu (excluding i queued) queue (R .table)
+        unfoldable new-sound : Sound (excluding i queued) queue (R .table)
         new-sound =
-            let s = rest-stored q cpu (S .place i) parts row in
+            let s = rest-stored q own (S .place i) parts row in
             sound-by t (R .table) (both-stores t listed (R .table) (A .rest) (R .besides))
-            (excluding i queued) cpu queue (placed i treeCount (S .place))
+            (excluding i queued) (S .cpus) queue (placed i treeCount (S .place))
             (rw (s .0) (R .forest)) new-stands new-threads
-            (priorities-stored q cpu (S .place i) parts row ∙ S .priorities) new-lists (s .1) (s .2) (s .3 ∙ S .running)
+            (priorities-stored q own (S .place i) parts row ∙ S .priorities) new-lists (s .1) (s .2) (s .3 ∙ S .running)
 
         new-places : (j : ℕ) → new-sound .place j ≡ placed i treeCount (S .place) j
         unfolding new-sound sound-by
         new-places j = refl
 
         new-members : (n : ℕ) → new-sound .lists .members n ≡ relisted row (without i) (S .lists .members) n
-        unfolding new-sound sound-by new-lists lists-same lists-still list-left lists-after
+        unfolding new-sound sound-by new-lists lists-same lists-assigned lists-still list-left lists-after
         new-members n = refl
 
         new-others : (j : ℕ) → queued j ≡ false → j ≢ i → recordAt (R .table) j ≡ recordAt t j
@@ -205,36 +232,36 @@ module _ {cpu : CpuIndex} {queued : ℕ → Bool} {q : CpuRunQueue} {t : List Th
             ∙ A .others j (S .lists .exact j row row-low ∙ ne-eqb (rowOf queued t j) row
             (λ z. let a = row-not-queued queued t j h in let b = row-low in omega arith)) d .0
 
-        work-is : worked q (membershipAt cpu row) (S .place i)
+        work-is : worked q (membershipAt own row) (S .place i)
             (removeWork (ltb 0 row) (isBudget (recordOf t i .parameters .policy)) t
-            (partsOf q (membershipAt cpu row) (S .place i)) i (membershipAt cpu row))
+            (partsOf q (membershipAt own row) (S .place i)) i (membershipAt own row))
             ≡ out (step (value tt) queue) (R .table)
         unfolding worked partsOf
         work-is =
             rw (remove-work (ltb 0 row) (isBudget (recordOf t i .parameters .policy)) t listed (R .table)
-            (partsOf q (membershipAt cpu row) (S .place i)) parts i
-            (membershipAt cpu row) total (A .list) (R .link)
+            (partsOf q (membershipAt own row) (S .place i)) parts i
+            (membershipAt own row) total (A .list) (R .link)
             (total-out (ltb 0 row) (q .«realtime_len») total
             (rw (list-fifo (recordOf t i .parameters .policy) row refl row-low) at
             (total-was isFifo (q .«realtime_len») (S .total))))
-            (rw (list-of q cpu row) (out-is (lists·.remove t (listAt q row) i (membershipAt cpu row)) (value (A .list))
+            (rw (list-of q own row) (out-is (lists·.remove t (listAt q row) i (membershipAt own row)) (value (A .list))
             (A .accepted)))
             (R .is)
             (counted-out (isBudget (recordOf t i .parameters .policy)) _ budgets
             (total-was isBudget (q .«budget_threads») (S .budgets))))
 
-        call-is : Found → removeCall t q i cpu ≡ out (step (value tt) queue) (R .table)
-        unfolding removeCall onAnswer
-        call-is G =
-            judged-passes t q i (G .filed) _ (S .forest .small) (S .running) (queued-inside S i e)
-            (S .threads i e .judged) (G .is)
-            ∙ rw (G .tree) (remove-ready t q i cpu (recordOf t i) (S .place i) row (queued-membership S i e) ∙ work-is)
+        call-is : (cpu : CpuIndex) → recordOf t i .cpu .0 ≡ cpu .0
+            → removeCall t q i cpu ≡ out (step (value tt) queue) (R .table)
+        call-is cpu c =
+            call-goes cpu ∙ remove-ready t q i cpu own (recordOf t i) (S .place i) row (queued-membership S i e)
+            (sym (S .threads i e .assigned) ∙ c) ∙ work-is
 
-        removed-by : Found → Accepted S (removing i) (removeCall t q i cpu)
-        removed-by G = record {
+        removed-by : (cpu : CpuIndex) → recordOf t i .cpu .0 ≡ cpu .0
+            → Accepted S (removing i) (removeCall t q i cpu)
+        removed-by cpu c = record {
           queue = queue;
           table = R .table;
-          is = call-is G;
+          is = call-is cpu c;
           kept =
               record {
                 sound = new-sound;
@@ -245,12 +272,14 @@ module _ {cpu : CpuIndex} {queued : ℕ → Bool} {q : CpuRunQueue} {t : List Th
               };
         }
 
-    -- The removal of a queued thread is accepted, also where a budget thread stands in the partner tree.
-    pub removed : Accepted S (removing i) (removeCall t q i cpu)
-    removed =
+    -- The removal of a queued thread by its processor is accepted, also where a budget thread stands in the partner
+    -- tree.
+    pub removed : (cpu : CpuIndex) → recordOf t i .cpu .0 ≡ cpu .0
+        → Accepted S (removing i) (removeCall t q i cpu)
+    removed cpu c =
         let A = remove-holds i (S .lists .holds row row-low)
         (S .lists .exact i row row-low ∙ eq-eqb (rowOf queued t i) row row-is) .0 in
-        removed-by A (is-uprooted A) (found-by (S .threads i e .filed))
+        removed-by A (is-uprooted A) cpu c
 
   -- A thread of the table that is not queued is in no tree.
   pub in-no-tree : queued i ≡ false → i < length t → (f : ℕ)

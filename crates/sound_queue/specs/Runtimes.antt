@@ -13,7 +13,6 @@ use Rattle.policy.specs.declared.SchedulingPolicy.{SchedulingPolicy}
 use Rattle.policy.specs.declared.SchedulingPolicy.the-variants as policy
 use Rattle.policy.specs.PolicyCases.{onPolicy}
 use Rattle.algorithms.specs.declared.PolicyRuntime.{PolicyRuntime}
-use Rattle.thread.specs.declared.CpuIndex.{CpuIndex}
 use Rattle.thread.specs.declared.IndexFor.the-variants as index
 use Rattle.thread.specs.declared.ThreadQueue.{ThreadQueue}
 use Rattle.thread.specs.declared.ThreadRecord.{ThreadRecord}
@@ -44,7 +43,7 @@ list-at-by r q (suc p) a b = ap (λ (l : List ThreadQueue). getD l p emptyQueue)
 
 -- Trees and runtimes may change, roots and the queue's epoch too: the queue is sound if the twelve trees stand and each
 -- queued record is filed in its tree.
-module _ {cpu : CpuIndex} {queued : ℕ → Bool} {q : CpuRunQueue} {t : List ThreadRecord} (S : Sound cpu queued q t)
+module _ {queued : ℕ → Bool} {q : CpuRunQueue} {t : List ThreadRecord} (S : Sound queued q t)
     (s : List ThreadRecord) (l : length s ≡ length t)
     (same : (j : ℕ) → recordOf s j .parameters ≡ recordOf t j .parameters)
     (links : (j : ℕ) → queueLinksAt s j ≡ queueLinksAt t j) where
@@ -60,9 +59,10 @@ module _ {cpu : CpuIndex} {queued : ℕ → Bool} {q : CpuRunQueue} {t : List Th
   unfoldable pub trees-sound : (r : CpuRunQueue) (place : ℕ → ℕ) → r .realtime ≡ q .realtime → r .fair ≡ q .fair
       → r .«realtime_len» ≡ q .«realtime_len» → r .«budget_threads» ≡ q .«budget_threads»
       → r .halted ≡ q .halted → Forest (r .indices) s place → ((j : ℕ) → ltb (place j) treeCount ≡ queued j)
-      → ((j : ℕ) → queued j ≡ true → Queued cpu (recordOf s j) (place j))
-      → Sound cpu queued r s
+      → ((j : ℕ) → queued j ≡ true → Queued (S .cpus) (recordOf s j) (place j))
+      → Sound queued r s
   trees-sound r place a b c d e F stands threads = record {
+    cpus = S .cpus;
     place = place;
     forest = F;
     stands = stands;
@@ -77,7 +77,7 @@ module _ {cpu : CpuIndex} {queued : ℕ → Bool} {q : CpuRunQueue} {t : List Th
       same-lists : (n : ℕ) → listAt r n ≡ listAt q n
       same-lists n = list-at-by r q n a b
 
-      lists-by : Lists (listAt q) cpu s (rowOf queued s) → Lists (listAt r) cpu s (rowOf queued s)
+      lists-by : Lists (listAt q) (S .cpus) s (rowOf queued s) → Lists (listAt r) (S .cpus) s (rowOf queued s)
       lists-by L = record { members = L .members; holds = λ n m. rw (same-lists n) (L .holds n m); exact = L .exact }
 
 -- The two trees of a budget thread's role.
@@ -141,7 +141,7 @@ file-in r k e b =
 
 -- A queued budget thread may get another runtime, as a refresh gives it: it stands where it stood, by its filing or in
 -- the partner.
-module _ {cpu : CpuIndex} {queued : ℕ → Bool} {q : CpuRunQueue} {t : List ThreadRecord} (S : Sound cpu queued q t)
+module _ {queued : ℕ → Bool} {q : CpuRunQueue} {t : List ThreadRecord} (S : Sound queued q t)
     (i : ℕ) (x : PolicyRuntime)
     (e : queued i ≡ true) (b : recordOf t i .parameters .policy ≡ policy.Budget)
     (g : isBadRecord (withRuntime x (recordOf t i)) ≡ false) where
@@ -156,7 +156,7 @@ module _ {cpu : CpuIndex} {queued : ℕ → Bool} {q : CpuRunQueue} {t : List Th
       (λ z. rw (z, record-same t i (withRuntime x) (queued-inside S i e)))
       (λ z. ap (λ (r : ThreadRecord). r .parameters) (other-record j z))
 
-  pub refreshed-queued : (j : ℕ) → queued j ≡ true → Queued cpu (recordOf refreshed j) (S .place j)
+  pub refreshed-queued : (j : ℕ) → queued j ≡ true → Queued (S .cpus) (recordOf refreshed j) (S .place j)
   refreshed-queued j h = same-or-not j i
       (λ z. rw (z, record-same t i (withRuntime x) (queued-inside S i e)) (record {
         judged = g;
@@ -168,7 +168,7 @@ module _ {cpu : CpuIndex} {queued : ℕ → Bool} {q : CpuRunQueue} {t : List Th
       }))
       (λ z. rw (other-record j z) (S .threads j h))
 
-  unfoldable pub refresh-sound : Sound cpu queued q (changed t i (withRuntime x))
+  unfoldable pub refresh-sound : Sound queued q (changed t i (withRuntime x))
   unfolding trees-sound
   refresh-sound =
       trees-sound S refreshed (length-changed t i (withRuntime x)) same-parameters

@@ -1,6 +1,6 @@
--- A sound queue of one processor, over queue, table and the set of queued threads; and what a call on it is to leave. A
--- thread is queued from its accepted enqueue to its accepted removal. Of a record that is not queued nothing is asked:
--- neither its links nor its membership.
+-- A sound queue, over queue, table and the set of queued threads; and what a call on it is to leave. A thread is queued
+-- from its accepted enqueue to its accepted removal. Of a record that is not queued nothing is asked: neither its links
+-- nor its membership.
 use mathlib.Core.Path.{_≡_}
 use mathlib.Core.Bool.{Bool, true, false, _&&_}
 use mathlib.Core.Logic.{_≢_}
@@ -36,10 +36,10 @@ pub data Filed (r : ThreadRecord) (k : ℕ) : Type 0 where
       → partner f ≡ k → Filed r k
 
 -- What is asked of the record of a queued thread that stands in tree k. Its list is one of the 257: a FIFO priority is
--- below 256.
-pub record Queued (cpu : CpuIndex) (r : ThreadRecord) (k : ℕ) : Type 0 where
+-- below 256. It is assigned to the processor of its list.
+pub record Queued (cpus : ℕ → CpuIndex) (r : ThreadRecord) (k : ℕ) : Type 0 where
   pub judged : isBadRecord r ≡ false
-  pub assigned : r .cpu .0 ≡ cpu .0
+  pub assigned : r .cpu .0 ≡ cpus (listFor (r .parameters .policy)) .0
   pub listed : listFor (r .parameters .policy) < listCount
   pub filed : Filed r k
 
@@ -49,17 +49,27 @@ queuedOf p queued t j = queued j && p (recordOf t j .parameters .policy)
 
 -- The twelve trees together and the lists together hold exactly the queued threads, each in one place and filed by its
 -- record; trees are in key order and balanced with right heights, lists are linked both ways, lengths and budget count
--- are true, and the queue is not halted.
-pub record Sound (cpu : CpuIndex) (queued : ℕ → Bool) (q : CpuRunQueue) (t : List ThreadRecord) : Type 0 where
+-- are true, and the queue is not halted. The threads of one list are of one processor; those of different lists need
+-- not be.
+pub record Sound (queued : ℕ → Bool) (q : CpuRunQueue) (t : List ThreadRecord) : Type 0 where
+  pub cpus : ℕ → CpuIndex
   pub place : ℕ → ℕ
   pub forest : Forest (q .indices) t place
   pub stands : (j : ℕ) → ltb (place j) treeCount ≡ queued j
-  pub threads : (j : ℕ) → queued j ≡ true → Queued cpu (recordOf t j) (place j)
+  pub threads : (j : ℕ) → queued j ≡ true → Queued cpus (recordOf t j) (place j)
   pub priorities : length (q .realtime) ≡ 256
-  pub lists : Lists (listAt q) cpu t (rowOf queued t)
+  pub lists : Lists (listAt q) cpus t (rowOf queued t)
   pub total : q .«realtime_len» ≡ count (length t) (queuedOf isFifo queued t)
   pub budgets : q .«budget_threads» ≡ count (length t) (queuedOf isBudget queued t)
   pub running : q .halted ≡ false
+
+-- The set of no thread.
+abbrev pub nobody : ℕ → Bool
+nobody j = false
+
+-- Every queued thread is of this processor.
+abbrev pub OneProcessor : CpuIndex → (ℕ → Bool) → List ThreadRecord → Type 0
+OneProcessor cpu queued t = (j : ℕ) → queued j ≡ true → recordOf t j .cpu .0 ≡ cpu .0
 
 -- The queued threads and this one.
 unfoldable pub including : ℕ → (ℕ → Bool) → ℕ → Bool
@@ -98,9 +108,9 @@ removing i = record { thread = i; after = excluding i; tree = treeCount; list = 
 -- of the twelve trees and each of the 257 lists holds what it held, but for the one thread (`kept-trees` and
 -- `kept-lists` in Calls.antt say so of `contains` and of reading the list). Of every record only links changed, and a
 -- record that is neither queued nor the thread's did not change at all.
-pub record Kept {cpu : CpuIndex} {queued : ℕ → Bool} {q : CpuRunQueue} {t : List ThreadRecord}
-    (S : Sound cpu queued q t) (e : Effect) (r : CpuRunQueue) (s : List ThreadRecord) : Type 0 where
-  pub sound : Sound cpu (e .after queued) r s
+pub record Kept {queued : ℕ → Bool} {q : CpuRunQueue} {t : List ThreadRecord}
+    (S : Sound queued q t) (e : Effect) (r : CpuRunQueue) (s : List ThreadRecord) : Type 0 where
+  pub sound : Sound (e .after queued) r s
   pub places : (j : ℕ) → sound .place j ≡ placed (e .thread) (e .tree) (S .place) j
   pub members : (n : ℕ) → sound .lists .members n
       ≡ relisted (listFor (recordOf t (e .thread) .parameters .policy)) (e .list) (S .lists .members) n
@@ -108,16 +118,16 @@ pub record Kept {cpu : CpuIndex} {queued : ℕ → Bool} {q : CpuRunQueue} {t : 
   pub others : (j : ℕ) → queued j ≡ false → j ≢ e .thread → recordAt s j ≡ recordAt t j
 
 -- The call was accepted, and that is what it left.
-pub record Accepted {cpu : CpuIndex} {queued : ℕ → Bool} {q : CpuRunQueue} {t : List ThreadRecord}
-    (S : Sound cpu queued q t) (e : Effect) (o : Out (Step (Unit {0}))) : Type 0 where
+pub record Accepted {queued : ℕ → Bool} {q : CpuRunQueue} {t : List ThreadRecord}
+    (S : Sound queued q t) (e : Effect) (o : Out (Step (Unit {0}))) : Type 0 where
   pub queue : CpuRunQueue
   pub table : List ThreadRecord
   pub is : o ≡ out (step (value tt) queue) table
   pub kept : Kept S e queue table
 
 -- Refused with queue and table as they were, or accepted: what every call on a sound queue comes to.
-pub data Fine {cpu : CpuIndex} {queued : ℕ → Bool} {q : CpuRunQueue} {t : List ThreadRecord}
-    (S : Sound cpu queued q t) (e : Effect) (o : Out (Step (Unit {0}))) : Type 0 where
+pub data Fine {queued : ℕ → Bool} {q : CpuRunQueue} {t : List ThreadRecord}
+    (S : Sound queued q t) (e : Effect) (o : Out (Step (Unit {0}))) : Type 0 where
   unchanged : (n : ℕ) → o ≡ out (step (refused n) q) t → Fine S e o
   made : Accepted S e o → Fine S e o
 
@@ -128,11 +138,15 @@ PriorityFits policy.Fair = Unit {0}
 PriorityFits policy.Budget = Unit {0}
 PriorityFits policy.Idle = Unit {0}
 
--- A thread whose enqueue no rule of document 01 refuses.
-pub record MayEnqueue (cpu : CpuIndex) (t : List ThreadRecord) (i : ℕ) : Type 0 where
+-- A thread whose enqueue on a processor no rule of document 01 refuses: its list, too, has threads of that processor
+-- alone.
+pub record MayEnqueue (cpu : CpuIndex) (queued : ℕ → Bool) (t : List ThreadRecord) (i : ℕ) : Type 0 where
   pub below : i < length t
   pub judged : isBadRecord (recordOf t i) ≡ false
   pub notIdle : recordOf t i .parameters .policy ≢ policy.Idle
   pub unqueued : recordOf t i .«queue_links» .membership ≡ membership.None
   pub assigned : recordOf t i .cpu .0 ≡ cpu .0
   pub fits : PriorityFits (recordOf t i .parameters .policy)
+  pub ours : (j : ℕ) → queued j ≡ true
+      → listFor (recordOf t j .parameters .policy) ≡ listFor (recordOf t i .parameters .policy)
+      → recordOf t j .cpu .0 ≡ cpu .0

@@ -4,6 +4,7 @@ use mathlib.Core.Bool.{Bool, true, false}
 use mathlib.Core.Logic.{_≢_}
 use mathlib.Core.List.{List}
 use Prim.Native.Nat.{ℕ, suc, _≤_, _<_}
+use native.Mathlib.Omega.{arith}
 use lib.ListN.{length}
 use lib.Dec.{ltb}
 use borrow.Author.Tests.{ltb-true, ltb-false, eq-eqb, ne-eqb}
@@ -17,6 +18,7 @@ use Rattle.thread.specs.Filing.{indexFor, onIndex}
 use Rattle.rows.specs.declared.QueueLinksRead.the-variants as queueLinks
 use Rattle.rows.specs.Table.{recordOf}
 use Rattle.rows.specs.TableLaws.{queue-links-within}
+use Rattle.lists.specs.Checks.{maxLength}
 use Rattle.sound_lists.specs.Frame.{member-of}
 use Rattle.queue.specs.RunQueue.{CpuRunQueue, treeCount}
 use Rattle.queue.specs.Queue.{isFifo, isBudget}
@@ -24,7 +26,7 @@ use Rattle.sound_queue.specs.Forest.{Forest, placed}
 use Rattle.sound_queue.specs.PlaceLaws.{placed-same, placed-other, same-or-not}
 use Rattle.sound_queue.specs.ForestLaws.{placed-inside}
 use Rattle.sound_queue.specs.Count.{count}
-use Rattle.sound_queue.specs.CountLaws.{count-same, count-one}
+use Rattle.sound_queue.specs.CountLaws.{count-same, count-one, count-most}
 use Rattle.sound_queue.specs.Lists.{listAt, membershipAt, listFor, rowOf, Lists, listCount}
 use Rattle.sound_queue.specs.ListsLaws.{lists-same}
 use Rattle.sound_queue.specs.Sound.{Queued, queuedOf, Sound, including, excluding, withoutLinks, treeFor}
@@ -121,20 +123,21 @@ module _ (t s : List ThreadRecord) (e : withoutLinks s ≡ withoutLinks t) (queu
       (λ j l. rw (same-parameters t s e j)))
 
   -- So soundness may be shown by the earlier table, but for trees and lists.
-  unfoldable pub sound-by : (cpu : CpuIndex) (q : CpuRunQueue) (place : ℕ → ℕ) → Forest (q .indices) s place
+  unfoldable pub sound-by : (cpus : ℕ → CpuIndex) (q : CpuRunQueue) (place : ℕ → ℕ) → Forest (q .indices) s place
       → ((j : ℕ) → ltb (place j) treeCount ≡ queued j)
-      → ((j : ℕ) → queued j ≡ true → Queued cpu (recordOf t j) (place j)) → length (q .realtime) ≡ 256
-      → Lists (listAt q) cpu s (rowOf queued t)
+      → ((j : ℕ) → queued j ≡ true → Queued cpus (recordOf t j) (place j)) → length (q .realtime) ≡ 256
+      → Lists (listAt q) cpus s (rowOf queued t)
       → q .«realtime_len» ≡ count (length t) (queuedOf isFifo queued t)
       → q .«budget_threads» ≡ count (length t) (queuedOf isBudget queued t) → q .halted ≡ false
-      → Sound cpu queued q s
-  sound-by cpu q place F stands threads priorities L total budgets running = record {
+      → Sound queued q s
+  sound-by cpus q place F stands threads priorities L total budgets running = record {
+    cpus = cpus;
     place = place;
     forest = F;
     stands = stands;
     threads =
-        λ j h. queued-still cpu (recordOf t j) (recordOf s j) (place j) (same-parameters t s e j) (same-runtime t s e j)
-        (same-cpu t s e j) (threads j h);
+        λ j h. queued-still cpus (recordOf t j) (recordOf s j) (place j) (same-parameters t s e j)
+        (same-runtime t s e j) (same-cpu t s e j) (threads j h);
     priorities = priorities;
     lists = lists-same (rowOf queued s) (λ j. sym (row-still j)) L;
     total = total ∙ sym (count-still isFifo);
@@ -142,8 +145,12 @@ module _ (t s : List ThreadRecord) (e : withoutLinks s ≡ withoutLinks t) (queu
     running = running;
   }
 
-module _ {cpu : CpuIndex} {queued : ℕ → Bool} {q : CpuRunQueue} {t : List ThreadRecord} (S : Sound cpu queued q t)
-    (j : ℕ) where
+module _ {queued : ℕ → Bool} {q : CpuRunQueue} {t : List ThreadRecord} (S : Sound queued q t) where
+  -- A count of threads is far below the greatest length.
+  pub few : (f : ℕ → Bool) (n : ℕ) → n ≡ count (length t) f → n < maxLength
+  few f n e = let a = count-most (length t) f in let b = S .forest .small in omega arith
+
+module _ {queued : ℕ → Bool} {q : CpuRunQueue} {t : List ThreadRecord} (S : Sound queued q t) (j : ℕ) where
   -- Where a thread stands.
   pub queued-placed : queued j ≡ true → S .place j < treeCount
   queued-placed e = ltb-true (S .place j) treeCount (S .stands j ∙ e)
@@ -157,15 +164,24 @@ module _ {cpu : CpuIndex} {queued : ℕ → Bool} {q : CpuRunQueue} {t : List Th
 
   -- and its membership is that of its list.
   pub queued-membership : queued j ≡ true
-      → recordOf t j .«queue_links» .membership ≡ membershipAt cpu (listFor (recordOf t j .parameters .policy))
+      → recordOf t j .«queue_links» .membership
+      ≡ membershipAt (S .cpus (listFor (recordOf t j .parameters .policy))) (listFor (recordOf t j .parameters .policy))
   queued-membership e =
       let n = listFor (recordOf t j .parameters .policy) in
       let r = row-queued queued t j e in
       let b = S .threads j e .listed in
       let m = member-of (S .lists .holds n b) j (S .lists .exact j n b ∙ eq-eqb (rowOf queued t j) n r) in
       let z : queueLinks.Got (recordOf t j .«queue_links»)
-      ≡ queueLinks.Got (record { previous = m .0; next = m .1; membership = membershipAt cpu n }) =
+      ≡ queueLinks.Got (record { previous = m .0; next = m .1; membership = membershipAt (S .cpus n) n }) =
       sym (queue-links-within t j (queued-inside e)) ∙ m .2 in
       let y : recordOf t j .«queue_links»
-      ≡ record { previous = m .0; next = m .1; membership = membershipAt cpu n } = cc in
+      ≡ record { previous = m .0; next = m .1; membership = membershipAt (S .cpus n) n } = cc in
       ap (λ (l : QueueLinks). l .membership) y
+
+  -- Whoever stands in a list is queued.
+  pub queued-if-listed : rowOf queued t j < listCount → queued j ≡ true
+  queued-if-listed b = go (queued j) refl
+    where
+      go : (x : Bool) → queued j ≡ x → queued j ≡ true
+      go true e = e
+      go false e = let a = row-not-queued queued t j e in absurd (omega arith)

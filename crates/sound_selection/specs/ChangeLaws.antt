@@ -35,7 +35,7 @@ use Rattle.sound_queue.specs.LinksLaws.{alike-record}
 use Rattle.sound_queue.specs.Sound.{Filed, by-filing, in-partner}
 use Rattle.sound_queue.specs.Runtimes.{filed-in}
 use Rattle.sound_selection.specs.Claim.{refreshedTo}
-use Rattle.sound_selection.specs.RefreshLaws.{refreshed-again, refreshed-parameters, refreshed-key}
+use Rattle.sound_selection.specs.RefreshLaws.{refreshed-again, refreshed-parameters, refreshed-cpu, refreshed-key}
 use Rattle.sound_selection.specs.Changes.{bareAt, Fresher, kept, fresh, Shift, stays, shifts, Head, nobody-there}
 use Rattle.sound_selection.specs.Changes.{first-of, Standing, in-fifo, in-fair, in-budget}
 use Rattle.queue.specs.RunQueue.{treeCount}
@@ -80,6 +80,10 @@ bare-key t j = refl
 pub fresher-parameters : {now : ℕ} {a b : ThreadRecord} → Fresher now a b → b .parameters ≡ a .parameters
 fresher-parameters (kept e) = ap (λ (r : ThreadRecord). r .parameters) e
 fresher-parameters {now} {a} (fresh e) = ap (λ (r : ThreadRecord). r .parameters) e ∙ refreshed-parameters now a
+
+pub fresher-cpu : {now : ℕ} {a b : ThreadRecord} → Fresher now a b → b .cpu ≡ a .cpu
+fresher-cpu (kept e) = ap (λ (r : ThreadRecord). r .cpu) e
+fresher-cpu {now} {a} (fresh e) = ap (λ (r : ThreadRecord). r .cpu) e ∙ refreshed-cpu now a
 
 -- A record that is not bad keeps its key.
 pub fresher-key : {now : ℕ} {a b : ThreadRecord} (j : ℕ) → isBadRecord a ≡ false → Fresher now a b

@@ -8,7 +8,6 @@ use lib.ListN.{length}
 use Rattle.refusal.specs.Answer.{value, refused}
 use Rattle.policy.specs.declared.SchedulingPolicy.the-variants as policy
 use Rattle.policy.specs.declared.ThreadPriority.{ThreadPriority}
-use Rattle.thread.specs.declared.CpuIndex.{CpuIndex}
 use Rattle.thread.specs.declared.Link.{Link}
 use Rattle.thread.specs.declared.Link.the-variants as link
 use Rattle.thread.specs.declared.ThreadRecord.{ThreadRecord}
@@ -63,9 +62,9 @@ pub record Beside (q r : CpuRunQueue) : Type 0 where
 
 -- From a sound queue to a sound queue with the same threads queued: threads stay or shift, and a record that is not
 -- queued does not change at all.
-pub record Renewed {cpu : CpuIndex} {queued : ℕ → Bool} {q : CpuRunQueue} {t : List ThreadRecord}
-    (S : Sound cpu queued q t) (now : ℕ) (r : CpuRunQueue) (s : List ThreadRecord) : Type 0 where
-  pub sound : Sound cpu queued r s
+pub record Renewed {queued : ℕ → Bool} {q : CpuRunQueue} {t : List ThreadRecord}
+    (S : Sound queued q t) (now : ℕ) (r : CpuRunQueue) (s : List ThreadRecord) : Type 0 where
+  pub sound : Sound queued r s
   pub beside : Beside q r
   pub len : length s ≡ length t
   pub shift : (j : ℕ) → Shift now (S .place j) (bareAt t j) (sound .place j) (bareAt s j)
@@ -73,9 +72,9 @@ pub record Renewed {cpu : CpuIndex} {queued : ℕ → Bool} {q : CpuRunQueue} {t
 
 -- From a sound queue to a sound queue with the same roots and every thread where it stood: records are kept or
 -- refreshed, and a record that is not queued does not change at all.
-pub record Passed {cpu : CpuIndex} {queued : ℕ → Bool} {q : CpuRunQueue} {t : List ThreadRecord}
-    (S : Sound cpu queued q t) (now : ℕ) (s : List ThreadRecord) : Type 0 where
-  pub sound : Sound cpu queued q s
+pub record Passed {queued : ℕ → Bool} {q : CpuRunQueue} {t : List ThreadRecord}
+    (S : Sound queued q t) (now : ℕ) (s : List ThreadRecord) : Type 0 where
+  pub sound : Sound queued q s
   pub places : (j : ℕ) → sound .place j ≡ S .place j
   pub len : length s ≡ length t
   pub fresher : (j : ℕ) → Fresher now (bareAt t j) (bareAt s j)
@@ -84,16 +83,17 @@ pub record Passed {cpu : CpuIndex} {queued : ℕ → Bool} {q : CpuRunQueue} {t 
 
 -- What a selection leaves of a sound queue: it is sound with the same threads queued, every record is kept or refreshed
 -- but for its tree links, and a record that is not queued does not change at all.
-pub record Left (cpu : CpuIndex) (queued : ℕ → Bool) (t : List ThreadRecord) (now : ℕ) (r : CpuRunQueue)
+pub record Left (queued : ℕ → Bool) (t : List ThreadRecord) (now : ℕ) (r : CpuRunQueue)
     (s : List ThreadRecord) : Type 0 where
-  pub sound : Sound cpu queued r s
+  pub sound : Sound queued r s
   pub len : length s ≡ length t
   pub fresher : (j : ℕ) → Fresher now (bareAt t j) (bareAt s j)
   pub others : (j : ℕ) → queued j ≡ false → recordAt s j ≡ recordAt t j
 
--- Refused with queue, window and table as they were, or answered: what every selection on a sound queue comes to.
-pub data FineSelection (cpu : CpuIndex) (queued : ℕ → Bool) (q : CpuRunQueue) (t : List ThreadRecord) (now : ℕ)
+-- Refused with queue, window and table as they were, or answered: what every selection comes to on a sound queue whose
+-- threads are all of the processor that it names.
+pub data FineSelection (queued : ℕ → Bool) (q : CpuRunQueue) (t : List ThreadRecord) (now : ℕ)
     (w : CpuWindow) (o : Out (Peeked CpuRunQueue)) : Type 0 where
-  unchanged : (n : ℕ) → o ≡ out (peeked (refused n) w q) t → FineSelection cpu queued q t now w o
+  unchanged : (n : ℕ) → o ≡ out (peeked (refused n) w q) t → FineSelection queued q t now w o
   answered : (a : Selection) (v : CpuWindow) (r : CpuRunQueue) (s : List ThreadRecord)
-      → o ≡ out (peeked (value a) v r) s → Left cpu queued t now r s → FineSelection cpu queued q t now w o
+      → o ≡ out (peeked (value a) v r) s → Left queued t now r s → FineSelection queued q t now w o

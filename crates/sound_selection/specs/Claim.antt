@@ -37,8 +37,7 @@ use Rattle.selection.specs.declared.Selection.{Selection}
 use Rattle.demands.specs.Demands.{candidateOf, gathered, ofCurrent}
 use Rattle.renewal.specs.Renewal.{isEpoch}
 use Rattle.selection.specs.Peek.{Peeked, peeked, peekNext}
-use Rattle.sound_queue.specs.Sound.{including, excluding, PriorityFits}
-use Rattle.sound_queue.specs.Reached.{nobody}
+use Rattle.sound_queue.specs.Sound.{nobody, including, excluding, PriorityFits}
 
 -- "Refreshed to now": a record put through `refresh` at that reading if it has a budget.
 unfoldable pub refreshedTo : ℕ → ThreadRecord → ThreadRecord

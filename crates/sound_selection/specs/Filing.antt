@@ -15,7 +15,6 @@ use Rattle.policy.specs.PolicyCases.{onPolicy, onBackend}
 use Rattle.window_config.specs.declared.ArbitrationConfig.{ArbitrationConfig}
 use Rattle.arbitration.specs.declared.CpuWindow.{CpuWindow}
 use Rattle.window_config.specs.Config.{acceptsBudget, sameBackend, admitted}
-use Rattle.thread.specs.declared.CpuIndex.{CpuIndex}
 use Rattle.thread.specs.declared.ThreadRecord.{ThreadRecord}
 use Rattle.thread.specs.Filing.{budgetAvailable, roleIndex, budgetExhausted, budgetReady, fairIndex}
 use Rattle.thread.specs.FilingLaws.{role-index-le}
@@ -66,7 +65,7 @@ pub admitted-backend : (c : ArbitrationConfig) (p : SchedulingParameters) (f : F
 admitted-backend c p f h e =
     same-backend (p .«fair_backend») f (sym (fair-admitted c p f (admitted-accepts c p f h) e) ∙ h)
 
-module _ {cpu : CpuIndex} {queued : ℕ → Bool} {q : CpuRunQueue} {t : List ThreadRecord} (S : Sound cpu queued q t)
+module _ {queued : ℕ → Bool} {q : CpuRunQueue} {t : List ThreadRecord} (S : Sound queued q t)
     (now : ℕ) (w : CpuWindow) (current : CandidateOption)
     (T : Turn S now w current) where
   -- Parameters are as they were handed in.

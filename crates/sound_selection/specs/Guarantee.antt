@@ -43,7 +43,7 @@ use Rattle.selection.specs.declared.ReadyThread.{ReadyThread}
 use Rattle.demands.specs.Demands.{candidateOf}
 use Rattle.selection.specs.Peek.{peekNext}
 use Rattle.sound_queue.specs.PlaceLaws.{same-or-not}
-use Rattle.sound_queue.specs.Sound.{Sound}
+use Rattle.sound_queue.specs.Sound.{Sound, OneProcessor}
 use Rattle.sound_queue.specs.SoundLaws.{queued-placed, queued-inside}
 use Rattle.sound_selection.specs.Claim.{refreshedTo, candidateNow, gatheredNow, keyNow, Premises, Names, Answered}
 use Rattle.sound_selection.specs.RefreshLaws.{refreshed-parameters, refreshed-key}
@@ -67,9 +67,9 @@ candidate-links : (t : List ThreadRecord) (j : ℕ) → candidateOf (recordOf t 
 unfolding candidateOf bareAt given
 candidate-links t j = refl
 
-module _ {cpu : CpuIndex} {queued : ℕ → Bool} {q : CpuRunQueue} {t : List ThreadRecord} (S : Sound cpu queued q t)
+module _ {queued : ℕ → Bool} {q : CpuRunQueue} {t : List ThreadRecord} (S : Sound queued q t)
     (now : ℕ) (w : CpuWindow) (current : CandidateOption)
-    (T : Turn S now w current) (G : Pass S now w current T) (P : Premises queued q t now w) where
+    (T : Turn S now w current) (cpu : CpuIndex) (G : Pass S now w current T cpu) (P : Premises queued q t now w) where
   abbrev record-now : ℕ → ThreadRecord
   record-now j = refreshedTo now (recordOf t j)
 
@@ -213,11 +213,11 @@ module _ {cpu : CpuIndex} {queued : ℕ → Bool} {q : CpuRunQueue} {t : List Th
       (fresher-parameters (G .passed .fresher i) ∙ parameters-after S now w current T i)
 
   chosen-least : Least (G .table) (G .links) now demand window-now Good treeCount w ready.None
-      (choice S now w current T G)
+      (choice S now w current T cpu G)
   chosen-least = least (G .table) (G .links) now demand window-now Good treeCount (omega arith) w ready.None refl
       (λ k i l m e. omega (arith, inside i (head-queued k i l e .0), G .passed .len, T .len))
 
-  good : Every Good (choice S now w current T G .ready)
+  good : Every Good (choice S now w current T cpu G .ready)
   good = chosen-least .every tt (λ i k h. (
     head-queued (h .tree) i (h .low) (h .is) .0,
     policy-after i,
@@ -244,18 +244,18 @@ module _ {cpu : CpuIndex} {queued : ℕ → Bool} {q : CpuRunQueue} {t : List Th
 
   -- Every queued thread that has a key is at least the one that is named.
   under : (j : ℕ) (k : DispatchKey) (m : DispatchMode) → queued j ≡ true → keyNow t w now demand j ≡ key.Some k m
-      → Under (choice S now w current T G .ready) (pairParts k j)
+      → Under (choice S now w current T cpu G .ready) (pairParts k j)
   unfolding keyNow candidateNow
   under j k m e h =
       let O = over j e in
       same-or-not j (O .id)
-      (λ z. subst (λ n. Under (choice S now w current T G .ready) (pairParts k n)) (sym z)
+      (λ z. subst (λ n. Under (choice S now w current T cpu G .ready) (pairParts k n)) (sym z)
       (chosen-least .all (O .id) k (over-key j O k m e (subst (λ n. keyNow t w now demand n ≡ key.Some k m) z h))))
       (λ z.
       let B = alike-before window-now now demand (O .id) j (record-now (O .id)) (record-now j) k m (alike j e O)
       (accepted (O .id) (O .is-queued)) (accepted j e)
       (precedes-now (O .id) j (O .is-queued) e (O .precedes z)) h in
-      under-trans (choice S now w current T G .ready) (pairParts (B .first) (O .id)) (pairParts k j) (B .at-most)
+      under-trans (choice S now w current T cpu G .ready) (pairParts (B .first) (O .id)) (pairParts k j) (B .at-most)
       (chosen-least .all (O .id) (B .first) (over-key j O (B .first) (B .mode) e (B .has-key))))
 
   names-by : (r : ReadyOption) → Every Good r
@@ -284,31 +284,31 @@ module _ {cpu : CpuIndex} {queued : ℕ → Bool} {q : CpuRunQueue} {t : List Th
 
   guaranteed : Answered queued t now w current (peekNext t q cpu now w current)
   guaranteed = record {
-    selection = answer S now w current T G;
-    window = choice S now w current T G .window;
+    selection = answer S now w current T cpu G;
+    window = choice S now w current T cpu G .window;
     queue = after-turn S now w current T;
     table = G .table;
-    is = select-is S now w current T G (P .window);
+    is = select-is S now w current T cpu G (P .window);
     demand = ap (λ (g : Gathered). g .demand) found-is;
     lowest = ap (λ (g : Gathered). g .«fair_min_pass») found-is;
-    names = subst (λ (g : Gathered). Names queued t w now (g .demand) (choice S now w current T G .ready)) found-is
-        (names-by (choice S now w current T G .ready) good under);
+    names = subst (λ (g : Gathered). Names queued t w now (g .demand) (choice S now w current T cpu G .ready)) found-is
+        (names-by (choice S now w current T cpu G .ready) good under);
     window-fresh =
         λ j e. let O = over j e in chosen-least .fresh (T .sound .place j) (O .id) (queued-placed (T .sound) j e)
         (omega arith) (O .is);
     window-kept = λ n. chosen-least .stale (λ k l m. no-heads n k l);
   }
 
--- ONE SELECTION. From any sound queue, under the premises, a selection is answered: it names, of all queued threads,
--- the one with the least dispatch key, the lower number on equal keys, and none exactly when none has a key; keys and
--- demand are those of every queued thread refreshed to now, with the current thread's part in the demand. The queue is
--- sound after it.
+-- ONE SELECTION. From any sound queue whose threads are all of the processor that it names, under the premises, a
+-- selection is answered: it names, of all queued threads, the one with the least dispatch key, the lower number on
+-- equal keys, and none exactly when none has a key; keys and demand are those of every queued thread refreshed to now,
+-- with the current thread's part in the demand. The queue is sound after it.
 pub one-selection : {cpu : CpuIndex} {queued : ℕ → Bool} {q : CpuRunQueue} {t : List ThreadRecord}
-    → Sound cpu queued q t → (now : ℕ) (w : CpuWindow) (current : CandidateOption)
+    → Sound queued q t → OneProcessor cpu queued t → (now : ℕ) (w : CpuWindow) (current : CandidateOption)
     → Premises queued q t now w → (A : Answered queued t now w current (peekNext t q cpu now w current))
-    × Left cpu queued t now (A .queue) (A .table)
+    × Left queued t now (A .queue) (A .table)
 unfolding guaranteed
-one-selection S now w current P =
+one-selection {cpu} S one now w current P =
     let T = turn S now w current in
-    let G = pass S now w current T in
-    (guaranteed S now w current T G P, select-left S now w current T G)
+    let G = pass S now w current T cpu one in
+    (guaranteed S now w current T cpu G P, select-left S now w current T cpu G)

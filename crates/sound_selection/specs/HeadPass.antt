@@ -1,15 +1,16 @@
--- The pass over the heads of a sound queue: it is never refused; it finds the head of every tree, refreshes it, and
--- gathers what the heads ask for and no more.
+-- The pass over the heads of a sound queue: it finds the head of every tree, refreshes it, and gathers what the heads
+-- ask for and no more; or it is refused at a head of another processor.
 use Prim.Native.Nat.{ℕ, zero, suc, _+_, _-_, _≤_, _<_}
 use mathlib.Core.Path.{_≡_, refl, sym, ap, _∙_, subst}
-use mathlib.Core.Bool.{Bool}
+use mathlib.Core.Bool.{Bool, true, false}
 use mathlib.Core.Logic.{_≢_}
 use mathlib.Core.List.{List}
 use native.Mathlib.Omega.{arith}
 use lib.ListN.{length, getD, set, length-set}
 use lib.Seq.{getD-set-same, getD-set-other}
-use borrow.Author.Tests.{lt-ltb}
-use Rattle.refusal.specs.Answer.{Answer, value, refused}
+use lib.Dec.{eqb}
+use borrow.Author.Tests.{lt-ltb, eqb-true, eqb-false}
+use Rattle.refusal.specs.Answer.{Answer, value, refused, damaged}
 use Rattle.refusal.specs.Cases.{given}
 use Rattle.thread.specs.declared.CpuIndex.{CpuIndex}
 use Rattle.thread.specs.declared.Link.{Link}
@@ -28,14 +29,14 @@ use Rattle.sound_queue.specs.Sound.{Sound}
 use Rattle.sound_selection.specs.Claim.{refreshedTo, candidateNow}
 use Rattle.sound_selection.specs.RefreshLaws.{refreshed-links}
 use Rattle.sound_selection.specs.Changes.{bareAt, Fresher, kept, fresh, Head, nobody-there, first-of, Passed}
-use Rattle.sound_selection.specs.ChangeLaws.{fresher-now, fresher-trans, head-is}
+use Rattle.sound_selection.specs.ChangeLaws.{fresher-now, fresher-trans, fresher-cpu, head-is}
 use Rattle.sound_selection.specs.Within.{Within, alone}
 use Rattle.sound_selection.specs.WithinLaws.{within-refl, within-trans, gathered-old, gathered-new, gathered-most}
-use Rattle.sound_selection.specs.OneHead.{Headed, headed}
+use Rattle.sound_selection.specs.OneHead.{Headed, headed, not-headed}
 
 -- Nothing done, and one after the other.
-nothing-passed : {cpu : CpuIndex} {queued : ℕ → Bool} {q : CpuRunQueue} {t : List ThreadRecord}
-    (S : Sound cpu queued q t) (now : ℕ) → Passed S now t
+nothing-passed : {queued : ℕ → Bool} {q : CpuRunQueue} {t : List ThreadRecord}
+    (S : Sound queued q t) (now : ℕ) → Passed S now t
 nothing-passed S now =
     record {
       sound = S;
@@ -46,8 +47,8 @@ nothing-passed S now =
       others = λ j e. refl;
     }
 
-both-passed : {cpu : CpuIndex} {queued : ℕ → Bool} {q : CpuRunQueue} {t s u : List ThreadRecord} {now : ℕ}
-    (S : Sound cpu queued q t)
+both-passed : {queued : ℕ → Bool} {q : CpuRunQueue} {t s u : List ThreadRecord} {now : ℕ}
+    (S : Sound queued q t)
     (A : Passed S now s) → Passed (A .sound) now u → Passed S now u
 both-passed S A B = record {
   sound = B .sound;
@@ -77,8 +78,8 @@ pub data Found (t s : List ThreadRecord) (place : ℕ → ℕ) (now : ℕ) (foun
       → Within (alone (candidateNow t now i)) found → Found t s place now found k (link.Some i)
 
 -- The pass over the last so many trees is done: of those each head is found, the others' places are as they were.
-pub record Gathers {cpu : CpuIndex} {queued : ℕ → Bool} {q : CpuRunQueue} {t : List ThreadRecord}
-    (S : Sound cpu queued q t) (now left : ℕ) (heads : List Link) (g : Gathered)
+pub record Gathers {queued : ℕ → Bool} {q : CpuRunQueue} {t : List ThreadRecord}
+    (S : Sound queued q t) (now left : ℕ) (heads : List Link) (g : Gathered)
     (o : Out (Answer Heads)) : Type 0 where
   pub table : List ThreadRecord
   pub links : List Link
@@ -92,6 +93,13 @@ pub record Gathers {cpu : CpuIndex} {queued : ℕ → Bool} {q : CpuRunQueue} {t
   pub most : (z : Gathered) → Within g z
       → ((k i : ℕ) → k < treeCount → treeCount ≤ k + left → getD links k link.None ≡ link.Some i
       → Within (alone (candidateNow t now i)) z) → Within found z
+
+-- The pass is through, or it was refused at a queued thread that is not of this processor.
+pub data Gathering {queued : ℕ → Bool} {q : CpuRunQueue} {t : List ThreadRecord} (S : Sound queued q t)
+    (cpu : CpuIndex) (now left : ℕ) (heads : List Link) (g : Gathered) (o : Out (Answer Heads)) : Type 0 where
+  through : Gathers S now left heads g o → Gathering S cpu now left heads g o
+  stopped : (i : ℕ) → queued i ≡ true → recordOf t i .cpu .0 ≢ cpu .0 → (n : ℕ) (s : List ThreadRecord)
+      → o ≡ out (refused n) s → Gathering S cpu now left heads g o
 
 -- The trees not yet looked at have no head noted.
 abbrev pub Blank : ℕ → List Link → Type 0
@@ -116,12 +124,12 @@ fresher-end c z y (fresh e) = e ∙ y
 module _ (cpu : CpuIndex) (queued : ℕ → Bool) (now : ℕ) (q : CpuRunQueue) where
   abbrev pub GathersAll : ℕ → Type 0
   GathersAll left =
-      (t : List ThreadRecord) (S : Sound cpu queued q t) (heads : List Link) (g : Gathered) → Blank left heads
-      → Gathers S now left heads g (gatherHeads left t (q .indices) cpu now heads g)
+      (t : List ThreadRecord) (S : Sound queued q t) (heads : List Link) (g : Gathered) → Blank left heads
+      → Gathering S cpu now left heads g (gatherHeads left t (q .indices) cpu now heads g)
 
   gathers-zero : GathersAll zero
   unfolding gatherHeads
-  gathers-zero t S heads g b = record {
+  gathers-zero t S heads g b = through (record {
     table = t;
     links = heads;
     found = g;
@@ -131,9 +139,9 @@ module _ (cpu : CpuIndex) (queued : ℕ → Bool) (now : ℕ) (q : CpuRunQueue) 
     each = λ k l m. absurd (omega arith);
     old = within-refl g;
     most = λ z p f. p;
-  }
+  })
 
-  module _ (left : ℕ) (low : left < treeCount) (t : List ThreadRecord) (S : Sound cpu queued q t) (heads : List Link)
+  module _ (left : ℕ) (low : left < treeCount) (t : List ThreadRecord) (S : Sound queued q t) (heads : List Link)
       (g : Gathered) (b : Blank (suc left) heads) where
     -- An empty tree is passed over.
     gathers-none : ((j : ℕ) → S .place j ≢ lastTree - left) → (o : Out (Answer Heads)) → Gathers S now left heads g o
@@ -156,7 +164,7 @@ module _ (cpu : CpuIndex) (queued : ℕ → Bool) (now : ℕ) (q : CpuRunQueue) 
     -- A head, and then the rest.
     module _ (i : ℕ) (e : S .place i ≡ lastTree - left)
         (h : (j : ℕ) → S .place j ≡ lastTree - left → j ≢ i → Precedes t i j)
-        (H : Headed S now i) where
+        (H : Headed S cpu now i) where
       abbrev noted : List Link
       noted = set heads (lastTree - left) (link.Some i)
 
@@ -212,27 +220,54 @@ module _ (cpu : CpuIndex) (queued : ℕ → Bool) (now : ℕ) (q : CpuRunQueue) 
               (λ k n l m x. subst (λ c. Within (alone c) z) (sym (candidate-kept n)) (f k n l (omega arith) x));
         }
 
-        gathers-then : headAt t i cpu now ≡ out (value (candidateNow t now i)) (H .table)
-            → gatherHeads left (H .table) (q .indices) cpu now noted more ≡ o
-            → Gathers S now (suc left) heads g (onOut (headAt t i cpu now)
-            (λ a t₁. onAnswer a (λ n. out (refused n) t₁)
-            (λ c. gatherHeads left t₁ (q .indices) cpu now noted (gathered g c))))
-        unfolding onOut onAnswer
-        gathers-then x y = rw (x, y) gathers-one
+      -- A thread of another processor is so before the head was refreshed.
+      gathers-more : (o : Out (Answer Heads)) → Gathering (H .passed .sound) cpu now left noted more o
+          → Gathering S cpu now (suc left) heads g o
+      unfolding bareAt
+      gathers-more o (through G) = through (gathers-one o G)
+      gathers-more o (stopped j f d n s x) =
+          stopped j f (λ z. d (ap (λ (c : CpuIndex). c .0) (fresher-cpu (H .passed .fresher j)) ∙ z)) n s x
+
+      gathers-then : Gathering S cpu now (suc left) heads g
+          (gatherHeads left (H .table) (q .indices) cpu now noted more)
+          → Gathering S cpu now (suc left) heads g (onOut (headAt t i cpu now)
+          (λ a t₁. onAnswer a (λ n. out (refused n) t₁)
+          (λ c. gatherHeads left t₁ (q .indices) cpu now noted (gathered g c))))
+      unfolding onOut onAnswer
+      gathers-then G = rw (H .is) G
+
+    -- By whose the head is.
+    gathers-head : GathersAll left → (i : ℕ) (e : S .place i ≡ lastTree - left)
+        (h : (j : ℕ) → S .place j ≡ lastTree - left → j ≢ i → Precedes t i j)
+        → queued i ≡ true → (x : Bool) → eqb (recordOf t i .cpu .0) (cpu .0) ≡ x
+        → Gathering S cpu now (suc left) heads g (onOut (headAt t i cpu now)
+        (λ a t₁. onAnswer a (λ n. out (refused n) t₁)
+        (λ c. gatherHeads left t₁ (q .indices) cpu now (set heads (lastTree - left) (link.Some i)) (gathered g c))))
+    unfolding onOut onAnswer
+    gathers-head ih i e h f true c =
+        let H = headed S cpu now i f (eqb-true (recordOf t i .cpu .0) (cpu .0) c) in
+        gathers-then i e h H (gathers-more i e h H
+        (gatherHeads left (H .table) (q .indices) cpu now (noted i e h H) (more i e h H))
+        (ih (H .table) (H .passed .sound) (noted i e h H) (more i e h H) (still-blank i e h H)))
+    gathers-head ih i e h f false c =
+        let d = eqb-false (recordOf t i .cpu .0) (cpu .0) c in
+        stopped i f d damaged t (rw (not-headed S cpu now i f d))
 
     gathers-by : GathersAll left → (x : Link) → Head t (S .place) (lastTree - left) x
-        → Gathers S now (suc left) heads g (onLink x (gatherHeads left t (q .indices) cpu now heads g)
+        → Gathering S cpu now (suc left) heads g (onLink x (gatherHeads left t (q .indices) cpu now heads g)
         (λ id. onOut (headAt t id cpu now)
         (λ a t₁. onAnswer a (λ n. out (refused n) t₁)
         (λ c. gatherHeads left t₁ (q .indices) cpu now (set heads (lastTree - left) (link.Some id)) (gathered g c)))))
     unfolding onLink
-    gathers-by ih link.None (nobody-there n) =
-        gathers-none n (gatherHeads left t (q .indices) cpu now heads g)
-        (ih t S heads g (b .0, λ k m. b .1 k (omega arith)))
+    gathers-by ih link.None (nobody-there n) = go (ih t S heads g (b .0, λ k m. b .1 k (omega arith)))
+      where
+        go : Gathering S cpu now left heads g (gatherHeads left t (q .indices) cpu now heads g)
+            → Gathering S cpu now (suc left) heads g (gatherHeads left t (q .indices) cpu now heads g)
+        go (through G) = through (gathers-none n (gatherHeads left t (q .indices) cpu now heads g) G)
+        go (stopped i f d m s x) = stopped i f d m s x
     gathers-by ih (link.Some x) (first-of i e h) =
-        let H = headed S now i (sym (S .stands i) ∙ lt-ltb (S .place i) treeCount (omega arith)) in
-        gathers-then i e h H (gatherHeads left (H .table) (q .indices) cpu now (noted i e h H) (more i e h H))
-        (ih (H .table) (H .passed .sound) (noted i e h H) (more i e h H) (still-blank i e h H)) (H .is) refl
+        gathers-head ih i e h (sym (S .stands i) ∙ lt-ltb (S .place i) treeCount (omega arith))
+        (eqb (recordOf t i .cpu .0) (cpu .0)) refl
 
   gathers-suc : (left : ℕ) → left < treeCount → GathersAll left → GathersAll (suc left)
   unfolding gatherHeads given onAnswer

@@ -1,8 +1,10 @@
 -- Demand 3 is not empty: a run, by computation, in which the premises hold and two protected threads wait in one tree.
+-- And a queue with threads of two processors, from which a selection is accepted.
 use Prim.Native.Nat.{ℕ, zero, suc, _+_}
 use mathlib.Core.Path.{_≡_, refl}
 use mathlib.Core.Bool.{Bool, true, false}
 use mathlib.Core.List.{[], _∷_}
+use Rattle.refusal.specs.Answer.{value, damaged}
 use Rattle.refusal.specs.Cases.{never, choose, ifLess, ifEqual, given}
 use Rattle.order.specs.Order.{compareNumbers, thenBy, compareParts, onOrdering}
 use Rattle.time.specs.declared.Epoch.the-variants as epoch
@@ -26,7 +28,7 @@ use Rattle.thread.specs.Filing.{budgetAvailable, roleIndex, indexFor, onIndex}
 use Rattle.thread.specs.TreeKey.{algorithmKey, treeKey, readyIndexKey, parts, compareTreeKeys}
 use Rattle.algorithms.specs.declared.PolicyRuntime.the-variants as runtime
 use Rattle.rows.specs.Table.{recordOf, changed, reading, storing, linksAt, keyAt, queueLinksAt, recordAt, setLinks}
-use Rattle.rows.specs.Table.{setQueueLinks, setRuntime}
+use Rattle.rows.specs.Table.{out, setQueueLinks, setRuntime}
 use Rattle.rows.specs.TableCases.{onLinks, onKey, onQueueLinks, onRecord, onMade}
 use Rattle.lists.specs.Checks.{assignedTo, headAgrees, tailAgrees, endsAgree, preflightInsert, previousValid}
 use Rattle.lists.specs.Checks.{nextValid, validateNeighbors}
@@ -40,9 +42,10 @@ use Rattle.ready_index.specs.Index.{descend, first, wayAt, lookFor, contains, o
 use Rattle.ready_index.specs.Index.{insert, soughtAt, onSearch, search, onSuccessor, successor, replace}
 use Rattle.ready_index.specs.Index as index
 use Rattle.queue_work.specs.Work.{countedIn, countedOut, totalIn, totalOut, pushAt, insertWork, removeWork}
-use Rattle.queue.specs.Queue.{listOf, rootOf, partsOf, withParts, worked, isFifo, isBudget, membershipFor, judged}
-use Rattle.queue.specs.Queue.{enqueueCall, partner, onContained, treeWith, removeReady, removeFrom, removeCall}
-use Rattle.queue.specs.Samples.{cpu}
+use Rattle.queue.specs.Queue.{step, newQueue, listOf, rootOf, partsOf, withParts, worked, isFifo, isBudget}
+use Rattle.queue.specs.Queue.{membershipFor, judged, enqueueCall, partner, onContained, treeWith, removeReady}
+use Rattle.queue.specs.Queue.{removeFrom, removeCall}
+use Rattle.queue.specs.Samples.{cpu, fifo}
 use Rattle.demands.specs.declared.CandidateOption.the-variants as candidate
 use Rattle.renewal.specs.Leaves.{onLeaves}
 use Rattle.demands.specs.Demands.{candidateOf, demandOf, either, joined, addDemand, comparePasses, lesserPass, onPass}
@@ -60,12 +63,14 @@ use Rattle.policy.specs.Parameters.{ofFifo}
 use Rattle.thread.specs.declared.Link.the-variants as link
 use Rattle.ready_index.specs.declared.Contained.the-variants as contained
 use Rattle.thread.specs.declared.ThreadRecord.{ThreadRecord}
-use Rattle.sound_queue.specs.Sound.{including, excluding}
+use Rattle.sound_queue.specs.Sound.{Sound, nobody, including, excluding, PriorityFits}
 use Rattle.sound_queue.specs.SoundLaws.{included-other}
-use Rattle.sound_queue.specs.Reached.{nobody}
 use Rattle.sound_queue.specs.PlaceLaws.{same-or-not}
 use Rattle.sound_selection.specs.Claim.{refreshedTo, filedReady, Call, enqueueAt, selectAt, State, Bytes, after}
-use Rattle.sound_selection.specs.Claim.{afterAll, AllAllowed, fresh, PremisesIn, AnsweredIn}
+use Rattle.sound_selection.specs.Claim.{afterAll, AllAllowed, Accepted, fresh, PremisesIn, AnsweredIn}
+use Rattle.sound_selection.specs.Reached.{Reached}
+use Rattle.sound_selection.specs.Reached as reached
+use Rattle.sound_selection.specs.ReachedSound.{reached-sound}
 use Rattle.sound_selection.specs.Demand3.{demand-3}
 use Rattle.queue.specs.RunQueue.{treeCount}
 
@@ -101,7 +106,17 @@ crane-bytes (suc zero) l = tt
 crane-bytes (suc (suc zero)) l = omega arith
 crane-bytes (suc (suc (suc n))) l = absurd (omega arith)
 
--- What computation gives of this run.
+-- A FIFO thread and a less urgent one of another processor, each enqueued by its own.
+abbrev mixed : List ThreadRecord
+mixed = fifo 5 0 ∷ fifo 6 1 ∷ []
+
+abbrev first-in : State
+first-in = after (cpu 0) (enqueueAt false 0) (fresh mixed)
+
+abbrev both-in : State
+both-in = after (cpu 1) (enqueueAt false 1) first-in
+
+-- What computation gives of these runs.
 pub record Computed : Type 0 where
   -- The two wait in one tree, and the three are queued.
   pub root : rootOf (crane-state .queue) 8 ≡ link.Some 0
@@ -121,6 +136,18 @@ pub record Computed : Type 0 where
   pub filed : (filedReady (crane-state .queue) (crane-state .table) 0 0 ≡ true)
       × (filedReady (crane-state .queue) (crane-state .table) 0 1 ≡ true)
   pub fifo : isBudget (recordOf (crane-state .table) 2 .parameters .policy) ≡ false
+  -- Both enqueues are accepted. The more urgent thread is the head of their tree: a selection for its processor names
+  -- it, and one for the other processor is refused.
+  pub first-accepted : enqueueCall false mixed newQueue 0 (cpu 0)
+      ≡ out (step (value tt) (first-in .queue)) (first-in .table)
+  pub second-accepted : enqueueCall false (first-in .table) (first-in .queue) 1 (cpu 1)
+      ≡ out (step (value tt) (both-in .queue)) (both-in .table)
+  pub fits : PriorityFits (recordOf mixed 0 .parameters .policy)
+      × PriorityFits (recordOf (first-in .table) 1 .parameters .policy)
+  pub selection : Accepted (cpu 0) (selectAt 0 window candidate.None) both-in
+  pub its-own : named (answerOf (peekNext (both-in .table) (both-in .queue) (cpu 0) 0 window candidate.None)) ≡ 1 + 0
+  pub not-own : named (answerOf (peekNext (both-in .table) (both-in .queue) (cpu 1) 0 window candidate.None))
+      ≡ 100 + damaged
 
 pub crane-computed : Computed
 unfolding choose ifLess ifEqual given compareNumbers thenBy compareParts onOrdering onPolicy onRole onBackend onBudget
@@ -152,6 +179,12 @@ crane-computed = record {
   left = (refl, refl);
   filed = (refl, refl);
   fifo = refl;
+  first-accepted = refl;
+  second-accepted = refl;
+  fits = (omega arith, omega arith);
+  selection = (_, _, _, _, refl);
+  its-own = refl;
+  not-own = refl;
 }
 
 -- By who is queued.
@@ -191,3 +224,20 @@ crane-premises = record {
 pub crane-answered : AnsweredIn (cpu 0) crane-state 7000000 window candidate.None
 crane-answered =
     demand-3 (cpu 0) crane (omega arith) crane-bytes calls crane-allowed 7000000 window candidate.None crane-premises
+
+-- Accepted calls for two processors lead to the queue that the selection leaves, so that it is sound.
+pub mixed-reached : Reached (including 1 (including 0 nobody)) (crane-computed .selection .2)
+    (crane-computed .selection .3)
+mixed-reached =
+    let c = crane-computed in
+    let x = c .selection in
+    reached.selected (cpu 0) (including 1 (including 0 nobody)) (both-in .queue) (x .2) (both-in .table) (x .3) 0 window
+    (x .1) candidate.None (x .0)
+    (reached.enqueued (cpu 1) (including 0 nobody) (first-in .queue) (both-in .queue) (first-in .table) (both-in .table)
+    false 1
+    (reached.enqueued (cpu 0) nobody newQueue (first-in .queue) mixed (first-in .table) false 0
+    (reached.new mixed (omega arith)) (c .fits .0) (c .first-accepted))
+    (c .fits .1) (c .second-accepted)) (x .4)
+
+pub mixed-sound : Sound (including 1 (including 0 nobody)) (crane-computed .selection .2) (crane-computed .selection .3)
+mixed-sound = reached-sound mixed-reached

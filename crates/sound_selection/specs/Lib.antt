@@ -1,5 +1,7 @@
 -- The words of demand 3.
 pub mod Claim
+-- Document 01's sound queues, by their calls.
+pub mod Reached
 -- What a selection may do to a thread, to a queue, and the head of a tree.
 pub mod Changes
 -- Laws of a record refreshed to now.
@@ -28,6 +30,8 @@ pub mod HeadPass
 pub mod Choosing
 -- Selection on a sound queue.
 pub mod Selecting
+-- Every queue that accepted calls lead to is sound.
+pub mod ReachedSound
 -- The class that a tree is of.
 pub mod Classes
 -- Laws of records of one class.

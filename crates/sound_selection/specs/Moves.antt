@@ -12,7 +12,6 @@ use lib.Dec.{ltb}
 use borrow.Author.Tests.{lt-ltb, le-ltb}
 use Rattle.refusal.specs.Answer.{value, refused, damaged}
 use Rattle.refusal.specs.Cases.{choose}
-use Rattle.thread.specs.declared.CpuIndex.{CpuIndex}
 use Rattle.thread.specs.declared.Link.{Link}
 use Rattle.thread.specs.declared.Link.the-variants as link
 use Rattle.thread.specs.declared.ThreadRecord.{ThreadRecord}
@@ -37,8 +36,8 @@ use Rattle.sound_selection.specs.OneMove.{OneMoved, one-moved}
 use Rattle.thread.specs.Filing.{budgetExhausted, budgetReady}
 
 -- Nothing done, and one after the other.
-unfoldable pub nothing-renewed : {cpu : CpuIndex} {queued : ℕ → Bool} {q : CpuRunQueue} {t : List ThreadRecord}
-    (S : Sound cpu queued q t) (now : ℕ) → Renewed S now q t
+unfoldable pub nothing-renewed : {queued : ℕ → Bool} {q : CpuRunQueue} {t : List ThreadRecord}
+    (S : Sound queued q t) (now : ℕ) → Renewed S now q t
 nothing-renewed S now = record {
   sound = S;
   beside = record { realtime = refl; total = refl; fair = refl; epoch = refl; budgets = refl; halted = refl };
@@ -47,8 +46,8 @@ nothing-renewed S now = record {
   others = λ j e. refl;
 }
 
-unfoldable pub both-renewed : {cpu : CpuIndex} {queued : ℕ → Bool} {q r u : CpuRunQueue} {t s v : List ThreadRecord}
-    {now : ℕ} (S : Sound cpu queued q t)
+unfoldable pub both-renewed : {queued : ℕ → Bool} {q r u : CpuRunQueue} {t s v : List ThreadRecord}
+    {now : ℕ} (S : Sound queued q t)
     (A : Renewed S now r s) → Renewed (A .sound) now u v → Renewed S now u v
 both-renewed S A B = record {
   sound = B .sound;
@@ -138,8 +137,8 @@ count-moved n i k before after l a b c h =
     ∙ rw (spent-yes before i a b)
 
 -- The exhausted tree of a role is empty; what emptying it leaves.
-pub record Drained {cpu : CpuIndex} {queued : ℕ → Bool} {q : CpuRunQueue} {t : List ThreadRecord}
-    (S : Sound cpu queued q t) (now role : ℕ) (o : Out (Leaves (Unit {0}) BudgetTrees)) : Type 0 where
+pub record Drained {queued : ℕ → Bool} {q : CpuRunQueue} {t : List ThreadRecord}
+    (S : Sound queued q t) (now role : ℕ) (o : Out (Leaves (Unit {0}) BudgetTrees)) : Type 0 where
   pub trees : BudgetTrees
   pub queue : CpuRunQueue
   pub table : List ThreadRecord
@@ -149,13 +148,13 @@ pub record Drained {cpu : CpuIndex} {queued : ℕ → Bool} {q : CpuRunQueue} {t
   pub enough : count (length table) (spent (renewed .sound .place)) ≤ trees .moves
   pub none-left : (j : ℕ) → renewed .sound .place j ≢ budgetExhausted + role
 
-module _ (cpu : CpuIndex) (queued : ℕ → Bool) (now role : ℕ) (b : role < 3) where
+module _ (queued : ℕ → Bool) (now role : ℕ) (b : role < 3) where
   abbrev pub Drains : ℕ → Type 0
   Drains moves =
-      (q : CpuRunQueue) (t : List ThreadRecord) (S : Sound cpu queued q t) → count (length t) (spent (S .place)) ≤ moves
+      (q : CpuRunQueue) (t : List ThreadRecord) (S : Sound queued q t) → count (length t) (spent (S .place)) ≤ moves
       → Drained S now role (moveAll moves t (rootOf q (budgetExhausted + role)) (rootOf q (budgetReady + role)) now)
 
-  module _ (q : CpuRunQueue) (t : List ThreadRecord) (S : Sound cpu queued q t) where
+  module _ (q : CpuRunQueue) (t : List ThreadRecord) (S : Sound queued q t) where
     abbrev own : ℕ → BudgetTrees
     own moves = budgetTrees (rootOf q (budgetExhausted + role)) (rootOf q (budgetReady + role)) moves
 

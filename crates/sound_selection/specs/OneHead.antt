@@ -1,11 +1,13 @@
--- A head of a sound queue is ready on its processor, judged, and refreshed; the queue is sound after that.
+-- A head of a sound queue is ready on its own processor, judged, and refreshed, and the queue is sound after that; on
+-- another processor it is refused.
 use Prim.Native.Nat.{ℕ, zero, suc}
 use mathlib.Core.Path.{_≡_, refl, sym, ap, _∙_, subst}
 use mathlib.Core.Bool.{Bool, true, false}
 use mathlib.Core.Logic.{_≢_}
 use mathlib.Core.List.{List}
-use borrow.Author.Tests.{eq-eqb}
-use Rattle.refusal.specs.Answer.{value}
+use lib.Dec.{eqb}
+use borrow.Author.Tests.{eq-eqb, ne-eqb}
+use Rattle.refusal.specs.Answer.{value, refused, damaged}
 use Rattle.refusal.specs.Cases.{never, choose, given, ifEqual}
 use Rattle.policy.specs.declared.BudgetOption.the-variants as option
 use Rattle.policy.specs.declared.BudgetParameters.{BudgetParameters}
@@ -15,6 +17,7 @@ use Rattle.algorithms.specs.declared.PolicyRuntime.{PolicyRuntime}
 use Rattle.algorithms.specs.declared.PolicyRuntime.the-variants as runtime
 use Rattle.algorithms.specs.Runtime.{epochRefreshed}
 use Rattle.thread.specs.declared.CpuIndex.{CpuIndex}
+use Rattle.thread.specs.declared.QueueMembership.{QueueMembership}
 use Rattle.thread.specs.declared.ThreadRecord.{ThreadRecord}
 use Rattle.thread.specs.Judgement.{isBadRecord}
 use Rattle.thread.specs.Membership.{onMembership, onCpu, readyCpu, isReadyOn, emptyLinks}
@@ -39,24 +42,45 @@ use Rattle.sound_selection.specs.RefreshLaws.{Refreshes, plain, budgeted
 use Rattle.sound_selection.specs.RefreshLaws.{refreshed-links, budget-judged, refresh-plain, refresh-budget}
 use Rattle.sound_selection.specs.Changes.{bareAt, Fresher, kept, fresh, Passed}
 
--- The membership of a list of a processor is ready there.
-ready-there : (cpu : CpuIndex) (n : ℕ) → isReadyOn (membershipAt cpu n) cpu ≡ true
+-- The membership of a list of a processor is ready there, and nowhere else.
+ready-on : (d cpu : CpuIndex) (n : ℕ) → isReadyOn (membershipAt d n) cpu ≡ eqb (d .0) (cpu .0)
 unfolding isReadyOn membershipAt readyCpu onMembership onCpu ifEqual choose
-ready-there cpu zero = rw (eq-eqb (cpu .0) (cpu .0) refl)
-ready-there cpu (suc p) = rw (eq-eqb (cpu .0) (cpu .0) refl)
+ready-on d cpu n = go n (eqb (d .0) (cpu .0)) refl
+  where
+    go : (m : ℕ) (x : Bool) → eqb (d .0) (cpu .0) ≡ x → isReadyOn (membershipAt d m) cpu ≡ eqb (d .0) (cpu .0)
+    go zero true e = rw e
+    go zero false e = rw e
+    go (suc p) true e = rw e
+    go (suc p) false e = rw e
 
 -- The head is accepted with what it then asks for; what it leaves.
-pub record Headed {cpu : CpuIndex} {queued : ℕ → Bool} {q : CpuRunQueue} {t : List ThreadRecord}
-    (S : Sound cpu queued q t) (now i : ℕ) : Type 0 where
+pub record Headed {queued : ℕ → Bool} {q : CpuRunQueue} {t : List ThreadRecord}
+    (S : Sound queued q t) (cpu : CpuIndex) (now i : ℕ) : Type 0 where
   pub table : List ThreadRecord
   pub is : headAt t i cpu now ≡ out (value (candidateNow t now i)) table
   pub passed : Passed S now table
   pub own : bareAt table i ≡ refreshedTo now (bareAt t i)
 
-module _ {cpu : CpuIndex} {queued : ℕ → Bool} {q : CpuRunQueue} {t : List ThreadRecord} (S : Sound cpu queued q t)
-    (now i : ℕ) (e : queued i ≡ true) where
+-- Whether a queued thread is ready on a processor.
+ready-if-own : {queued : ℕ → Bool} {q : CpuRunQueue} {t : List ThreadRecord} (S : Sound queued q t) (cpu : CpuIndex)
+    (i : ℕ) → queued i ≡ true
+    → isReadyOn (recordOf t i .«queue_links» .membership) cpu ≡ eqb (recordOf t i .cpu .0) (cpu .0)
+ready-if-own {queued} {q} {t} S cpu i e =
+    let n = listFor (recordOf t i .parameters .policy) in
+    ap (λ (m : QueueMembership). isReadyOn m cpu) (queued-membership S i e) ∙ ready-on (S .cpus n) cpu n
+    ∙ ap (λ c. eqb c (cpu .0)) (sym (S .threads i e .assigned))
+
+-- A head that is not this processor's: Damaged, with nothing changed.
+pub not-headed : {queued : ℕ → Bool} {q : CpuRunQueue} {t : List ThreadRecord} (S : Sound queued q t) (cpu : CpuIndex)
+    (now i : ℕ) → queued i ≡ true → recordOf t i .cpu .0 ≢ cpu .0 → headAt t i cpu now ≡ out (refused damaged) t
+unfolding headAt onRecord choose
+not-headed {queued} {q} {t} S cpu now i e d =
+    rw (record-within t i (queued-inside S i e), ready-if-own S cpu i e, ne-eqb (recordOf t i .cpu .0) (cpu .0) d)
+
+module _ {queued : ℕ → Bool} {q : CpuRunQueue} {t : List ThreadRecord} (S : Sound queued q t) (cpu : CpuIndex)
+    (now i : ℕ) (e : queued i ≡ true) (own : recordOf t i .cpu .0 ≡ cpu .0) where
   is-ready : isReadyOn (recordOf t i .«queue_links» .membership) cpu ≡ true
-  is-ready = rw (queued-membership S i e) (ready-there cpu (listFor (recordOf t i .parameters .policy)))
+  is-ready = ready-if-own S cpu i e ∙ eq-eqb (recordOf t i .cpu .0) (cpu .0) own
 
   -- By what refreshing the record comes to.
   head-by : (r : ThreadRecord) (s : List ThreadRecord) → refreshRecord t i (recordOf t i) now ≡ out (value r) s
@@ -74,7 +98,7 @@ module _ {cpu : CpuIndex} {queued : ℕ → Bool} {q : CpuRunQueue} {t : List Th
 
   -- No budget: nothing changes.
   headed-plain : recordOf t i .parameters .budget ≡ option.None → refreshedTo now (recordOf t i) ≡ recordOf t i
-      → Headed S now i
+      → Headed S cpu now i
   unfolding bareAt
   headed-plain n h = record {
     table = t;
@@ -114,7 +138,7 @@ module _ {cpu : CpuIndex} {queued : ℕ → Bool} {q : CpuRunQueue} {t : List Th
     other-records j f = reading-other t i (withRuntime y) (λ (r : ThreadRecord). read.Got r) read.Damaged j
         (λ z. let w : true ≡ false = sym e ∙ ap queued (sym z) ∙ f in never cc)
 
-    headed-budget : Headed S now i
+    headed-budget : Headed S cpu now i
     headed-budget = record {
       table = stored;
       is = head-by (withRuntime y (recordOf t i)) stored
@@ -135,12 +159,12 @@ module _ {cpu : CpuIndex} {queued : ℕ → Bool} {q : CpuRunQueue} {t : List Th
       own = own-now;
     }
 
-  headed-of : Refreshes now (recordOf t i) → Headed S now i
+  headed-of : Refreshes now (recordOf t i) → Headed S cpu now i
   headed-of (plain p n h) = headed-plain n h
   headed-of (budgeted x p b f g h k) =
       headed-budget (runtime.Budget (budget.refreshed x now p)) p b g
       (budget-judged now (recordOf t i) (S .threads i e .judged) (budget.refreshed x now p) p b g h) k
 
-  -- A queued thread as a head.
-  pub headed : Headed S now i
+  -- A queued thread as a head, on its processor.
+  pub headed : Headed S cpu now i
   headed = headed-of (refreshes now (recordOf t i) (S .threads i e .judged))

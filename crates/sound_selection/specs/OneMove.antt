@@ -18,7 +18,6 @@ use Rattle.budget.specs.Runtime as budget
 use Rattle.algorithms.specs.declared.PolicyRuntime.{PolicyRuntime}
 use Rattle.algorithms.specs.declared.PolicyRuntime.the-variants as runtime
 use Rattle.algorithms.specs.Runtime.{epochRefreshed}
-use Rattle.thread.specs.declared.CpuIndex.{CpuIndex}
 use Rattle.thread.specs.declared.ThreadRecord.{ThreadRecord}
 use Rattle.thread.specs.Filing.{roleIndex, budgetExhausted, budgetReady}
 use Rattle.thread.specs.FilingLaws.{role-index-le}
@@ -60,8 +59,8 @@ exhausted-there r role b (in-budget e (with-time k)) = absurd (omega (arith, rol
 exhausted-there r role b (in-budget e (exhausted k)) = (e, omega arith)
 
 -- The move is accepted; what it leaves.
-pub record OneMoved {cpu : CpuIndex} {queued : ℕ → Bool} {q : CpuRunQueue} {t : List ThreadRecord}
-    (S : Sound cpu queued q t) (now role i moves : ℕ) : Type 0 where
+pub record OneMoved {queued : ℕ → Bool} {q : CpuRunQueue} {t : List ThreadRecord}
+    (S : Sound queued q t) (now role i moves : ℕ) : Type 0 where
   pub trees : BudgetTrees
   pub queue : CpuRunQueue
   pub table : List ThreadRecord
@@ -71,7 +70,7 @@ pub record OneMoved {cpu : CpuIndex} {queued : ℕ → Bool} {q : CpuRunQueue} {
   pub renewed : Renewed S now queue table
   pub places : (j : ℕ) → renewed .sound .place j ≡ placed i (budgetReady + role) (S .place) j
 
-module _ {cpu : CpuIndex} {queued : ℕ → Bool} {q : CpuRunQueue} {t : List ThreadRecord} (S : Sound cpu queued q t)
+module _ {queued : ℕ → Bool} {q : CpuRunQueue} {t : List ThreadRecord} (S : Sound queued q t)
     (now role i moves : ℕ) (b : role < 3) (at : S .place i ≡ budgetExhausted + role) where
   is-queued : queued i ≡ true
   is-queued = sym (S .stands i) ∙ lt-ltb (S .place i) treeCount (omega arith)
@@ -84,7 +83,7 @@ module _ {cpu : CpuIndex} {queued : ℕ → Bool} {q : CpuRunQueue} {t : List Th
 
   module _ (y : PolicyRuntime) (p : BudgetParameters) (g : recordOf t i .parameters .budget ≡ option.Some p)
       (k : epochRefreshed (recordOf t i .runtime) now (recordOf t i .parameters) ≡ value y)
-      (M : Moved cpu queued q t (S .place) i (budgetReady + role) y) where
+      (M : Moved queued q t (S .place) i (budgetReady + role) y) where
     abbrev between : List ThreadRecord
     between = changed (M .out-of) i (withRuntime y)
 

@@ -10,7 +10,6 @@ use lib.ListN.{length}
 use Rattle.refusal.specs.Answer.{value}
 use Rattle.refusal.specs.Cases.{never, choose, given}
 use Rattle.time.specs.declared.Epoch.the-variants as epoch
-use Rattle.thread.specs.declared.CpuIndex.{CpuIndex}
 use Rattle.thread.specs.declared.ThreadRecord.{ThreadRecord}
 use Rattle.rows.specs.Table.{Out, out, recordAt}
 use Rattle.lists.specs.Lists.{onOut}
@@ -33,12 +32,12 @@ use Rattle.thread.specs.Filing.{budgetExhausted, budgetReady}
 
 -- What a change of period, or none, leaves. Where the epoch was this one nothing has moved; where not, no exhausted
 -- tree has a thread.
-pub record Turned {cpu : CpuIndex} {queued : ℕ → Bool} {q : CpuRunQueue} {t : List ThreadRecord}
-    (S : Sound cpu queued q t) (now e : ℕ) (o : Out (Leaves (Unit {0}) SelectionParts)) : Type 0 where
+pub record Turned {queued : ℕ → Bool} {q : CpuRunQueue} {t : List ThreadRecord}
+    (S : Sound queued q t) (now e : ℕ) (o : Out (Leaves (Unit {0}) SelectionParts)) : Type 0 where
   pub parts : SelectionParts
   pub table : List ThreadRecord
   pub is : o ≡ out (leaves (value tt) parts) table
-  pub sound : Sound cpu queued (withSelectionParts q parts) table
+  pub sound : Sound queued (withSelectionParts q parts) table
   pub len : length table ≡ length t
   pub shift : (j : ℕ) → Shift now (S .place j) (bareAt t j) (sound .place j) (bareAt table j)
   pub others : (j : ℕ) → queued j ≡ false → recordAt table j ≡ recordAt t j
@@ -61,7 +60,7 @@ stays-empty : {now p : ℕ} {a : ThreadRecord} {p′ : ℕ} {b : ThreadRecord} (
 stays-empty n g (stays e f) h z = h (sym e ∙ z)
 stays-empty n g (shifts a c e f) h z = omega arith
 
-module _ {cpu : CpuIndex} {queued : ℕ → Bool} {q : CpuRunQueue} {t : List ThreadRecord} (S : Sound cpu queued q t)
+module _ {queued : ℕ → Bool} {q : CpuRunQueue} {t : List ThreadRecord} (S : Sound queued q t)
     (now e : ℕ) where
   -- Nothing to do.
   turned-still : isEpoch (q .«budget_epoch») e ≡ true → Turned S now e (out (leaves (value tt) (selectionParts q)) t)
@@ -125,7 +124,7 @@ module _ {cpu : CpuIndex} {queued : ℕ → Bool} {q : CpuRunQueue} {t : List Th
         let c : C .renewed .sound .place j ≢ 11 = C .none-left j in
         omega arith
 
-    turned-sound : Sound cpu queued (withSelectionParts q left-parts) (C .table)
+    turned-sound : Sound queued (withSelectionParts q left-parts) (C .table)
     unfolding withSelectionParts trees-sound
     turned-sound =
         trees-sound (C .renewed .sound) (C .table) refl (λ j. refl) (λ j. refl) (withSelectionParts q left-parts)
@@ -156,10 +155,10 @@ module _ {cpu : CpuIndex} {queued : ℕ → Bool} {q : CpuRunQueue} {t : List Th
   unfolding renew choose selectionParts
   turned-of true h = rw h (turned-still h)
   turned-of false h =
-      let A = drains cpu queued now 0 (omega arith) (length t) q t S (count-most (length t) (spent (S .place))) in
-      let B = drains cpu queued now 1 (omega arith) (A .trees .moves) (A .queue) (A .table) (A .renewed .sound)
+      let A = drains queued now 0 (omega arith) (length t) q t S (count-most (length t) (spent (S .place))) in
+      let B = drains queued now 1 (omega arith) (A .trees .moves) (A .queue) (A .table) (A .renewed .sound)
       (A .enough) in
-      let C = drains cpu queued now 2 (omega arith) (B .trees .moves) (B .queue) (B .table) (B .renewed .sound)
+      let C = drains queued now 2 (omega arith) (B .trees .moves) (B .queue) (B .table) (B .renewed .sound)
       (B .enough) in
       turned-by A B C h
 
