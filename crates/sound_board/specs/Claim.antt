@@ -1,5 +1,5 @@
--- Demand 3 over the words that a board lends: what a board is, what a step of it is, and what is claimed of a selection.
--- A step is what an entry's contract says of the words before and after (`Enqueues` and the others, crate board), so
+-- Demand 3 over the words that a board lends: what a board is, what a step of it is, and what is claimed of a
+-- selection. A step is what an entry's contract says of the words before and after (`Enqueues` and the others, crate board), so
 -- nothing is asked of a board but that it calls the entries.
 use Prim.Native.Nat.{ℕ, _≤_, _<_}
 use mathlib.Core.Path.{_≡_}
@@ -14,8 +14,7 @@ use Rattle.lent_queue.specs.LentQueue.{queueOf}
 use Rattle.selection.specs.declared.Selection.{Selection}
 use Rattle.board_words.specs.BoardWords.{selectionFrom, currentOf}
 use Rattle.board.specs.Board.{Makes, Enqueues, Removes, Selects}
-use Rattle.sound_queue.specs.Sound.{including, excluding}
-use Rattle.sound_queue.specs.Reached.{nobody}
+use Rattle.sound_queue.specs.Sound.{nobody, including, excluding}
 use Rattle.sound_selection.specs.Claim.{gatheredNow, Premises, Names}
 
 -- The queue's words, the table's rows, and who is queued: from its accepted enqueue to its accepted removal.

@@ -171,7 +171,7 @@ all-stand cpu (c ∷ l) s S a =
       rest = all-stand cpu l (after cpu c s) (call-sound cpu s c S (a .this)) (a .rest);
     }
 
-fresh-sound : (cpu : CpuIndex) (t : List ThreadRecord) → length t ≤ maxRecords → Bytes t → SoundIn cpu (fresh t)
+pub fresh-sound : (cpu : CpuIndex) (t : List ThreadRecord) → length t ≤ maxRecords → Bytes t → SoundIn cpu (fresh t)
 fresh-sound cpu t small b = record { sound = new-sound t small; one = λ j e. never cc; bytes = b }
 
 -- From a fresh queue on any table every call of one processor is accepted, or refused with queue and records as they
