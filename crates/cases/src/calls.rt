@@ -25,6 +25,8 @@ use crate::letters::LOWEST;
 use crate::letters::PEEK;
 use crate::letters::PREPARE;
 use crate::letters::PROTECTION;
+use crate::letters::PUSH;
+use crate::letters::PUSH_FRONT;
 use crate::letters::QUEUE;
 use crate::letters::REFRESH;
 use crate::letters::REMOVE;
@@ -32,6 +34,9 @@ use crate::letters::RUNTIME;
 use crate::letters::SELECT;
 use crate::letters::SET_QUEUE;
 use crate::letters::SUM;
+use crate::letters::TAKE_OUT;
+use crate::letters::UNLINK;
+use crate::listing::list;
 use crate::queues::moved;
 use crate::queues::selected;
 use crate::reading::Numbers;
@@ -54,7 +59,8 @@ fn tabled(t: &mut [Row], n: usize, letter: u64, a: Numbers) -> u64 {
         EXPIRY => expiry(t, a),
         CONFIG | INTERVAL | PROTECTION | KEY => window(t, letter, a),
         COMPARE => compared(t),
-        INSERT | CONTAINS | LEAST => tree(t, n, letter, a),
+        INSERT | TAKE_OUT | CONTAINS | LEAST => tree(t, n, letter, a),
+        PUSH | PUSH_FRONT | UNLINK => list(t, n, letter, a),
         BUDGET => budget(a),
         BY_VALUE => length(),
         _ => word(t, letter, a),

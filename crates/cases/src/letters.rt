@@ -69,9 +69,17 @@ pub const COMPARE: u64 = 110;
 
 pub const INSERT: u64 = 73;
 
+pub const TAKE_OUT: u64 = 68;
+
 pub const CONTAINS: u64 = 72;
 
 pub const LEAST: u64 = 71;
+
+pub const PUSH: u64 = 76;
+
+pub const PUSH_FRONT: u64 = 70;
+
+pub const UNLINK: u64 = 85;
 
 pub const PEEK: u64 = 80;
 
@@ -98,10 +106,11 @@ pub fn arity(letter: u64) -> u64 {
         | REFRESH
         | PROTECTION
         | INSERT
+        | TAKE_OUT
         | CONTAINS
         | LEAST => 3,
         PREPARE | BUDGET | CHARGE | PEEK => 4,
-        ACCOUNT | CHOOSE | RUNTIME | EXPIRY | INTERVAL => 5,
+        ACCOUNT | CHOOSE | RUNTIME | EXPIRY | INTERVAL | PUSH | PUSH_FRONT | UNLINK => 5,
         DEADLINE => 6,
         _ => 0,
     }

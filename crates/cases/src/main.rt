@@ -5,6 +5,7 @@ mod answers;
 mod calls;
 mod leaves;
 mod letters;
+mod listing;
 mod machine;
 mod places;
 mod queues;

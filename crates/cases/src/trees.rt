@@ -1,20 +1,21 @@
 // Calls on one tree of the ready index, with the answer as one number.
 use crate::answers::NONE;
+use crate::answers::refused;
 use crate::letters::CONTAINS;
 use crate::letters::INSERT;
+use crate::letters::TAKE_OUT;
 use crate::reading::Numbers;
 use codec::Row;
-use ready_index::Contained;
-use ready_index::Least;
 use ready_index::MAX_PATH;
 use ready_index::PATH_STEP_WORDS;
-use ready_index::Rooted;
+use ready_index::TreeContains;
+use ready_index::TreeLeast;
+use ready_index::TreeRoot;
 use ready_index::contains;
 use ready_index::first;
 use ready_index::insert;
+use ready_index::remove;
 use thread::Link;
-
-const DAMAGED: u64 = 1_000_000_000_001;
 
 fn number(link: Link) -> u64 {
     match link {
@@ -23,26 +24,26 @@ fn number(link: Link) -> u64 {
     }
 }
 
-fn rooted(answer: Rooted) -> u64 {
+fn rooted(answer: TreeRoot) -> u64 {
     match answer {
-        Rooted::Root(root) => number(root),
-        Rooted::Damaged => DAMAGED,
+        TreeRoot::Root(root) => number(root),
+        TreeRoot::Refused(refusal) => refused(refusal.number()),
     }
 }
 
-fn held(answer: Contained) -> u64 {
+fn held(answer: TreeContains) -> u64 {
     match answer {
-        Contained::Yes => 1,
-        Contained::No => 0,
-        Contained::Damaged => DAMAGED,
+        TreeContains::Yes => 1,
+        TreeContains::No => 0,
+        TreeContains::Refused(refusal) => refused(refusal.number()),
     }
 }
 
-fn least(answer: Least) -> u64 {
+fn least(answer: TreeLeast) -> u64 {
     match answer {
-        Least::None => NONE,
-        Least::Some(n) => n,
-        Least::Damaged => DAMAGED,
+        TreeLeast::None => NONE,
+        TreeLeast::Some(n) => n,
+        TreeLeast::Refused(refusal) => refused(refusal.number()),
     }
 }
 
@@ -57,6 +58,7 @@ fn called(t: &mut [Row], letter: u64, a: Numbers) -> u64 {
     let mut path = [[0u64; PATH_STEP_WORDS]; MAX_PATH];
     match letter {
         INSERT => rooted(insert(t, &mut path, Link::Some(a[0]), a[1])),
+        TAKE_OUT => rooted(remove(t, &mut path, Link::Some(a[0]), a[1])),
         CONTAINS => held(contains(t, Link::Some(a[0]), a[1])),
         _ => least(first(t, root(a[0], a[1]))),
     }

@@ -1,6 +1,8 @@
 // One list of threads over the table: push, push_front and remove. After scheduler/queue.rs, with the source's order of
 // checks and stores. Every number that is stored to was read in the checks before (crate sound_lists,
-// specs/Inside.antt), so the source's `queue_invariant` has no place here.
+// specs/Inside.antt), so the source's `queue_invariant` has no place here. `push`, `push_front` and `remove` are the
+// calls on a list by itself, which ask for table and number first; a queue's calls have asked for these and more, and
+// use `push_at` and `remove_from`.
 ghost use mathlib.Core.Path.{_≡_};
 ghost use Rattle.refusal.specs.Cases.{choose};
 ghost use Rattle.thread.specs.Membership.{isUnqueued};
@@ -12,6 +14,7 @@ ghost use Rattle.lists.specs.Checks.{previousValid, nextValid, validateN
 ghost use Rattle.lists.specs.Lists.{withNext, withPrevious, setNext, setPrevious, commitInsert, commitRemove};
 ghost use Rattle.lists.specs.Lists.{append, push, prepend, pushFront, updatePreviousLink, updateNextLink, unlink};
 ghost use Rattle.lists.specs.Lists.{remove};
+ghost use Rattle.lists.specs.Calls.{pushCall, pushFrontCall, removeCall};
 ghost use Rattle.lists.specs.Answers.{preflightAnswer, listed};
 use codec::CPU;
 use codec::NEXT;
@@ -23,7 +26,9 @@ use codec::byte_from;
 use codec::queue_links_of;
 use codec::words_of_link;
 use refusal::Refusal;
+use rows::Permission;
 use rows::QueueLinksRead;
+use rows::asked;
 use rows::queue_links_at;
 use rows::set_queue_links;
 use thread::CpuIndex;
@@ -337,8 +342,8 @@ fn place(
     append(t, queue, id, membership, len)
 }
 
-// `push`, and with `front` `push_front`. The checks of both are called from this one place, so that the compiler puts
-// them into it.
+// `push`, and with `front` `push_front`, of a thread that has been asked for: a number outside the table is Damaged
+// here. The checks of both are called from this one place, so that the compiler puts them into it.
 pub fn push_at(
     t: &mut [Row],
     front: bool,
@@ -359,16 +364,25 @@ pub fn push_at(
 
 // The thread becomes the list's last.
 pub fn push(t: &mut [Row], queue: ThreadQueue, id: u64, membership: QueueMembership) -> Listed
-    ensures { λ r. ⌜ out (listed r) (table (now (t .exit))) ≡ push (table (now (t .entry))) queue id membership ⌝ }
+    ensures { λ r. ⌜ out (listed r) (table (now (t .exit))) ≡ pushCall (table (now (t .entry))) queue id membership ⌝ }
 {
-    push_at(t, false, queue, id, membership)
+    let permission = asked(t, id);
+    match permission {
+        Permission::Granted => push_at(t, false, queue, id, membership),
+        Permission::Refused(refusal) => Listed::Refused(refusal),
+    }
 }
 
 // The thread becomes the list's first.
 pub fn push_front(t: &mut [Row], queue: ThreadQueue, id: u64, membership: QueueMembership) -> Listed
-    ensures { λ r. ⌜ out (listed r) (table (now (t .exit))) ≡ pushFront (table (now (t .entry))) queue id membership ⌝ }
+    ensures { λ r. ⌜ out (listed r) (table (now (t .exit)))
+        ≡ pushFrontCall (table (now (t .entry))) queue id membership ⌝ }
 {
-    push_at(t, true, queue, id, membership)
+    let permission = asked(t, id);
+    match permission {
+        Permission::Granted => push_at(t, true, queue, id, membership),
+        Permission::Refused(refusal) => Listed::Refused(refusal),
+    }
 }
 
 // What stands before the thread points to it.
@@ -466,8 +480,13 @@ fn unlink(t: &mut [Row], queue: ThreadQueue, links: QueueLinks, id: u64, len: u6
     ThreadQueue { head, tail, len }
 }
 
-// The thread leaves the list, wherever it stands in it.
-pub fn remove(t: &mut [Row], queue: ThreadQueue, id: u64, membership: QueueMembership) -> Listed
+// `remove` of a thread that has been asked for: a number outside the table is Damaged here.
+pub fn remove_from(
+    t: &mut [Row],
+    queue: ThreadQueue,
+    id: u64,
+    membership: QueueMembership,
+) -> Listed
     ensures { λ r. ⌜ out (listed r) (table (now (t .exit))) ≡ remove (table (now (t .entry))) queue id membership ⌝ }
 {
     let QueueLinksRead::Got(links) = queue_links_at(t, id) else {
@@ -484,4 +503,16 @@ pub fn remove(t: &mut [Row], queue: ThreadQueue, id: u64, membership: QueueMembe
         return Listed::Refused(Refusal::Damaged);
     }
     Listed::List(unlink(t, queue, links, id, queue.len - 1))
+}
+
+// The thread leaves the list, wherever it stands in it.
+pub fn remove(t: &mut [Row], queue: ThreadQueue, id: u64, membership: QueueMembership) -> Listed
+    ensures { λ r. ⌜ out (listed r) (table (now (t .exit)))
+        ≡ removeCall (table (now (t .entry))) queue id membership ⌝ }
+{
+    let permission = asked(t, id);
+    match permission {
+        Permission::Granted => remove_from(t, queue, id, membership),
+        Permission::Refused(refusal) => Listed::Refused(refusal),
+    }
 }

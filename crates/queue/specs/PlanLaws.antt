@@ -6,8 +6,8 @@ use mathlib.Core.Path.{_≡_, refl, sym, ap, _∙_}
 use mathlib.Core.Bool.{Bool, true, false}
 use mathlib.Core.List.{List}
 use lib.Dec.{ltb, eqb}
-use lib.ListN.{length, length-map}
-use borrow.Author.Tests.{lt-ltb, le-ltb, ltb-true}
+use lib.ListN.{length}
+use borrow.Author.Tests.{ltb-true}
 use Rattle.refusal.specs.Answer.{Answer, value, refused, numberOf, damaged, badState, already, noThread, queueHalted}
 use Rattle.refusal.specs.Answer.{badTable, badRecord}
 use Rattle.refusal.specs.declared.Refusal.{Refusal}
@@ -32,7 +32,7 @@ use Rattle.rows.specs.declared.RecordRead.{RecordRead}
 use Rattle.rows.specs.declared.RecordRead.the-variants as read
 use Rattle.rows.specs.Table.{Out, out, table, recordAt}
 use Rattle.rows.specs.TableCases.{onRecord}
-use Rattle.codec.specs.Codec.{decoded}
+use Rattle.rows.specs.AskedLaws.{below-count, not-below-count}
 use Rattle.lists.specs.Lists.{onAnswer}
 use Rattle.ready_index.specs.declared.Contained.{Contained}
 use Rattle.ready_index.specs.declared.Contained.the-variants as contained
@@ -270,12 +270,10 @@ module _ {A : Type 0} {y : A} {r x : Contained} (a b d : A) where
 -- The record count is the count of rows.
 module _ {A : Type 0} {y : A} (a b : A) (rows : List (List ℕ)) where
   pub too-many : maxRecords < length rows → y ≡ a → y ≡ ifLess maxRecords (length (table rows)) a b
-  unfolding table ifLess choose
-  too-many p h = rw (length-map rows decoded, lt-ltb maxRecords (length rows) p) h
+  too-many p h = below-count a b maxRecords rows p h
 
   pub not-too-many : length rows ≤ maxRecords → y ≡ b → y ≡ ifLess maxRecords (length (table rows)) a b
-  unfolding table ifLess choose
-  not-too-many p h = rw (length-map rows decoded, le-ltb maxRecords (length rows) p) h
+  not-too-many p h = not-below-count a b maxRecords rows p h
 
 -- A call's work put back, beside the table that it left.
 worked-apart : (q : CpuRunQueue) (m : QueueMembership) (k : ℕ) (w : Work) (t : List ThreadRecord)

@@ -15,7 +15,7 @@ use crate::judging::is_bad_row;
 use codec::Row;
 use policy::SchedulingPolicy;
 use ready_index::Contained;
-use ready_index::contains;
+use ready_index::contains_under;
 use refusal::Refusal;
 use rows::MAX_RECORDS;
 use thread::CpuIndex;
@@ -141,12 +141,12 @@ pub fn tree_found(
 ) -> TreeFound
     ensures { λ r. ⌜ treeAnswer r ≡ plans.treeFound (table (now (t .entry))) root other id budgeted index ⌝ }
 {
-    let held = contains(t, root, id);
+    let held = contains_under(t, root, id);
     match held {
         Contained::Yes => TreeFound::Index(index),
         Contained::No => {
             if budgeted {
-                let beside = contains(t, other, id);
+                let beside = contains_under(t, other, id);
                 return match beside {
                     Contained::Yes => TreeFound::Index(partner(index)),
                     Contained::No => TreeFound::Refused(Refusal::Damaged),

@@ -5,8 +5,11 @@ ghost use Rattle.queue_work.specs.Work as work;
 use codec::Row;
 use lists::Listed;
 use lists::push_at;
+use lists::remove_from;
 use ready_index::Path;
 use ready_index::Rooted;
+use ready_index::insert_under;
+use ready_index::remove_under;
 use refusal::Refusal;
 use thread::Link;
 use thread::QueueMembership;
@@ -128,7 +131,7 @@ fn insert_into_tree(t: &mut [Row], path: &mut Path, parts: Parts, id: u64, budge
     let realtime_len = parts.realtime_len;
     let budget_threads = parts.budget_threads;
     let old_root = parts.root;
-    let Rooted::Root(root) = ready_index::insert(t, path, old_root, id) else {
+    let Rooted::Root(root) = insert_under(t, path, old_root, id) else {
         return Worked::Stored {
             parts,
             halted: true,
@@ -154,7 +157,7 @@ fn remove_from_tree(t: &mut [Row], path: &mut Path, parts: Parts, id: u64, budge
     let realtime_len = parts.realtime_len;
     let budget_threads = parts.budget_threads;
     let old_root = parts.root;
-    let Rooted::Root(root) = ready_index::remove(t, path, old_root, id) else {
+    let Rooted::Root(root) = remove_under(t, path, old_root, id) else {
         return Worked::Stored {
             parts,
             halted: true,
@@ -232,7 +235,7 @@ pub fn remove_work(
     match total {
         Total::Refused(refusal) => Worked::Refused(refusal),
         Total::Length(realtime_len) => {
-            let removed = lists::remove(t, queue, id, membership);
+            let removed = remove_from(t, queue, id, membership);
             match removed {
                 Listed::Refused(refusal) => Worked::Refused(refusal),
                 Listed::List(list) => remove_from_tree(

@@ -4,9 +4,12 @@ pub mod Cases
 pub mod CasesLaws
 -- The ready index: first, contains, insert, remove.
 pub mod Index
+-- What the answers stand for.
+pub mod Answers
+-- The calls on a tree by itself, with what is asked first.
+pub mod Calls
 -- The lent path as steps.
 pub mod Path
--- What a step of the way up stores.
 -- Laws of the lent path.
 pub mod PathLaws
 -- Laws by which the loops go on.
@@ -15,3 +18,5 @@ pub mod LoopLaws
 pub mod WaysLaws
 -- A step of the way up stores what the definitions say.
 pub mod InPlaceLaws
+-- Laws by which the calls on a tree by itself meet their definitions.
+pub mod CallsLaws

@@ -1,4 +1,9 @@
 // The ready index: a balanced tree over the records of the thread table. After scheduler/algorithms/ready_index.rs.
+// `first`, `contains`, `insert` and `remove` (calls.rt) are the calls on a tree by itself, which ask for table and
+// number first. A queue's calls have asked for these and more, and use the functions here, each on the tree under a
+// root: a number outside the table is Damaged here.
+mod calls;
+
 ghost use Prim.Native.Nat.{_+_, _-_, _≤_};
 ghost use mathlib.Core.List.{[]};
 ghost use mathlib.Core.Path.{_≡_};
@@ -7,8 +12,13 @@ ghost use Rattle.rows.specs.Table.{table, out};
 ghost use Rattle.ready_index.specs.Index as index;
 ghost use Rattle.ready_index.specs.Path.{stepOf, stack, walkOf, walkSteps, lastSought, searchOf, searchSteps};
 ghost use Rattle.ready_index.specs.Path.{successorOf, successorSteps};
+pub use calls::contains;
+pub use calls::first;
+pub use calls::insert;
+pub use calls::remove;
 use codec::Row;
 use order::Ordering;
+use refusal::Refusal;
 use rotations::Turned;
 use rotations::balance;
 use rotations::rebalance;
@@ -54,6 +64,24 @@ pub enum Contained {
     Yes,
     No,
     Damaged,
+}
+
+// What the calls on a tree by itself answer: as the three above, or a refusal by its name.
+pub enum TreeRoot {
+    Root(Link),
+    Refused(Refusal),
+}
+
+pub enum TreeLeast {
+    None,
+    Some(u64),
+    Refused(Refusal),
+}
+
+pub enum TreeContains {
+    Yes,
+    No,
+    Refused(Refusal),
 }
 
 // A step of a path: the node, and whether the path went to its right.
@@ -116,8 +144,8 @@ fn descend(t: &[Row], start: u64) -> Least
     Least::Damaged
 }
 
-// The least thread of the tree under a root. After `Tree::first`.
-pub fn first(t: &[Row], root: Link) -> Least
+// The least thread of the tree under a root.
+pub fn first_under(t: &[Row], root: Link) -> Least
     ensures { λ r. ⌜ r ≡ index.first (table (now (t .entry))) root ⌝ }
 {
     match root {
@@ -185,8 +213,8 @@ fn look_for(t: &[Row], key: TreeKey, id: u64, root: Link) -> Contained
     Contained::Damaged
 }
 
-// Whether the tree under a root holds a thread. After `Tree::contains`.
-pub fn contains(t: &[Row], root: Link, id: u64) -> Contained
+// Whether the tree under a root holds a thread.
+pub fn contains_under(t: &[Row], root: Link, id: u64) -> Contained
     ensures { λ r. ⌜ r ≡ index.contains (table (now (t .entry))) root id ⌝ }
 {
     let KeyRead::Got(key) = key_at(t, id) else {
@@ -304,8 +332,8 @@ fn insert_at(t: &mut [Row], path: &mut [PathStep], key: TreeKey, root: Link, id:
     by_parts(rebuilt)
 }
 
-// A thread put into the tree under a root, by a path that is lent for the time of the call. After `Tree::insert`.
-pub fn insert(t: &mut [Row], path: &mut Path, root: Link, id: u64) -> Rooted
+// A thread put into the tree under a root, by a path that is lent for the time of the call.
+pub fn insert_under(t: &mut [Row], path: &mut Path, root: Link, id: u64) -> Rooted
     ensures { λ r. ⌜ out r (table (now (t .exit))) ≡ index.insert (table (now (t .entry))) root id ⌝ }
 {
     let KeyRead::Got(key) = key_at(t, id) else {
@@ -531,8 +559,8 @@ fn remove_at(t: &mut [Row], path: &mut [PathStep], key: TreeKey, root: Link, id:
     remove_found(t, path, steps, links, id)
 }
 
-// A thread taken out of the tree under a root, by a path that is lent for the time of the call. After `Tree::remove`.
-pub fn remove(t: &mut [Row], path: &mut Path, root: Link, id: u64) -> Rooted
+// A thread taken out of the tree under a root, by a path that is lent for the time of the call.
+pub fn remove_under(t: &mut [Row], path: &mut Path, root: Link, id: u64) -> Rooted
     ensures { λ r. ⌜ out r (table (now (t .exit))) ≡ index.remove (table (now (t .entry))) root id ⌝ }
 {
     let KeyRead::Got(key) = key_at(t, id) else {

@@ -31,7 +31,9 @@ use queue::is_bad_row;
 use ready_index::Least;
 use ready_index::Path;
 use ready_index::Rooted;
-use ready_index::first;
+use ready_index::first_under;
+use ready_index::insert_under;
+use ready_index::remove_under;
 use refusal::Refusal;
 use rows::set_runtime;
 use thread::Link;
@@ -78,7 +80,7 @@ enum RoleStep {
 pub fn head_of(t: &[Row], root: Link) -> HeadRead
     ensures { λ r. ⌜ headAnswer r ≡ renewal.headOf (table (now (t .entry))) root ⌝ }
 {
-    match first(t, root) {
+    match first_under(t, root) {
         Least::None => HeadRead::Head(Link::None),
         Least::Some(id) => HeadRead::Head(Link::Some(id)),
         Least::Damaged => HeadRead::Damaged,
@@ -178,7 +180,7 @@ fn refile(t: &mut [Row], path: &mut Path, trees: BudgetTrees, id: u64, reading: 
     match refreshed {
         Verdict::Refused(refusal) => Moved::Refused(refusal, trees),
         Verdict::Accepted => {
-            let Rooted::Root(ready) = ready_index::insert(t, path, old, id) else {
+            let Rooted::Root(ready) = insert_under(t, path, old, id) else {
                 return Moved::Refused(Refusal::Halted, trees);
             };
             Moved::Done(BudgetTrees {
@@ -197,7 +199,7 @@ fn move_one(t: &mut [Row], path: &mut Path, trees: BudgetTrees, id: u64, reading
 {
     let old = trees.exhausted;
     let ready = trees.ready;
-    let Rooted::Root(exhausted) = ready_index::remove(t, path, old, id) else {
+    let Rooted::Root(exhausted) = remove_under(t, path, old, id) else {
         return Moved::Refused(Refusal::Halted, trees);
     };
     refile(

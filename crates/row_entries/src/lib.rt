@@ -2,22 +2,23 @@
 // the call of its name on what the numbers stand for.
 ghost use mathlib.Core.Path.{_≡_};
 ghost use Rattle.codec.specs.Codec.{linkFrom, membershipFrom};
+ghost use Rattle.rows.specs.Asked.{answering};
 ghost use Rattle.rows.specs.Table.{table, out};
 ghost use Rattle.lists.specs.Answers.{listed};
-ghost use Rattle.lists.specs.Lists as lists;
-ghost use Rattle.ready_index.specs.Index as index;
-ghost use Rattle.row_entries.specs.Words.{listFrom, linkWords, listWords, leastWords, containedWords, rootWords};
-ghost use Rattle.row_entries.specs.Words.{inWords};
+ghost use Rattle.lists.specs.Calls as lists;
+ghost use Rattle.ready_index.specs.Answers.{treeLeast, treeContains, treeRoot};
+ghost use Rattle.ready_index.specs.Calls as index;
+ghost use Rattle.row_entries.specs.Words.{listFrom, linkWords, listWords, indexWords, containsWords};
 use codec::Row;
 use codec::link_from;
 use codec::membership_from;
 use lists::Listed;
 use lists::push;
 use lists::push_front;
-use ready_index::Contained;
-use ready_index::Least;
 use ready_index::Path;
-use ready_index::Rooted;
+use ready_index::TreeContains;
+use ready_index::TreeLeast;
+use ready_index::TreeRoot;
 use ready_index::contains;
 use ready_index::first;
 use ready_index::insert;
@@ -115,8 +116,8 @@ pub extern "C" fn rows_list_push(
     second: u64,
 ) -> ListAnswer
     ensures { λ r. ⌜ out r (table (now (t .exit)))
-        ≡ inWords listWords (lists.push (table (now (t .entry))) (listFrom «head_some» head «tail_some» tail len) id
-        (membershipFrom tag first second)) ⌝ }
+        ≡ answering listWords (lists.pushCall (table (now (t .entry)))
+        (listFrom «head_some» head «tail_some» tail len) id (membershipFrom tag first second)) ⌝ }
 {
     let list = list_of(head_some, head, tail_some, tail, len);
     let membership = membership_from(tag, first, second);
@@ -138,7 +139,7 @@ pub extern "C" fn rows_list_push_front(
     second: u64,
 ) -> ListAnswer
     ensures { λ r. ⌜ out r (table (now (t .exit)))
-        ≡ inWords listWords (lists.pushFront (table (now (t .entry)))
+        ≡ answering listWords (lists.pushFrontCall (table (now (t .entry)))
         (listFrom «head_some» head «tail_some» tail len) id (membershipFrom tag first second)) ⌝ }
 {
     let list = list_of(head_some, head, tail_some, tail, len);
@@ -161,62 +162,62 @@ pub extern "C" fn rows_list_remove(
     second: u64,
 ) -> ListAnswer
     ensures { λ r. ⌜ out r (table (now (t .exit)))
-        ≡ inWords listWords (lists.remove (table (now (t .entry))) (listFrom «head_some» head «tail_some» tail len) id
-        (membershipFrom tag first second)) ⌝ }
+        ≡ answering listWords (lists.removeCall (table (now (t .entry)))
+        (listFrom «head_some» head «tail_some» tail len) id (membershipFrom tag first second)) ⌝ }
 {
     let list = list_of(head_some, head, tail_some, tail, len);
     let membership = membership_from(tag, first, second);
     list_words(lists::remove(t, list, id, membership))
 }
 
-fn least_words(answer: Least) -> IndexAnswer
-    ensures { λ r. ⌜ r ≡ leastWords answer ⌝ }
+fn least_words(answer: TreeLeast) -> IndexAnswer
+    ensures { λ r. ⌜ r ≡ indexWords (treeLeast answer) ⌝ }
 {
     match answer {
-        Least::None => IndexAnswer {
+        TreeLeast::None => IndexAnswer {
             number: 0,
             thread: LinkWords::NONE,
         },
-        Least::Some(number) => IndexAnswer {
+        TreeLeast::Some(number) => IndexAnswer {
             number: 0,
             thread: LinkWords { some: 1, number },
         },
-        Least::Damaged => IndexAnswer {
-            number: 1,
+        TreeLeast::Refused(refusal) => IndexAnswer {
+            number: refusal.number(),
             thread: LinkWords::NONE,
         },
     }
 }
 
-fn contained_words(answer: Contained) -> ContainsAnswer
-    ensures { λ r. ⌜ r ≡ containedWords answer ⌝ }
+fn contains_words(answer: TreeContains) -> ContainsAnswer
+    ensures { λ r. ⌜ r ≡ containsWords (treeContains answer) ⌝ }
 {
     match answer {
-        Contained::Yes => ContainsAnswer {
+        TreeContains::Yes => ContainsAnswer {
             number: 0,
             holds: 1,
         },
-        Contained::No => ContainsAnswer {
+        TreeContains::No => ContainsAnswer {
             number: 0,
             holds: 0,
         },
-        Contained::Damaged => ContainsAnswer {
-            number: 1,
+        TreeContains::Refused(refusal) => ContainsAnswer {
+            number: refusal.number(),
             holds: 0,
         },
     }
 }
 
-fn root_words(answer: Rooted) -> IndexAnswer
-    ensures { λ r. ⌜ r ≡ rootWords answer ⌝ }
+fn root_words(answer: TreeRoot) -> IndexAnswer
+    ensures { λ r. ⌜ r ≡ indexWords (treeRoot answer) ⌝ }
 {
     match answer {
-        Rooted::Root(root) => IndexAnswer {
+        TreeRoot::Root(root) => IndexAnswer {
             number: 0,
             thread: link_words(root),
         },
-        Rooted::Damaged => IndexAnswer {
-            number: 1,
+        TreeRoot::Refused(refusal) => IndexAnswer {
+            number: refusal.number(),
             thread: LinkWords::NONE,
         },
     }
@@ -225,7 +226,7 @@ fn root_words(answer: Rooted) -> IndexAnswer
 // ready_index::first
 #[no_mangle]
 pub extern "C" fn rows_index_first(t: &[Row], some: u64, number: u64) -> IndexAnswer
-    ensures { λ r. ⌜ r ≡ leastWords (index.first (table (now (t .entry))) (linkFrom some number)) ⌝ }
+    ensures { λ r. ⌜ r ≡ indexWords (index.firstCall (table (now (t .entry))) (linkFrom some number)) ⌝ }
 {
     let root = link_from(some, number);
     least_words(first(t, root))
@@ -234,10 +235,10 @@ pub extern "C" fn rows_index_first(t: &[Row], some: u64, number: u64) -> IndexAn
 // ready_index::contains
 #[no_mangle]
 pub extern "C" fn rows_index_contains(t: &[Row], some: u64, number: u64, id: u64) -> ContainsAnswer
-    ensures { λ r. ⌜ r ≡ containedWords (index.contains (table (now (t .entry))) (linkFrom some number) id) ⌝ }
+    ensures { λ r. ⌜ r ≡ containsWords (index.containsCall (table (now (t .entry))) (linkFrom some number) id) ⌝ }
 {
     let root = link_from(some, number);
-    contained_words(contains(t, root, id))
+    contains_words(contains(t, root, id))
 }
 
 // ready_index::insert, with a path that the caller lends.
@@ -250,7 +251,7 @@ pub extern "C" fn rows_index_insert(
     id: u64,
 ) -> IndexAnswer
     ensures { λ r. ⌜ out r (table (now (t .exit)))
-        ≡ inWords rootWords (index.insert (table (now (t .entry))) (linkFrom some number) id) ⌝ }
+        ≡ answering indexWords (index.insertCall (table (now (t .entry))) (linkFrom some number) id) ⌝ }
 {
     let root = link_from(some, number);
     root_words(insert(t, path, root, id))
@@ -266,7 +267,7 @@ pub extern "C" fn rows_index_remove(
     id: u64,
 ) -> IndexAnswer
     ensures { λ r. ⌜ out r (table (now (t .exit)))
-        ≡ inWords rootWords (index.remove (table (now (t .entry))) (linkFrom some number) id) ⌝ }
+        ≡ answering indexWords (index.removeCall (table (now (t .entry))) (linkFrom some number) id) ⌝ }
 {
     let root = link_from(some, number);
     root_words(ready_index::remove(t, path, root, id))

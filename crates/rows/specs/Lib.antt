@@ -6,3 +6,9 @@ pub mod TableCases
 pub mod RowTableLaws
 -- Laws of reading after a store.
 pub mod TableLaws
+-- What a call on one tree or one list asks first.
+pub mod Asked
+-- What the answers stand for.
+pub mod Answers
+-- Laws by which a call asks that on rows.
+pub mod AskedLaws

@@ -1,6 +1,9 @@
 // The table of records as rows of 32 words, read and changed by a record's number. Each store touches the words of one
 // part.
 ghost use mathlib.Core.Path.{_≡_};
+ghost use Rattle.refusal.specs.Answer.{value, refused};
+ghost use Rattle.rows.specs.Answers.{permissionAnswer};
+ghost use Rattle.rows.specs.Asked.{asked};
 ghost use Rattle.rows.specs.Table.{table, out, linksAt, keyAt, queueLinksAt, setLinks, setLeft, setRight};
 ghost use Rattle.rows.specs.Table.{setHeight, setQueueLinks, setRuntime, setTurn};
 use algorithms::PolicyRuntime;
@@ -15,6 +18,7 @@ use codec::with_queue_links;
 use codec::with_right;
 use codec::with_runtime;
 use codec::with_turn;
+use refusal::Refusal;
 use thread::Link;
 use thread::Links;
 use thread::QueueLinks;
@@ -49,6 +53,27 @@ pub enum RecordRead {
 pub enum Change {
     Made,
     Damaged,
+}
+
+// Whether a call on one tree or one list may be made.
+pub enum Permission {
+    Granted,
+    Refused(Refusal),
+}
+
+// What such a call asks first: at most 4,096 records, then a number below the record count. A queue's call asks more,
+// and between the two.
+pub fn asked(t: &[Row], id: u64) -> Permission
+    ensures { λ r. ⌜ permissionAnswer r ≡ asked (table (now (t .entry))) id refused (value tt) ⌝ }
+{
+    if MAX_RECORDS < t.len() {
+        return Permission::Refused(Refusal::BadTable);
+    }
+    let k = id as usize;
+    if k < t.len() {
+        return Permission::Granted;
+    }
+    Permission::Refused(Refusal::NoThread)
 }
 
 pub fn links_at(t: &[Row], i: u64) -> LinksRead

@@ -36,3 +36,5 @@ pub mod Demand2
 pub mod Sound
 -- A sound tree is balanced and in key order.
 pub mod Soundness
+-- The calls on a tree by itself, with what is refused before.
+pub mod Calls

@@ -26,3 +26,5 @@ pub mod Inside
 pub mod Refusals
 -- Several lists in one table.
 pub mod OtherLists
+-- The calls on a list by itself, with what is refused before.
+pub mod Calls

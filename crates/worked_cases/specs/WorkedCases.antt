@@ -25,6 +25,7 @@ use Rattle.thread.specs.Filing.{budgetAvailable, roleIndex, indexFor, onIndex}
 use Rattle.thread.specs.TreeKey.{algorithmKey, treeKey, readyIndexKey, parts, compareTreeKeys}
 use Rattle.rows.specs.Table.{recordOf, changed, reading, storing, linksAt, keyAt, queueLinksAt, recordAt, setLinks}
 use Rattle.rows.specs.Table.{setQueueLinks, setRuntime, setTurn}
+use Rattle.rows.specs.Asked.{askedTable, asked, answering}
 use Rattle.rows.specs.TableCases.{onLinks, onKey, onQueueLinks, onRecord, onMade}
 use Rattle.lists.specs.Checks.{assignedTo, headAgrees, tailAgrees, endsAgree, preflightInsert, previousValid}
 use Rattle.lists.specs.Checks.{nextValid, validateNeighbors}
@@ -37,6 +38,7 @@ use Rattle.rotations.specs.Balance.{height, larger, update, rotateLeft, rotateR
 use Rattle.ready_index.specs.Index.{descend, first, wayAt, lookFor, contains, onWalk, walk, hung, rebuildStep, rebuild}
 use Rattle.ready_index.specs.Index.{insert, soughtAt, onSearch, search, onSuccessor, successor, replace}
 use Rattle.ready_index.specs.Index as index
+use Rattle.ready_index.specs.Calls as tree
 use Rattle.queue_work.specs.Work.{countedIn, countedOut, totalIn, totalOut, pushAt, insertWork, removeWork}
 use Rattle.queue.specs.Queue.{listOf, partsOf, withParts, worked, isFifo, isBudget, membershipFor, judged, enqueueCall}
 use Rattle.queue.specs.Queue.{partner, onContained, treeWith, removeReady, removeFrom, removeCall}
@@ -77,7 +79,8 @@ unfolding choose ifLess ifEqual given compareNumbers thenBy compareParts onOrder
     onOut setNext setPrevious commitInsert commitRemove append prepend push pushFront updatePreviousLink updateNextLink
     unlink list.remove onHeight onTurned onRooted onWay onSought height larger update rotateLeft rotateRight balanceLeft
     balanceRight balance wayAt lookFor contains onWalk walk hung rebuildStep rebuild insert soughtAt onSearch
-    search onSuccessor successor replace index.remove countedIn countedOut totalIn totalOut pushAt insertWork removeWork
+    search onSuccessor successor replace index.remove askedTable asked answering tree.insertCall tree.removeCall
+    countedIn countedOut totalIn totalOut pushAt insertWork removeWork
     listOf partsOf withParts worked isFifo isBudget membershipFor judged enqueueCall partner onContained treeWith
     removeReady removeFrom removeCall made andAfter then leftBy rises periodStart checkedAdd periodEnd onDeadline
     epochRefreshed ofBudget budget.judged budget.refreshed budget.refreshedJudged setRuntime descend first isReadyOn

@@ -3,39 +3,20 @@
 use core::fmt::Debug;
 
 use kernel::oracle::*;
+use tables::named;
 use tables::queues::{MarkedQueue, QueueWords, queue_of, words_of};
 use tables::rows::{Path, Row};
-use tables::table::{Table, expected};
+use tables::table::{MOST_RECORDS, Table, expected};
 use tables::tally::Tally;
 
 /// Queue, table, path, the thread's number, the processor; the answer is document 01's number.
 type QueueCall = fn(&mut QueueWords, &mut [Row], &mut Path, u64, u8) -> u64;
-
-/// A record's place is 0 to 4,095.
-pub const MOST_RECORDS: usize = 4096;
 
 #[derive(Clone, Copy, Debug)]
 pub enum Call {
     Enqueue,
     EnqueueFront,
     Remove,
-}
-
-/// The name of a call that answered this number, by which comparisons are counted.
-macro_rules! named {
-    ($call:literal, $number:expr) => {
-        match $number {
-            0 => $call,
-            1 => concat!($call, ", Damaged"),
-            2 => concat!($call, ", BadState"),
-            3 => concat!($call, ", Already"),
-            4 => concat!($call, ", NoThread"),
-            9 => concat!($call, ", Halted"),
-            10 => concat!($call, ", BadTable"),
-            11 => concat!($call, ", BadRecord"),
-            _ => concat!($call, ", a number that it does not have"),
-        }
-    };
 }
 
 impl Call {

@@ -77,6 +77,22 @@ pub fn seeded(tally: &mut Tally, random: &mut Random, count: u64, calls: u64) {
     }
 }
 
+/// Tables at the most records and beyond, numbers inside and outside them, and ends so too.
+pub fn limits(tally: &mut Tally, random: &mut Random) {
+    let membership = of_list(random);
+    for count in [4096, 4097, 5000] {
+        for end in [None, Some(0), Some(4096), Some(u64::MAX)] {
+            let mut listed = sound(random, count, 2, membership);
+            listed.list.head = listed.list.head.and(end);
+            for place in [0, 4095, 4096, 4097, 5000, u64::MAX] {
+                for call in Call::ALL {
+                    let _ = listed.call(tally, call, place, membership);
+                }
+            }
+        }
+    }
+}
+
 /// The end of a list as it is, or another.
 fn end(random: &mut Random, count: u64, sound: Option<u64>) -> Option<u64> {
     match random.below(3) {

@@ -4,7 +4,8 @@ use kernel::oracle::*;
 
 use crate::calls::{rows_list_push, rows_list_push_front, rows_list_remove};
 use crate::port;
-use tables::table::{Answer, Table, expected};
+use tables::named;
+use tables::table::{Answer, Table, expected, refused};
 use tables::tally::Tally;
 
 #[derive(Clone, Copy, Debug)]
@@ -18,13 +19,11 @@ impl Call {
     pub const ALL: [Self; 3] = [Self::Push, Self::PushFront, Self::Remove];
 
     fn name(self, given: Answer<()>) -> &'static str {
-        match (self, given.is_ok()) {
-            (Self::Push, true) => "push",
-            (Self::Push, false) => "push, refused",
-            (Self::PushFront, true) => "push_front",
-            (Self::PushFront, false) => "push_front, refused",
-            (Self::Remove, true) => "remove",
-            (Self::Remove, false) => "remove, refused",
+        let number = given.err().unwrap_or(0);
+        match self {
+            Self::Push => named!("push", number),
+            Self::PushFront => named!("push_front", number),
+            Self::Remove => named!("remove", number),
         }
     }
 
@@ -37,8 +36,12 @@ impl Call {
         port::list(call, &mut table.rows, list, id, m)
     }
 
+    /// Document 01's refusals that come before the source's own, then the source.
     fn by_source(self, table: &mut Table, list: &mut List, id: u64, m: Membership) -> Answer<()> {
         let records = &mut table.records;
+        if let Some(number) = refused(records.len(), Some(id)) {
+            return Err(number);
+        }
         expected(match self {
             Self::Push => list_push(list, records, id, m),
             Self::PushFront => list_push_front(list, records, id, m),

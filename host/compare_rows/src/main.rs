@@ -1,8 +1,9 @@
 //! Compares the port's trees and lists over rows with the kernel's own Rust: `compare_rows [--seed N] [--seconds S]`.
 //!
-//! First every order of few keys and paths at their limit, then seeded random runs for S seconds. After each call
-//! the answer, the root or the list, and every record are compared. The last line is `differs 0`, or `differs N` with
-//! the first differing inputs above it and exit code 1.
+//! First every order of few keys, and paths and tables at their limits, then seeded random runs for S seconds. After
+//! each call the answer, the root or the list, and every record are compared. The last line is `differs 0`, or
+//! `differs N` with the first differing inputs above it and exit code 1. The source knows no limit of records, and
+//! hands a number outside back as any other error: what document 01 refuses before, the host knows by rule.
 
 mod calls;
 mod list_runs;
@@ -30,11 +31,13 @@ fn layout(tally: &mut Tally, random: &mut Random) {
     }
 }
 
-/// The layout, every order of few keys, and paths at their limit.
+/// The layout, every order of few keys, paths at their limit, and tables at theirs.
 fn first(tally: &mut Tally, random: &mut Random) {
     layout(tally, random);
     tree_runs::every_order(tally);
     tree_runs::long_paths(tally);
+    tree_runs::limits(tally);
+    list_runs::limits(tally, random);
 }
 
 /// A round of seeded runs: damaged tables, small ones, and a larger one, at times of 4,096.

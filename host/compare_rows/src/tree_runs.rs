@@ -108,6 +108,21 @@ fn each_call(tally: &mut Tally, tree: &Tree) {
     }
 }
 
+/// Tables at the most records and beyond, numbers inside and outside them, and roots so too.
+pub fn limits(tally: &mut Tally) {
+    for count in [4096, 4097, 5000] {
+        for root in [None, Some(0), Some(4095), Some(4096), Some(u64::MAX)] {
+            let mut tree = Tree::of(vec![make::by_turn(7); count], root);
+            let _ = tree.call(tally, Call::First);
+            for place in [0, 4095, 4096, 4097, 5000, u64::MAX] {
+                let _ = tree.call(tally, Call::Contains(place));
+                let _ = tree.call(tally, Call::Insert(place));
+                let _ = tree.call(tally, Call::Remove(place));
+            }
+        }
+    }
+}
+
 /// A sound tree with some links and heights overwritten, or links and heights at random from the start.
 pub fn damaged(tally: &mut Tally, random: &mut Random) {
     let count = 1 + random.below(12);

@@ -3,8 +3,9 @@
 use kernel::oracle::*;
 
 use crate::port;
+use tables::named;
 use tables::rows::{Row, TREE_WORDS, record_of, row_of, tree_words};
-use tables::table::{Answer, Table, expected};
+use tables::table::{Answer, Table, expected, refused};
 use tables::tally::Tally;
 
 #[derive(Clone, Copy, Debug)]
@@ -20,15 +21,20 @@ type Given = Answer<Option<u64>>;
 
 impl Call {
     fn name(self, given: Given) -> &'static str {
-        match (self, given.is_ok()) {
-            (Self::First, true) => "Tree::first",
-            (Self::First, false) => "Tree::first, refused",
-            (Self::Contains(_), true) => "Tree::contains",
-            (Self::Contains(_), false) => "Tree::contains, refused",
-            (Self::Insert(_), true) => "Tree::insert",
-            (Self::Insert(_), false) => "Tree::insert, refused",
-            (Self::Remove(_), true) => "Tree::remove",
-            (Self::Remove(_), false) => "Tree::remove, refused",
+        let number = given.err().unwrap_or(0);
+        match self {
+            Self::First => named!("Tree::first", number),
+            Self::Contains(_) => named!("Tree::contains", number),
+            Self::Insert(_) => named!("Tree::insert", number),
+            Self::Remove(_) => named!("Tree::remove", number),
+        }
+    }
+
+    /// The thread that the call names.
+    fn id(self) -> Option<u64> {
+        match self {
+            Self::First => None,
+            Self::Contains(id) | Self::Insert(id) | Self::Remove(id) => Some(id),
         }
     }
 
@@ -41,7 +47,11 @@ impl Call {
         }
     }
 
+    /// Document 01's refusals that come before the source's own, then the source.
     fn by_records(self, records: &mut [Record], root: &mut Option<u64>) -> Given {
+        if let Some(number) = refused(records.len(), self.id()) {
+            return Err(number);
+        }
         match self {
             Self::First => expected(index_first(*root, records)),
             Self::Contains(id) => {
@@ -53,6 +63,9 @@ impl Call {
     }
 
     fn by_nodes(self, nodes: &mut [Node], root: &mut Option<u64>) -> Given {
+        if let Some(number) = refused(nodes.len(), self.id()) {
+            return Err(number);
+        }
         match self {
             Self::First => expected(tree_first(*root, nodes)),
             Self::Contains(id) => expected(tree_contains(*root, nodes, id)).map(|b| Some(b.into())),

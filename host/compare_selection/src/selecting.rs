@@ -1,9 +1,9 @@
 //! One selection on both sides.
 
-use compare_queue::board::{Board, MOST_RECORDS};
+use compare_queue::board::Board;
 use kernel::oracle::*;
 use tables::rows::Row;
-use tables::table::{Answer, expected};
+use tables::table::{Answer, MOST_RECORDS, expected};
 use tables::tally::Tally;
 use tables::windows::{WindowWords, candidate_of, candidate_words, window_of, window_words};
 

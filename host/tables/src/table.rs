@@ -10,6 +10,9 @@ pub type Answer<T> = Result<T, u64>;
 /// A table of up to so many records is printed whole with a differing call.
 const SHOWN: usize = 64;
 
+/// A record's place is 0 to 4,095.
+pub const MOST_RECORDS: usize = 4096;
+
 /// A record with its place, or none.
 pub type Placed = Option<(usize, Record)>;
 
@@ -64,4 +67,13 @@ pub fn expected<T>(answer: kernel::oracle::Answer<T>) -> Answer<T> {
         Refusal::RecordDisagrees => 11,
         other => panic!("a refusal that these calls do not give: {other:?}"),
     })
+}
+
+/// What document 01 refuses of a tree or a list by itself before the source is asked: more than 4,096 records, then a
+/// number that is not below the record count. `Tree::first` names no thread.
+pub fn refused(records: usize, id: Option<u64>) -> Option<u64> {
+    if records > MOST_RECORDS {
+        return Some(10);
+    }
+    id.filter(|id| *id >= records as u64).map(|_| 4)
 }

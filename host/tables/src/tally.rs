@@ -5,6 +5,24 @@ use core::fmt::Debug;
 /// As many differing inputs as are printed.
 const SHOWN: usize = 5;
 
+/// The name of a call that answered this number, by which comparisons are counted.
+#[macro_export]
+macro_rules! named {
+    ($call:literal, $number:expr) => {
+        match $number {
+            0 => $call,
+            1 => concat!($call, ", Damaged"),
+            2 => concat!($call, ", BadState"),
+            3 => concat!($call, ", Already"),
+            4 => concat!($call, ", NoThread"),
+            9 => concat!($call, ", Halted"),
+            10 => concat!($call, ", BadTable"),
+            11 => concat!($call, ", BadRecord"),
+            _ => concat!($call, ", a number that it does not have"),
+        }
+    };
+}
+
 #[derive(Default)]
 pub struct Tally {
     counts: Vec<(&'static str, u64)>,

@@ -1,14 +1,21 @@
--- The one call of both ends.
+-- What is asked first, then the one call of both ends.
+use Rattle.rows.specs.AskedLaws.{askings}
 use Rattle.refusal.specs.Cases.{choose}
+use Rattle.lists.specs.Calls.{pushCall}
 use borrow.Author.Needs.{needs}
 use Rattle.lists.proofs.push.Statement.{statement}
 use Rattle.lists.proofs.push.Tie as tie
 
 pub push-spec : {M : Type 1} → statement M
-unfolding choose
+unfolding choose pushCall
 push-spec =
     tie.close
     (tie.spec
     (λ c κs. search needs)
     (λ c. search needs)
-    (λ c. search needs))
+    (λ c κs. search needs)
+    (λ c. search needs)
+    (λ c. search needs)
+    (λ c. search askings depth 8)
+    (λ c. search needs)
+    (λ c. search askings depth 8))

@@ -1,31 +1,20 @@
--- The read, the three tests and the stores, in order; the length can fall, since it is not 0.
-use Rattle.refusal.specs.Cases.{cases}
-use Rattle.rows.specs.TableCases.{tables}
-use Rattle.lists.specs.ListsLaws.{listings}
-use Rattle.lists.specs.Lists.{remove}
+-- What is asked first, then the removal.
+use Rattle.rows.specs.AskedLaws.{askings}
+use Rattle.lists.specs.Calls.{removeCall}
 use borrow.Author.Needs.{needs}
 use Rattle.lists.proofs.remove.Statement.{statement}
 use Rattle.lists.proofs.remove.Tie as tie
 
 pub remove-spec : {M : Type 1} → statement M
-unfolding remove
+unfolding removeCall
 remove-spec =
     tie.close
     (tie.spec
     (λ c κs. search needs)
     (λ c. search needs)
-    (λ c. search needs)
-    (λ c. search needs)
-    (λ c. search (cases, tables, listings) depth 8)
     (λ c κs. search needs)
     (λ c. search needs)
-    (λ c. search (cases, tables, listings) depth 8)
     (λ c. search needs)
-    (λ c. search (cases, tables, listings) depth 8)
-    (λ c κs. search needs)
+    (λ c. search askings depth 8)
     (λ c. search needs)
-    (λ c. search (cases, tables, listings) depth 8)
-    (λ c. search needs)
-    (λ c κs. search needs)
-    (λ c. search needs)
-    (λ c. search (cases, tables, listings) depth 8))
+    (λ c. search askings depth 8))

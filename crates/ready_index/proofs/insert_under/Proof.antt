@@ -3,12 +3,12 @@ use Rattle.ready_index.specs.CasesLaws.{answers}
 use Rattle.ready_index.specs.Index.{insert}
 use Rattle.ready_index.specs.WaysLaws.{insert-lent}
 use borrow.Author.Needs.{needs}
-use Rattle.ready_index.proofs.insert.Statement.{statement}
-use Rattle.ready_index.proofs.insert.Tie as tie
+use Rattle.ready_index.proofs.insert_under.Statement.{statement}
+use Rattle.ready_index.proofs.insert_under.Tie as tie
 
-pub insert-spec : {M : Type 1} → statement M
+pub insert-under-spec : {M : Type 1} → statement M
 unfolding insert
-insert-spec =
+insert-under-spec =
     tie.close
     (tie.spec
     (λ c κs. search needs)

@@ -2,12 +2,12 @@
 use Rattle.ready_index.specs.CasesLaws.{answers}
 use Rattle.ready_index.specs.Index.{contains}
 use borrow.Author.Needs.{needs}
-use Rattle.ready_index.proofs.contains.Statement.{statement}
-use Rattle.ready_index.proofs.contains.Tie as tie
+use Rattle.ready_index.proofs.contains_under.Statement.{statement}
+use Rattle.ready_index.proofs.contains_under.Tie as tie
 
-pub contains-spec : {M : Type 1} → statement M
+pub contains-under-spec : {M : Type 1} → statement M
 unfolding contains
-contains-spec =
+contains-under-spec =
     tie.close
     (tie.spec
     (λ c κs. search needs)

@@ -2,12 +2,12 @@
 use Rattle.ready_index.specs.CasesLaws.{answers}
 use Rattle.ready_index.specs.Index.{first}
 use borrow.Author.Needs.{needs}
-use Rattle.ready_index.proofs.first.Statement.{statement}
-use Rattle.ready_index.proofs.first.Tie as tie
+use Rattle.ready_index.proofs.first_under.Statement.{statement}
+use Rattle.ready_index.proofs.first_under.Tie as tie
 
-pub first-spec : {M : Type 1} → statement M
+pub first-under-spec : {M : Type 1} → statement M
 unfolding first
-first-spec =
+first-under-spec =
     tie.close
     (tie.spec
     (λ c. search needs)

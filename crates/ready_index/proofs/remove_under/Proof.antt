@@ -3,12 +3,12 @@ use Rattle.ready_index.specs.CasesLaws.{answers}
 use Rattle.ready_index.specs.Index.{remove}
 use Rattle.ready_index.specs.WaysLaws.{remove-lent}
 use borrow.Author.Needs.{needs}
-use Rattle.ready_index.proofs.remove.Statement.{statement}
-use Rattle.ready_index.proofs.remove.Tie as tie
+use Rattle.ready_index.proofs.remove_under.Statement.{statement}
+use Rattle.ready_index.proofs.remove_under.Tie as tie
 
-pub remove-spec : {M : Type 1} → statement M
+pub remove-under-spec : {M : Type 1} → statement M
 unfolding remove
-remove-spec =
+remove-under-spec =
     tie.close
     (tie.spec
     (λ c κs. search needs)

@@ -1,0 +1,21 @@
+-- What is asked first, then the insertion.
+use Rattle.ready_index.specs.CallsLaws.{calls}
+use Rattle.ready_index.specs.Calls.{insertCall}
+use borrow.Author.Needs.{needs}
+use Rattle.ready_index.proofs.calls.insert.Statement.{statement}
+use Rattle.ready_index.proofs.calls.insert.Tie as tie
+
+pub insert-spec : {M : Type 1} → statement M
+unfolding insertCall
+insert-spec =
+    tie.close
+    (tie.spec
+    (λ c κs. search needs)
+    (λ c. search needs)
+    (λ c κs. search needs)
+    (λ c κs. search needs)
+    (λ c. search needs)
+    (λ c. search needs)
+    (λ c. search calls depth 8)
+    (λ c. search needs)
+    (λ c. search calls depth 8))

@@ -1,0 +1,21 @@
+-- What is asked first, then the removal.
+use Rattle.ready_index.specs.CallsLaws.{calls}
+use Rattle.ready_index.specs.Calls.{removeCall}
+use borrow.Author.Needs.{needs}
+use Rattle.ready_index.proofs.calls.remove.Statement.{statement}
+use Rattle.ready_index.proofs.calls.remove.Tie as tie
+
+pub remove-spec : {M : Type 1} → statement M
+unfolding removeCall
+remove-spec =
+    tie.close
+    (tie.spec
+    (λ c κs. search needs)
+    (λ c. search needs)
+    (λ c κs. search needs)
+    (λ c κs. search needs)
+    (λ c. search needs)
+    (λ c. search needs)
+    (λ c. search calls depth 8)
+    (λ c. search needs)
+    (λ c. search calls depth 8))
