@@ -2,3 +2,5 @@
 pub mod LentQueue
 -- What a read gives and a store leaves, of that queue.
 pub mod LentLaws
+-- That a refusal leaves every word.
+pub mod SparedLaws

@@ -2,10 +2,12 @@
 // counts that a call touches are read and stored. After `CpuRunQueue` of scheduler/queue.rs.
 ghost use Prim.Native.Nat.{_<_};
 ghost use mathlib.Core.Path.{_≡_};
+ghost use mathlib.Core.Bool.{true};
 ghost use lib.ListN.{getD, length, set};
 ghost use Rattle.thread.specs.Membership.{emptyQueue};
 ghost use Rattle.rows.specs.Table.{table, out};
-ghost use Rattle.queue_work.specs.Work.{workOf};
+ghost use Rattle.rows.specs.Unmoved.{Spared};
+ghost use Rattle.queue_work.specs.Work.{workOf, Untouched};
 ghost use Rattle.queue.specs.Queue as calls;
 ghost use Rattle.queue.specs.Plan as plans;
 ghost use Rattle.queue.specs.Answers.{verdictAnswer};
@@ -287,6 +289,7 @@ fn settle(q: &mut QueueRows, membership: QueueMembership, index: u64, worked: Wo
     requires { ⌜ index < treeCount ⌝ }
     ensures { λ r. ⌜ calls.step (verdictAnswer r) (queueOf (now (q .exit)))
         ≡ plans.settled (queueOf (now (q .entry))) membership index (workOf worked) ⌝ }
+    ensures { λ r. ⌜ Untouched (workOf worked) (now (q .entry)) (now (q .exit)) ⌝ }
 {
     match worked {
         Worked::Refused(refusal) => Verdict::Refused(refusal),
@@ -312,6 +315,8 @@ fn insert_by(
     requires { ⌜ plan .index < treeCount ⌝ }
     ensures { λ r. ⌜ out (calls.step (verdictAnswer r) (queueOf (now (q .exit)))) (table (now (t .exit)))
         ≡ plans.insertBy front (table (now (t .entry))) (queueOf (now (q .entry))) id plan ⌝ }
+    ensures { λ r. ⌜ Spared (verdictAnswer r) (now (q .entry)) (now (q .exit)) ⌝ }
+    ensures { λ r. ⌜ Spared (verdictAnswer r) (now (t .entry)) (now (t .exit)) ⌝ }
 {
     let membership = plan.membership;
     let parts = parts_of(q, membership, plan.index);
@@ -332,6 +337,8 @@ fn remove_by(q: &mut QueueRows, t: &mut [Row], path: &mut Path, id: u64, plan: P
     requires { ⌜ plan .index < treeCount ⌝ }
     ensures { λ r. ⌜ out (calls.step (verdictAnswer r) (queueOf (now (q .exit)))) (table (now (t .exit)))
         ≡ plans.removeBy (table (now (t .entry))) (queueOf (now (q .entry))) id plan ⌝ }
+    ensures { λ r. ⌜ Spared (verdictAnswer r) (now (q .entry)) (now (q .exit)) ⌝ }
+    ensures { λ r. ⌜ Spared (verdictAnswer r) (now (t .entry)) (now (t .exit)) ⌝ }
 {
     let membership = plan.membership;
     let parts = parts_of(q, membership, plan.index);
@@ -351,6 +358,8 @@ fn remove_filed(
     requires { ⌜ filed .index < treeCount ⌝ }
     ensures { λ r. ⌜ out (calls.step (verdictAnswer r) (queueOf (now (q .exit)))) (table (now (t .exit)))
         ≡ plans.removeFiled (table (now (t .entry))) (queueOf (now (q .entry))) id cpu filed ⌝ }
+    ensures { λ r. ⌜ Spared (verdictAnswer r) (now (q .entry)) (now (q .exit)) ⌝ }
+    ensures { λ r. ⌜ Spared (verdictAnswer r) (now (t .entry)) (now (t .exit)) ⌝ }
 {
     let root = root_at(q, filed.index);
     let beside = partner(filed.index);
@@ -402,6 +411,10 @@ pub fn enqueue_lent(
 ) -> Verdict
     ensures { λ r. ⌜ out (calls.step (verdictAnswer r) (queueOf (now (q .exit)))) (table (now (t .exit)))
         ≡ calls.enqueueCall front (table (now (t .entry))) (queueOf (now (q .entry))) (id .0) cpu ⌝ }
+    ensures { λ r. ⌜ Spared (verdictAnswer r) (now (q .entry)) (now (q .exit)) ⌝ }
+    ensures { λ r. ⌜ Spared (verdictAnswer r) (now (t .entry)) (now (t .exit)) ⌝ }
+    ensures { λ r. ⌜ (queueOf (now (q .entry)) .halted ≡ true → now (q .exit) ≡ now (q .entry)) ⌝ }
+    ensures { λ r. ⌜ (queueOf (now (q .entry)) .halted ≡ true → now (t .exit) ≡ now (t .entry)) ⌝ }
 {
     let halted = is_halted(q);
     let planned = insertion_plan(t, halted, id.0, cpu);
@@ -421,6 +434,10 @@ pub fn remove_lent(
 ) -> Verdict
     ensures { λ r. ⌜ out (calls.step (verdictAnswer r) (queueOf (now (q .exit)))) (table (now (t .exit)))
         ≡ calls.removeCall (table (now (t .entry))) (queueOf (now (q .entry))) (id .0) cpu ⌝ }
+    ensures { λ r. ⌜ Spared (verdictAnswer r) (now (q .entry)) (now (q .exit)) ⌝ }
+    ensures { λ r. ⌜ Spared (verdictAnswer r) (now (t .entry)) (now (t .exit)) ⌝ }
+    ensures { λ r. ⌜ (queueOf (now (q .entry)) .halted ≡ true → now (q .exit) ≡ now (q .entry)) ⌝ }
+    ensures { λ r. ⌜ (queueOf (now (q .entry)) .halted ≡ true → now (t .exit) ≡ now (t .entry)) ⌝ }
 {
     let halted = is_halted(q);
     let judgement = judge(t, halted, id.0);

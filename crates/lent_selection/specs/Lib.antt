@@ -2,3 +2,5 @@
 pub mod LentParts
 -- Laws by which the functions meet the definitions.
 pub mod LentLaws
+-- What is refused before anything is looked at.
+pub mod Early

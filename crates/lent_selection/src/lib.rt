@@ -11,6 +11,7 @@ ghost use Rattle.selection.specs.Peek as peek;
 ghost use Rattle.selection.specs.Steps.{lookedAt};
 ghost use Rattle.selection.specs.Answers.{peekAnswer, lookedOf};
 ghost use Rattle.lent_selection.specs.LentParts.{withEpoch, withMark, renewedRoots, renewedQueue, runningQueue};
+ghost use Rattle.lent_selection.specs.Early.{Early};
 use arbitration::CpuWindow;
 use codec::Row;
 use demands::CandidateOption;
@@ -171,6 +172,8 @@ pub fn peek_lent(
     ensures { λ r. ⌜ out (peek.peeked (peekAnswer (r .answer)) (r .window) (queueOf (now (q .exit))))
         (table (now (t .exit))) ≡ peek.peekNext (table (now (t .entry)))
         (queueOf (now (q .entry))) cpu reading window current ⌝ }
+    ensures { λ r. ⌜ (Early (now (t .entry)) window (queueOf (now (q .entry))) → now (q .exit) ≡ now (q .entry)) ⌝ }
+    ensures { λ r. ⌜ (Early (now (t .entry)) window (queueOf (now (q .entry))) → now (t .exit) ≡ now (t .entry)) ⌝ }
 {
     let config = window.config;
     if MAX_RECORDS < t.len() {

@@ -9,6 +9,7 @@ ghost use Rattle.thread.specs.Membership.{isUnqueued};
 ghost use Rattle.thread.specs.Records.{withQueueLinks};
 ghost use Rattle.codec.specs.Codec.{decoded};
 ghost use Rattle.rows.specs.Table.{table, out};
+ghost use Rattle.rows.specs.Unmoved.{Unmoved};
 ghost use Rattle.lists.specs.Checks.{assignedTo, headAgrees, tailAgrees, endsAgree, preflightInsert};
 ghost use Rattle.lists.specs.Checks.{previousValid, nextValid, validateNeighbors};
 ghost use Rattle.lists.specs.Lists.{withNext, withPrevious, setNext, setPrevious, commitInsert, commitRemove};
@@ -354,6 +355,7 @@ pub fn push_at(
     ensures { λ r. ⌜ out (listed r) (table (now (t .exit)))
         ≡ choose front (pushFront (table (now (t .entry))) queue id membership)
         (push (table (now (t .entry))) queue id membership) ⌝ }
+    ensures { λ r. ⌜ Unmoved (listed r) (now (t .entry)) (now (t .exit)) ⌝ }
 {
     let preflight = preflight_insert(t, queue, id, membership);
     match preflight {
@@ -365,6 +367,7 @@ pub fn push_at(
 // The thread becomes the list's last.
 pub fn push(t: &mut [Row], queue: ThreadQueue, id: u64, membership: QueueMembership) -> Listed
     ensures { λ r. ⌜ out (listed r) (table (now (t .exit))) ≡ pushCall (table (now (t .entry))) queue id membership ⌝ }
+    ensures { λ r. ⌜ Unmoved (listed r) (now (t .entry)) (now (t .exit)) ⌝ }
 {
     let permission = asked(t, id);
     match permission {
@@ -377,6 +380,7 @@ pub fn push(t: &mut [Row], queue: ThreadQueue, id: u64, membership: QueueMembers
 pub fn push_front(t: &mut [Row], queue: ThreadQueue, id: u64, membership: QueueMembership) -> Listed
     ensures { λ r. ⌜ out (listed r) (table (now (t .exit)))
         ≡ pushFrontCall (table (now (t .entry))) queue id membership ⌝ }
+    ensures { λ r. ⌜ Unmoved (listed r) (now (t .entry)) (now (t .exit)) ⌝ }
 {
     let permission = asked(t, id);
     match permission {
@@ -488,6 +492,7 @@ pub fn remove_from(
     membership: QueueMembership,
 ) -> Listed
     ensures { λ r. ⌜ out (listed r) (table (now (t .exit))) ≡ remove (table (now (t .entry))) queue id membership ⌝ }
+    ensures { λ r. ⌜ Unmoved (listed r) (now (t .entry)) (now (t .exit)) ⌝ }
 {
     let QueueLinksRead::Got(links) = queue_links_at(t, id) else {
         return Listed::Refused(Refusal::Damaged);
@@ -509,6 +514,7 @@ pub fn remove_from(
 pub fn remove(t: &mut [Row], queue: ThreadQueue, id: u64, membership: QueueMembership) -> Listed
     ensures { λ r. ⌜ out (listed r) (table (now (t .exit)))
         ≡ removeCall (table (now (t .entry))) queue id membership ⌝ }
+    ensures { λ r. ⌜ Unmoved (listed r) (now (t .entry)) (now (t .exit)) ⌝ }
 {
     let permission = asked(t, id);
     match permission {

@@ -2,6 +2,7 @@
 -- number of budget threads. Where the source halts, the parts are as it had stored them. After `CpuRunQueue::insert`
 -- and `remove` of scheduler/queue.rs.
 use Prim.Native.Nat.{ℕ, _+_, _-_}
+use mathlib.Core.Path.{_≡_}
 use mathlib.Core.Bool.{Bool, true, false}
 use mathlib.Core.List.{List}
 use Rattle.refusal.specs.Answer.{Answer, value, refused, numberOf, damaged}
@@ -26,6 +27,18 @@ pub data Work : Type 0 where
   done : Parts → Work
   turnedDown : ℕ → Work
   halts : Parts → Work
+
+-- What a refused work leaves is what was there, word for word.
+abbrev pub Untouched : {B : Type 0} → Work → B → B → Type 0
+Untouched (done p) before after = Unit {0}
+Untouched (turnedDown n) before after = after ≡ before
+Untouched (halts p) before after = Unit {0}
+
+-- The work was not refused.
+abbrev pub Stores : Work → Type 0
+Stores (done p) = Unit {0}
+Stores (turnedDown n) = ⊥
+Stores (halts p) = Unit {0}
 
 -- Document 01's number, or the values, of each answer.
 abbrev pub workOf : Worked → Work

@@ -126,6 +126,7 @@ fn counted_out(budgeted: bool, parts: Parts) -> Worked
 fn insert_into_tree(t: &mut [Row], path: &mut Path, parts: Parts, id: u64, budgeted: bool) -> Worked
     ensures { λ r. ⌜ out (work.workOf r) (table (now (t .exit)))
         ≡ work.treeInserted budgeted (table (now (t .entry))) parts id ⌝ }
+    ensures { λ r. ⌜ work.Stores (work.workOf r) ⌝ }
 {
     let list = parts.list;
     let realtime_len = parts.realtime_len;
@@ -152,6 +153,7 @@ fn insert_into_tree(t: &mut [Row], path: &mut Path, parts: Parts, id: u64, budge
 fn remove_from_tree(t: &mut [Row], path: &mut Path, parts: Parts, id: u64, budgeted: bool) -> Worked
     ensures { λ r. ⌜ out (work.workOf r) (table (now (t .exit)))
         ≡ work.treeRemoved budgeted (table (now (t .entry))) parts id ⌝ }
+    ensures { λ r. ⌜ work.Stores (work.workOf r) ⌝ }
 {
     let list = parts.list;
     let realtime_len = parts.realtime_len;
@@ -187,6 +189,7 @@ pub fn insert_work(
 ) -> Worked
     ensures { λ r. ⌜ out (work.workOf r) (table (now (t .exit)))
         ≡ work.insertWork front fifo budgeted (table (now (t .entry))) parts id membership ⌝ }
+    ensures { λ r. ⌜ work.Untouched (work.workOf r) (now (t .entry)) (now (t .exit)) ⌝ }
 {
     let queue = parts.list;
     let root = parts.root;
@@ -227,6 +230,7 @@ pub fn remove_work(
 ) -> Worked
     ensures { λ r. ⌜ out (work.workOf r) (table (now (t .exit)))
         ≡ work.removeWork fifo budgeted (table (now (t .entry))) parts id membership ⌝ }
+    ensures { λ r. ⌜ work.Untouched (work.workOf r) (now (t .entry)) (now (t .exit)) ⌝ }
 {
     let queue = parts.list;
     let root = parts.root;

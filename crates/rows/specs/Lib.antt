@@ -12,3 +12,5 @@ pub mod Asked
 pub mod Answers
 -- Laws by which a call asks that on rows.
 pub mod AskedLaws
+-- What a refusal leaves, word for word.
+pub mod Unmoved

@@ -1,5 +1,4 @@
 -- What each answer of the crate stands for: document 01's number, or its values.
-use mathlib.Core.Path.{_≡_}
 use mathlib.Core.Bool.{Bool}
 use Rattle.refusal.specs.Answer.{Answer, value, refused, numberOf}
 use Rattle.arbitration.specs.Answers.{verdictOf}
@@ -15,8 +14,3 @@ preparedAnswer p = counted (verdictOf (p .answer)) (p .turns)
 abbrev pub expiredAnswer : ExpiredAnswer → Answer Bool
 expiredAnswer (expired.Expired b) = value b
 expiredAnswer (expired.Refused n) = refused (numberOf n)
-
--- A refusal leaves what was there, word for word.
-abbrev pub Unmoved : {A B : Type 0} → Answer A → B → B → Type 0
-Unmoved (value a) before after = Unit {0}
-Unmoved (refused n) before after = after ≡ before

@@ -1,12 +1,12 @@
 -- Laws by which a refusal leaves every word: nothing was stored before it, or the call cannot refuse any more.
 use Prim.Native.Nat.{ℕ, _<_}
 use mathlib.Core.Path.{_≡_, refl, sym, ap, _∙_, subst}
-use mathlib.Core.Bool.{Bool, true, false, not}
+use mathlib.Core.Bool.{Bool, true, false}
 use mathlib.Core.List.{List}
 use lib.Dec.{ltb}
 use borrow.Author.Tests.{lt-ltb, ltb-true}
 use Rattle.refusal.specs.Answer.{Answer, value, refused, badBudget, backInTime}
-use Rattle.refusal.specs.Cases.{never, choose, given, ifLess}
+use Rattle.refusal.specs.Cases.{choose, given, ifLess}
 use Rattle.time.specs.declared.Deadline.{Deadline}
 use Rattle.time.specs.declared.Deadline.the-variants as deadline
 use Rattle.policy.specs.declared.BudgetParameters.{BudgetParameters}
@@ -28,17 +28,8 @@ use Rattle.arbitration.specs.Window.{refreshed, nextDeadline}
 use Rattle.arbitration.specs.Window as window
 use Rattle.arbitration.specs.Answers.{verdictOf, windowStep, windowDeadline}
 use Rattle.arbitration.specs.Calls.{With, with, judged, accountCall, nextDeadlineCall}
-use Rattle.runtime.specs.Answers.{Unmoved}
+use Rattle.rows.specs.Unmoved.{Unmoved, as-it-was}
 use Rattle.runtime.specs.Rows.{earlierOf}
-
-pub as-it-was : {A B : Type 0} {b c : B} (x : Answer A) → c ≡ b → Unmoved x b c
-as-it-was (value a) e = tt
-as-it-was (refused n) e = e
-
--- What is given up where a thread runs.
-pub runs : {B : Type 0} (b c : B) (x : Bool) → not x ≡ false → x ≡ false → c ≡ b
-runs b c true e f = never cc
-runs b c false e f = never cc
 
 -- A runtime is an answer.
 pub runtime-stored : (b c : List (List ℕ)) {a : BudgetAnswer} {r : BudgetRuntime} → a ≡ made.Runtime r
@@ -93,4 +84,4 @@ due-answered b c r step own w now m competition d s e f = go competition (rw s a
     go true h = answered _ _ h
     go false h = answered _ _ h
 
-pub ruleset unmoving = (as-it-was, runs, runtime-stored, not-charged, not-accounted, due-answered)
+pub ruleset refusing = (runtime-stored, not-charged, not-accounted, due-answered)

@@ -20,7 +20,8 @@ ghost use Rattle.runtime.specs.Account.{accountCurrent, finishTurn, pass
 ghost use Rattle.runtime.specs.Account.{expired};
 ghost use Rattle.runtime.specs.Rows.{wholeBurst, chargedRow, accountedRow, accountAt, finishedRow, candidateRow};
 ghost use Rattle.runtime.specs.Rows.{refreshedRow, candidateAt};
-ghost use Rattle.runtime.specs.Answers.{expiredAnswer, Unmoved};
+ghost use Rattle.rows.specs.Unmoved.{Unmoved};
+ghost use Rattle.runtime.specs.Answers.{expiredAnswer};
 use crate::ExpiredAnswer;
 use crate::judging::budget_parameters;
 use crate::judging::budget_runtime;

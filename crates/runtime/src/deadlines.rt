@@ -12,7 +12,7 @@ ghost use Rattle.arbitration.specs.Answers.{windowDeadline};
 ghost use Rattle.runtime.specs.Deadline.{refreshDeadline};
 ghost use Rattle.runtime.specs.Rows.{sliceEnd, refreshedEnd, budgetEnd, ownEnd, earlierOf, dueRow, keylessDue};
 ghost use Rattle.runtime.specs.Rows.{deadlineAt};
-ghost use Rattle.runtime.specs.Answers.{Unmoved};
+ghost use Rattle.rows.specs.Unmoved.{Unmoved};
 use crate::judging::budget_parameters;
 use crate::judging::budget_runtime;
 use crate::judging::is_bad_at;

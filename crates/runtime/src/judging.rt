@@ -10,7 +10,7 @@ ghost use Rattle.rows.specs.Table.{table};
 ghost use Rattle.budget.specs.Answers.{budgetAnswer};
 ghost use Rattle.queue.specs.RowJudgement.{budgetRuntime, budgetParameters};
 ghost use Rattle.runtime.specs.Rows.{badBudget, budgetStored};
-ghost use Rattle.runtime.specs.Answers.{Unmoved};
+ghost use Rattle.rows.specs.Unmoved.{Unmoved};
 use algorithms::PolicyRuntime;
 use budget::BudgetAnswer;
 use budget::BudgetRuntime;

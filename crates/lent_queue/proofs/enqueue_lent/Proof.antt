@@ -1,6 +1,8 @@
 -- The mark, the plan and its work; the tree of a plan is one of the twelve.
 use Rattle.lent_queue.specs.LentLaws.{lending}
 use Rattle.queue.specs.PlanLaws.{bounds}
+use Rattle.rows.specs.Unmoved.{unmoving}
+use Rattle.lent_queue.specs.SparedLaws.{sparing}
 use borrow.Author.Needs.{needs}
 use Rattle.lent_queue.proofs.enqueue_lent.Statement.{statement}
 use Rattle.lent_queue.proofs.enqueue_lent.Tie as tie
@@ -15,6 +17,12 @@ enqueue-lent-spec =
     (λ c. search needs)
     (λ c κs. search (lending, bounds) depth 8)
     (λ c. search needs)
-    (λ c. search (lending, bounds) depth 8)
+    (λ c. (
+      search (lending, bounds) depth 8,
+      (search unmoving, (search unmoving, (search (unmoving, sparing), search (unmoving, sparing)))),
+    ))
     (λ c. search needs)
-    (λ c. search (lending, bounds) depth 8))
+    (λ c. (
+      search (lending, bounds) depth 8,
+      (search unmoving, (search unmoving, (search (unmoving, sparing), search (unmoving, sparing)))),
+    )))

@@ -2,6 +2,7 @@
 use Rattle.refusal.specs.Cases.{cases}
 use Rattle.queue.specs.PlanLaws.{plannings}
 use Rattle.queue.specs.Plan.{insertBy}
+use Rattle.lent_queue.specs.SparedLaws.{sparing}
 use borrow.Author.Needs.{needs}
 use Rattle.lent_queue.proofs.insert_by.Statement.{statement}
 use Rattle.lent_queue.proofs.insert_by.Tie as tie
@@ -15,4 +16,4 @@ insert-by-spec =
     (λ c κs. search needs)
     (λ c κs. search needs)
     (λ c. search needs)
-    (λ c. search (cases, plannings) depth 8))
+    (λ c. (search (cases, plannings) depth 8, (search sparing, search sparing))))

@@ -28,4 +28,4 @@ remove-from-spec =
     (λ c. search needs)
     (λ c κs. search needs)
     (λ c. search needs)
-    (λ c. search (cases, tables, listings) depth 8))
+    (λ c. (search (cases, tables, listings) depth 8, search needs)))

@@ -1,5 +1,5 @@
 -- The total, the list and the tree, in order.
-use Rattle.queue_work.specs.WorkLaws.{works}
+use Rattle.queue_work.specs.WorkLaws.{works, storing}
 use Rattle.queue_work.specs.Work.{insertWork, pushAt}
 use borrow.Author.Needs.{needs}
 use Rattle.queue_work.proofs.insert_work.Statement.{statement}
@@ -17,8 +17,8 @@ insert-work-spec =
     (λ c. search needs)
     (λ c. search needs)
     (λ c κs. search needs)
-    (λ c. search (works) depth 8)
+    (λ c. (search (works) depth 8, search storing))
     (λ c. search needs)
-    (λ c. search (works) depth 8)
+    (λ c. (search (works) depth 8, search storing))
     (λ c. search needs)
-    (λ c. search (works) depth 8))
+    (λ c. (search (works) depth 8, search storing)))

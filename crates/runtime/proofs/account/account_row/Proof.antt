@@ -1,6 +1,7 @@
 -- The budget, then the window.
 use Rattle.runtime.specs.RuntimeLaws.{budgets}
-use Rattle.runtime.specs.UnmovedLaws.{unmoving}
+use Rattle.rows.specs.Unmoved.{unmoving}
+use Rattle.runtime.specs.UnmovedLaws.{refusing}
 use borrow.Author.Needs.{needs}
 use Rattle.runtime.proofs.account.account_row.Statement.{statement}
 use Rattle.runtime.proofs.account.account_row.Tie as tie
@@ -15,4 +16,4 @@ account-row-spec =
     (λ c κs. search needs)
     (λ c κs. search needs)
     (λ c. search needs)
-    (λ c. search (budgets, unmoving) depth 8))
+    (λ c. search (budgets, unmoving, refusing) depth 8))

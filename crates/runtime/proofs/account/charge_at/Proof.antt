@@ -2,7 +2,8 @@
 use Rattle.refusal.specs.Cases.{cases}
 use Rattle.runtime.specs.Rows.{chargedRow}
 use Rattle.runtime.specs.RuntimeLaws.{budgets}
-use Rattle.runtime.specs.UnmovedLaws.{unmoving}
+use Rattle.rows.specs.Unmoved.{unmoving}
+use Rattle.runtime.specs.UnmovedLaws.{refusing}
 use borrow.Author.Needs.{needs}
 use Rattle.runtime.proofs.account.charge_at.Statement.{statement}
 use Rattle.runtime.proofs.account.charge_at.Tie as tie
@@ -22,5 +23,5 @@ charge-at-spec =
     (λ c κs. search needs)
     (λ c κs. search needs)
     (λ c. search needs)
-    (λ c. search (cases, budgets, unmoving) depth 8)
-    (λ c. search (cases, budgets, unmoving) depth 8))
+    (λ c. search (cases, budgets, unmoving, refusing) depth 8)
+    (λ c. search (cases, budgets, unmoving, refusing) depth 8))

@@ -1,6 +1,6 @@
 -- The table's length, then the judgement.
 use Rattle.runtime.specs.RuntimeLaws.{ways}
-use Rattle.runtime.specs.UnmovedLaws.{unmoving}
+use Rattle.rows.specs.Unmoved.{unmoving}
 use borrow.Author.Needs.{needs}
 use Rattle.runtime.proofs.account.current_candidate.Statement.{statement}
 use Rattle.runtime.proofs.account.current_candidate.Tie as tie

@@ -1,6 +1,6 @@
 -- One law for each way through the judgement.
 use Rattle.runtime.specs.RuntimeLaws.{ways}
-use Rattle.runtime.specs.UnmovedLaws.{unmoving}
+use Rattle.rows.specs.Unmoved.{unmoving}
 use borrow.Author.Needs.{needs}
 use Rattle.runtime.proofs.deadlines.due_at.Statement.{statement}
 use Rattle.runtime.proofs.deadlines.due_at.Tie as tie

@@ -1,6 +1,7 @@
 -- The thread's own, the window's, the earlier of the two.
 use Rattle.runtime.specs.RuntimeLaws.{budgets}
-use Rattle.runtime.specs.UnmovedLaws.{unmoving}
+use Rattle.rows.specs.Unmoved.{unmoving}
+use Rattle.runtime.specs.UnmovedLaws.{refusing}
 use borrow.Author.Needs.{needs}
 use Rattle.runtime.proofs.deadlines.due_with.Statement.{statement}
 use Rattle.runtime.proofs.deadlines.due_with.Tie as tie
@@ -13,4 +14,4 @@ due-with-spec =
     (λ c κs. search needs)
     (λ c κs. search needs)
     (λ c. search needs)
-    (λ c. search (budgets, unmoving) depth 8))
+    (λ c. search (budgets, unmoving, refusing) depth 8))

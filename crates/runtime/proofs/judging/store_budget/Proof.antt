@@ -1,7 +1,8 @@
 -- A runtime is stored, a refusal is not.
 use Rattle.runtime.specs.Rows.{budgetStored}
 use Rattle.runtime.specs.RuntimeLaws.{budgets}
-use Rattle.runtime.specs.UnmovedLaws.{unmoving}
+use Rattle.rows.specs.Unmoved.{unmoving}
+use Rattle.runtime.specs.UnmovedLaws.{refusing}
 use borrow.Author.Needs.{needs}
 use Rattle.runtime.proofs.judging.store_budget.Statement.{statement}
 use Rattle.runtime.proofs.judging.store_budget.Tie as tie
@@ -14,6 +15,6 @@ store-budget-spec =
     (λ c. search needs)
     (λ c. search needs)
     (λ c κs. search needs)
-    (λ c. search (budgets, unmoving) depth 8)
+    (λ c. search (budgets, unmoving, refusing) depth 8)
     (λ c. search needs)
-    (λ c. search (budgets, unmoving) depth 8))
+    (λ c. search (budgets, unmoving, refusing) depth 8))
