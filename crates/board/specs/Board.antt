@@ -3,9 +3,10 @@
 use Prim.Native.Nat.{ℕ}
 use mathlib.Core.Path.{_≡_}
 use mathlib.Core.Bool.{Bool}
+use mathlib.Core.Logic.{_≢_}
 use mathlib.Core.List.{List}
 use mathlib.Core.Option.{Option, none, some}
-use Rattle.refusal.specs.Answer.{Answer, value, refused}
+use Rattle.refusal.specs.Answer.{Answer, value, refused, queueHalted}
 use Rattle.time.specs.declared.Deadline.{Deadline}
 use Rattle.thread.specs.declared.CpuIndex.{CpuIndex}
 use Rattle.thread.specs.declared.ThreadRecord.{ThreadRecord}
@@ -32,6 +33,14 @@ pub data Left (A : Type 0) : Type 0 where
 abbrev pub numbered : {A : Type 0} → Answer A → ℕ
 numbered (value a) = 0
 numbered (refused n) = n
+
+-- A refused call leaves the words as they were, every one.
+abbrev pub Stays : {B : Type 0} → ℕ → B → B → Type 0
+Stays n before after = n ≢ 0 → after ≡ before
+
+-- So does one that is refused with another number than Halted: a first Halted leaves the source's stores up to there.
+abbrev pub Spares : {B : Type 0} → ℕ → B → B → Type 0
+Spares n before after = n ≢ 0 → n ≢ queueHalted → after ≡ before
 
 -- The answer; a refusal leaves what was there.
 unfoldable pub answered : {A : Type 0} → A → Answer A → Left A

@@ -56,7 +56,7 @@ use Rattle.board.specs.Board.{Left, left, numbered, answered, beside, qu
 use Rattle.board.specs.Board.{keyLeft}
 use Rattle.board.specs.Board.{prepareLeft, accountLeft, finishLeft, candidateOver, candidateLeft, flagOf}
 use Rattle.board.specs.Board.{deadlineLeft}
-use Rattle.board.specs.Progress.{progress}
+use Rattle.board.specs.Progress.{windowLeft, progress}
 use Rattle.board.specs.Kept.{turns-kept, account-kept, deadline-kept, left-so, left-as-was}
 
 -- An answer was stored, or a refusal's number told.
@@ -69,6 +69,16 @@ module _ (before : Selection) {a : PeekAnswer} where
       → left k before ≡ answered before (peekAnswer a)
   unfolding answered
   selection-refused m e = rw (m, e)
+
+-- So was a selection's window.
+module _ (w fresh : CpuWindow) {a : PeekAnswer} where
+  pub progress-stored : {s : Selection} {v : CpuWindow} → a ≡ answer.Selected s
+      → v ≡ progressed w (fresh .epoch) (fresh .«priority_remaining_ns») (fresh .«protected_remaining_ns»)
+      → v ≡ windowLeft w fresh (peekAnswer a)
+  progress-stored m e = rw m e
+
+  pub progress-refused : {n : Refusal} → a ≡ answer.Refused n → w ≡ windowLeft w fresh (peekAnswer a)
+  progress-refused m = rw m refl
 
 module _ (before : CpuWindow) {a : WindowMade} where
   pub window-stored : {u v : CpuWindow} → a ≡ window.Made u → v ≡ u → left 0 v ≡ answered before (windowMade a)
@@ -98,6 +108,8 @@ told (out x t) = left (numbered (x .0)) (x .1, t)
 pub ruleset storing = (
   selection-stored,
   selection-refused,
+  progress-stored,
+  progress-refused,
   window-stored,
   window-refused,
   expired-stored,
@@ -141,8 +153,7 @@ pub selected : {k : ℕ} {s : Selection} {a : Answer Selection} {u v w₁ : CpuW
     (before : Selection) (t : List ThreadRecord) (q : CpuRunQueue) (c : CpuIndex) (now : ℕ) (w : CpuWindow)
     (current : CandidateOption)
     → u ≡ w → cur ≡ current → out (peeked a w₁ q₁) t₁ ≡ peekNext t q c now u cur
-    → v ≡ progressed w (w₁ .epoch) (w₁ .«priority_remaining_ns») (w₁ .«protected_remaining_ns»)
-    → left k s ≡ answered before a
+    → v ≡ windowLeft w w₁ a → left k s ≡ answered before a
     → left k (s, (v, q₁, t₁)) ≡ selectionLeft before (peekNext t q c now w current)
 unfolding selectionLeft beside
 selected {k} {s} {a} {u} {v} {w₁} {cur} {q₁} {t₁} before t q c now w current e f m p h =

@@ -4,5 +4,7 @@ pub mod Board
 pub mod Progress
 -- What the other calls leave of counters and window.
 pub mod Kept
+-- A refused call leaves every word.
+pub mod KeepingLaws
 -- Laws by which the entries meet their contracts.
 pub mod BoardLaws

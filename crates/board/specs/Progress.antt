@@ -1,5 +1,5 @@
--- Selection leaves the window's configuration, so that storing the epoch and what remains of allowance and floor stores
--- the whole window.
+-- What selection leaves of a window: at a refusal all of it, else its configuration, so that storing the epoch and what
+-- remains of allowance and floor stores the whole window.
 use Prim.Native.Nat.{ℕ, zero, suc, _-_, _/_}
 use mathlib.Core.Path.{_≡_, refl, sym, ap, subst, _∙_}
 use mathlib.Core.Bool.{Bool, true, false}
@@ -56,7 +56,14 @@ module _ (t : List ThreadRecord) (heads : List Link) (now : ℕ) (d : Demand) wh
   least-keeps (suc n) w best = next-keeps n (least-keeps n) w best
 
 Keeps : {B : Type 0} → CpuWindow → Out (Peeked B) → Type 0
-Keeps w (out (peeked a w₁ b) t) = w₁ .config ≡ w .config
+Keeps w (out (peeked (value a) w₁ b) t) = w₁ .config ≡ w .config
+Keeps w (out (peeked (refused n) w₁ b) t) = w₁ ≡ w
+
+-- The window as the entry leaves it: stored where there is a selection.
+abbrev pub windowLeft : CpuWindow → CpuWindow → Answer Selection → CpuWindow
+windowLeft before fresh (value s) =
+    progressed before (fresh .epoch) (fresh .«priority_remaining_ns») (fresh .«protected_remaining_ns»)
+windowLeft before fresh (refused n) = before
 
 module _ (t : List ThreadRecord) (q : CpuRunQueue) (c : CpuIndex) (now : ℕ) (w : CpuWindow)
     (current : CandidateOption) where
@@ -98,23 +105,21 @@ module _ (t : List ThreadRecord) (q : CpuRunQueue) (c : CpuIndex) (now : ℕ) (w
   peek-keeps = go (peekParts t (selectionParts q) c now w current) (parts-keep (selectionParts q))
     where
       go : (x : Out (Peeked SelectionParts)) → Keeps w x → Keeps w (onOut x (λ x t₁. out (restored q x) t₁))
-      go (out (peeked a w₁ p) t₁) h = h
+      go (out (peeked (value a) w₁ p) t₁) h = h
+      go (out (peeked (refused n) w₁ p) t₁) h = h
 
-  -- So the window that it leaves is the window with what time changed.
+  -- So what the entry leaves is the window that selection leaves.
   pub progress : {a : Answer Selection} {w₁ : CpuWindow} {q₁ : CpuRunQueue} {t₁ : List ThreadRecord}
-      → out (peeked a w₁ q₁) t₁ ≡ peekNext t q c now w current
-      → progressed w (w₁ .epoch) (w₁ .«priority_remaining_ns») (w₁ .«protected_remaining_ns») ≡ w₁
+      → out (peeked a w₁ q₁) t₁ ≡ peekNext t q c now w current → windowLeft w w₁ a ≡ w₁
   unfolding Keeps
-  progress {a} {w₁} {q₁} {t₁} e =
-      let same : Keeps w (out (peeked a w₁ q₁) t₁) = subst (Keeps w) (sym e) peek-keeps in
-      with-config same
+  progress {a} {w₁} {q₁} {t₁} e = go a (subst (Keeps w) (sym e) peek-keeps)
     where
-      with-config : Keeps w (out (peeked a w₁ q₁) t₁)
-          → progressed w (w₁ .epoch) (w₁ .«priority_remaining_ns») (w₁ .«protected_remaining_ns») ≡ w₁
-      with-config h = ap (λ (x : ArbitrationConfig).
+      go : (x : Answer Selection) → Keeps w (out (peeked x w₁ q₁) t₁) → windowLeft w w₁ x ≡ w₁
+      go (value s) h = ap (λ (x : ArbitrationConfig).
           record {
             config = x;
             epoch = w₁ .epoch;
             «priority_remaining_ns» = w₁ .«priority_remaining_ns»;
             «protected_remaining_ns» = w₁ .«protected_remaining_ns»;
           }) (sym h)
+      go (refused n) h = sym h

@@ -3,7 +3,7 @@ ghost use mathlib.Core.Bool.{true, false};
 ghost use mathlib.Core.Path.{_≡_};
 ghost use Rattle.queue.specs.Answers.{verdictAnswer};
 ghost use Rattle.lent_queue.specs.LentQueue.{queueOf};
-ghost use Rattle.board.specs.Board.{left, numbered, Makes, Enqueues, Removes, lengthsOf, lengths};
+ghost use Rattle.board.specs.Board.{left, numbered, Spares, Makes, Enqueues, Removes, lengthsOf, lengths};
 use board_words::LengthWords;
 use codec::Row;
 use lent_queue::QueueRows;
@@ -43,6 +43,10 @@ pub extern "C" fn board_enqueue(
     cpu: u8,
 ) -> u64
     ensures { λ r. ⌜ Enqueues false (now (q .entry)) (now (t .entry)) id cpu r (now (q .exit)) (now (t .exit)) ⌝ }
+    ensures { λ r. ⌜ Spares r (now (q .entry)) (now (q .exit)) ⌝ }
+    ensures { λ r. ⌜ Spares r (now (t .entry)) (now (t .exit)) ⌝ }
+    ensures { λ r. ⌜ (queueOf (now (q .entry)) .halted ≡ true → now (q .exit) ≡ now (q .entry)) ⌝ }
+    ensures { λ r. ⌜ (queueOf (now (q .entry)) .halted ≡ true → now (t .exit) ≡ now (t .entry)) ⌝ }
 {
     number_of(enqueue_lent(q, t, path, ThreadId(id), CpuIndex(cpu), false))
 }
@@ -57,6 +61,10 @@ pub extern "C" fn board_enqueue_front(
     cpu: u8,
 ) -> u64
     ensures { λ r. ⌜ Enqueues true (now (q .entry)) (now (t .entry)) id cpu r (now (q .exit)) (now (t .exit)) ⌝ }
+    ensures { λ r. ⌜ Spares r (now (q .entry)) (now (q .exit)) ⌝ }
+    ensures { λ r. ⌜ Spares r (now (t .entry)) (now (t .exit)) ⌝ }
+    ensures { λ r. ⌜ (queueOf (now (q .entry)) .halted ≡ true → now (q .exit) ≡ now (q .entry)) ⌝ }
+    ensures { λ r. ⌜ (queueOf (now (q .entry)) .halted ≡ true → now (t .exit) ≡ now (t .entry)) ⌝ }
 {
     number_of(enqueue_lent(q, t, path, ThreadId(id), CpuIndex(cpu), true))
 }
@@ -71,6 +79,10 @@ pub extern "C" fn board_remove(
     cpu: u8,
 ) -> u64
     ensures { λ r. ⌜ Removes (now (q .entry)) (now (t .entry)) id cpu r (now (q .exit)) (now (t .exit)) ⌝ }
+    ensures { λ r. ⌜ Spares r (now (q .entry)) (now (q .exit)) ⌝ }
+    ensures { λ r. ⌜ Spares r (now (t .entry)) (now (t .exit)) ⌝ }
+    ensures { λ r. ⌜ (queueOf (now (q .entry)) .halted ≡ true → now (q .exit) ≡ now (q .entry)) ⌝ }
+    ensures { λ r. ⌜ (queueOf (now (q .entry)) .halted ≡ true → now (t .exit) ≡ now (t .entry)) ⌝ }
 {
     number_of(remove_lent(q, t, path, ThreadId(id), CpuIndex(cpu)))
 }

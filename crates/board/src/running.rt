@@ -1,5 +1,6 @@
 // Calls of scheduler/state/runtime.rs on the table's rows and the words of window, counters, keys and answers.
 ghost use mathlib.Core.Path.{_≡_};
+ghost use mathlib.Core.Bool.{false};
 ghost use Rattle.codec.specs.Codec.{parametersOf};
 ghost use Rattle.rows.specs.Table.{table};
 ghost use Rattle.arbitration.specs.Answers.{verdictOf};
@@ -11,7 +12,7 @@ ghost use Rattle.runtime.specs.Account.{accountCurrent, finishTurn, currentCand
 ghost use Rattle.runtime.specs.Answers.{expiredAnswer};
 ghost use Rattle.runtime.specs.Deadline.{refreshDeadline};
 ghost use Rattle.board_words.specs.BoardWords.{turnsOf, readyKeyOf, choiceOf, contention};
-ghost use Rattle.board.specs.Board.{left, numbered, answered, prepareLeft, accountLeft};
+ghost use Rattle.board.specs.Board.{left, numbered, Stays, answered, prepareLeft, accountLeft};
 ghost use Rattle.board.specs.Board.{candidateLeft, finishLeft, flagOf, deadlineLeft};
 use arbitration::Verdict;
 use board_words::ChoiceWords;
@@ -71,6 +72,8 @@ pub extern "C" fn board_prepare(
     ensures { λ r. ⌜ left r (turnsOf (now (turns .exit)), table (now (t .exit)))
         ≡ prepareLeft
         (prepareEnqueue (table (now (t .entry))) id (flagFrom front) «now_ns» (turnsOf (now (turns .entry)))) ⌝ }
+    ensures { λ r. ⌜ Stays r (now (t .entry)) (now (t .exit)) ⌝ }
+    ensures { λ r. ⌜ Stays r (now (turns .entry)) (now (turns .exit)) ⌝ }
 {
     let before = turns_of(*turns);
     let prepared = prepare_enqueue(t, ThreadId(id), flag_from(front), now_ns, before);
@@ -98,6 +101,8 @@ pub extern "C" fn board_account(
     ensures { λ r. ⌜ left r (windowOf (now (window .exit)), table (now (t .exit)))
         ≡ accountLeft
         (accountCurrent (table (now (t .entry))) id (windowOf (now (window .entry))) (modeFrom mode) start end) ⌝ }
+    ensures { λ r. ⌜ Stays r (now (t .entry)) (now (t .exit)) ⌝ }
+    ensures { λ r. ⌜ Stays r (now (window .entry)) (now (window .exit)) ⌝ }
 {
     let before = window_of(*window);
     let its_mode = mode_from(mode);
@@ -125,6 +130,9 @@ pub extern "C" fn board_candidate(
     ensures { λ r. ⌜ left r (candidateOf (now (current .exit)), table (now (t .exit)))
         ≡ candidateLeft (candidateOf (now (current .entry)))
         (currentCandidate (table (now (t .entry))) id (flagFrom running) «now_ns») ⌝ }
+    ensures { λ r. ⌜ Stays r (now (t .entry)) (now (t .exit)) ⌝ }
+    ensures { λ r. ⌜ Stays r (now (current .entry)) (now (current .exit)) ⌝ }
+    ensures { λ r. ⌜ (flagFrom running ≡ false → now (current .exit) ≡ now (current .entry)) ⌝ }
 {
     number_of(current_candidate(t, ThreadId(id), flag_from(running), now_ns, current))
 }
@@ -132,6 +140,7 @@ pub extern "C" fn board_candidate(
 fn store_expired(answer: &mut FlagWord, given: ExpiredAnswer) -> u64
     ensures { λ r. ⌜ left r (flagOf (now (answer .exit)))
         ≡ answered (flagOf (now (answer .entry))) (expiredAnswer given) ⌝ }
+    ensures { λ r. ⌜ Stays r (now (answer .entry)) (now (answer .exit)) ⌝ }
 {
     match given {
         ExpiredAnswer::Expired(flag) => {
@@ -147,6 +156,7 @@ fn store_expired(answer: &mut FlagWord, given: ExpiredAnswer) -> u64
 pub extern "C" fn board_expired(t: &[Row], id: u64, answer: &mut FlagWord) -> u64
     ensures { λ r. ⌜ left r (flagOf (now (answer .exit)))
         ≡ answered (flagOf (now (answer .entry))) (expired (table (now (t .entry))) id) ⌝ }
+    ensures { λ r. ⌜ Stays r (now (answer .entry)) (now (answer .exit)) ⌝ }
 {
     let given = expired(t, ThreadId(id));
     store_expired(answer, given)
@@ -156,6 +166,7 @@ pub extern "C" fn board_expired(t: &[Row], id: u64, answer: &mut FlagWord) -> u6
 #[no_mangle]
 pub extern "C" fn board_finish(t: &mut [Row], id: u64) -> u64
     ensures { λ r. ⌜ left r (table (now (t .exit))) ≡ finishLeft (finishTurn (table (now (t .entry))) id) ⌝ }
+    ensures { λ r. ⌜ Stays r (now (t .entry)) (now (t .exit)) ⌝ }
 {
     number_of(finish_turn(t, ThreadId(id)))
 }
@@ -204,6 +215,9 @@ fn arm(
     ensures { λ r. ⌜ left r (deadlineOf (now (answer .exit)), (windowOf (now (window .exit)), table (now (t .exit))))
         ≡ deadlineLeft (deadlineOf (now (answer .entry)))
         (refreshDeadline (table (now (t .entry))) id «now_ns» mode (windowOf (now (window .entry))) others) ⌝ }
+    ensures { λ r. ⌜ Stays r (now (t .entry)) (now (t .exit)) ⌝ }
+    ensures { λ r. ⌜ Stays r (now (window .entry)) (now (window .exit)) ⌝ }
+    ensures { λ r. ⌜ Stays r (now (answer .entry)) (now (answer .exit)) ⌝ }
 {
     let before = window_of(*window);
     let step = refresh_deadline(t, ThreadId(id), now_ns, mode, before, others);
@@ -239,6 +253,9 @@ pub extern "C" fn board_deadline(
         (windowOf (now (window .entry)))
         (contention (flagFrom competition) (flagFrom «budget_peer») (flagFrom ready)
         (demandOf (now (demand .entry))))) ⌝ }
+    ensures { λ r. ⌜ Stays r (now (t .entry)) (now (t .exit)) ⌝ }
+    ensures { λ r. ⌜ Stays r (now (window .entry)) (now (window .exit)) ⌝ }
+    ensures { λ r. ⌜ Stays r (now (answer .entry)) (now (answer .exit)) ⌝ }
 {
     let mode = mode_of(key_option_of(*key));
     let others = contention_of(competition, budget_peer, ready, *demand);

@@ -1,8 +1,13 @@
 // Selection on the queue's words, the table's rows and the words of window, running thread and answer.
 ghost use mathlib.Core.Path.{_≡_};
 ghost use Rattle.selection.specs.Answers.{peekAnswer};
+ghost use Rattle.window_words.specs.WindowWords.{windowOf};
+ghost use Rattle.lent_queue.specs.LentQueue.{queueOf};
+ghost use Rattle.lent_selection.specs.Early.{Early};
 ghost use Rattle.board_words.specs.BoardWords.{selectionFrom};
-ghost use Rattle.board.specs.Board.{left, answered, Selects};
+ghost use Rattle.board.specs.Board.{left, Stays, answered, Selects};
+ghost use Rattle.board.specs.Progress.{windowLeft};
+use arbitration::CpuWindow;
 use board_words::SelectionWords;
 use board_words::current_of;
 use board_words::words_of_selection;
@@ -16,13 +21,24 @@ use window_words::WindowWords;
 use window_words::store_progress;
 use window_words::window_of;
 
-fn store_answer(answer: &mut SelectionWords, peeked: PeekAnswer) -> u64
+// A selection with its window; of a refusal nothing is stored.
+fn store_answer(
+    answer: &mut SelectionWords,
+    window: &mut WindowWords,
+    peeked: PeekAnswer,
+    fresh: CpuWindow,
+) -> u64
     ensures { λ r. ⌜ left r (selectionFrom (now (answer .exit)))
         ≡ answered (selectionFrom (now (answer .entry))) (peekAnswer peeked) ⌝ }
+    ensures { λ r. ⌜ windowOf (now (window .exit))
+        ≡ windowLeft (windowOf (now (window .entry))) fresh (peekAnswer peeked) ⌝ }
+    ensures { λ r. ⌜ Stays r (now (answer .entry)) (now (answer .exit)) ⌝ }
+    ensures { λ r. ⌜ Stays r (now (window .entry)) (now (window .exit)) ⌝ }
 {
     match peeked {
         PeekAnswer::Selected(selection) => {
             *answer = words_of_selection(selection);
+            store_progress(window, fresh);
             0
         }
         PeekAnswer::Refused(refusal) => refusal.number(),
@@ -46,6 +62,12 @@ pub extern "C" fn board_select(
     ensures { λ r. ⌜ Selects (now (q .entry)) (now (t .entry)) cpu «now_ns» (now (window .entry)) running
         (now (current .entry)) (now (answer .entry)) r (now (q .exit)) (now (t .exit)) (now (window .exit))
         (now (answer .exit)) ⌝ }
+    ensures { λ r. ⌜ Stays r (now (answer .entry)) (now (answer .exit)) ⌝ }
+    ensures { λ r. ⌜ Stays r (now (window .entry)) (now (window .exit)) ⌝ }
+    ensures { λ r. ⌜ (Early (now (t .entry)) (windowOf (now (window .entry))) (queueOf (now (q .entry)))
+        → now (q .exit) ≡ now (q .entry)) ⌝ }
+    ensures { λ r. ⌜ (Early (now (t .entry)) (windowOf (now (window .entry))) (queueOf (now (q .entry)))
+        → now (t .exit) ≡ now (t .entry)) ⌝ }
 {
     // In this order, and with the answer stored first, the compiler holds fewer words over the walk.
     let its_current = current_of(running, *current);
@@ -53,7 +75,5 @@ pub extern "C" fn board_select(
     let peeked = peek_lent(q, t, path, CpuIndex(cpu), now_ns, its_window, its_current);
     let its_answer = peeked.answer;
     let fresh = peeked.window;
-    let number = store_answer(answer, its_answer);
-    store_progress(window, fresh);
-    number
+    store_answer(answer, window, its_answer, fresh)
 }

@@ -1,5 +1,6 @@
 -- The call answers by its own contract, and the answer goes into a number.
 use Rattle.board.specs.BoardLaws.{board-laws}
+use Rattle.board.specs.KeepingLaws.{keeping, flag-keeps}
 use borrow.Author.Needs.{needs}
 use Rattle.board.proofs.running.board_candidate.Statement.{statement}
 use Rattle.board.proofs.running.board_candidate.Tie as tie
@@ -12,4 +13,10 @@ board-candidate-spec =
     (λ c κs. search needs)
     (λ c κs. search needs)
     (λ c. search needs)
-    (λ c. search board-laws depth 8))
+    (λ c. (
+      search board-laws depth 8,
+      (
+        search keeping,
+        (search keeping, flag-keeps (c .before .before .current-candidate .ensures .1 .1 .1) (search needs)),
+      ),
+    )))

@@ -1,5 +1,6 @@
 -- The words stand for the arguments.
 use Rattle.board.specs.BoardLaws.{board-laws}
+use Rattle.board.specs.KeepingLaws.{keeping}
 use borrow.Author.Needs.{needs}
 use Rattle.board.proofs.running.board_deadline.Statement.{statement}
 use Rattle.board.proofs.running.board_deadline.Tie as tie
@@ -13,4 +14,4 @@ board-deadline-spec =
     (λ c κs. search needs)
     (λ c κs. search needs)
     (λ c. search needs)
-    (λ c. search board-laws depth 8))
+    (λ c. (search board-laws depth 8, (search keeping, (search keeping, search keeping)))))

@@ -1,5 +1,6 @@
 -- The call answers by its own contract, and the flag is stored.
 use Rattle.board.specs.BoardLaws.{board-laws}
+use Rattle.board.specs.KeepingLaws.{keeping}
 use borrow.Author.Needs.{needs}
 use Rattle.board.proofs.running.board_expired.Statement.{statement}
 use Rattle.board.proofs.running.board_expired.Tie as tie
@@ -10,4 +11,4 @@ board-expired-spec =
     (tie.spec
     (λ c κs. search needs)
     (λ c κs. search needs)
-    (λ c. search board-laws depth 8))
+    (λ c. (search board-laws depth 8, search keeping)))
