@@ -4,7 +4,7 @@ ghost use Rattle.arbitration.specs.Answers.{windowMade};
 ghost use Rattle.arbitration.specs.Calls.{keyCall};
 ghost use Rattle.window_words.specs.WindowWords.{configOf, windowOf, demandOf, candidateOf, keyOptionOf};
 ghost use Rattle.board_words.specs.BoardWords.{madeWindow};
-ghost use Rattle.board.specs.Board.{left, answered, keyLeft};
+ghost use Rattle.board.specs.Board.{left, Stays, answered, keyLeft};
 use arbitration::WindowMade;
 use board_words::made_window;
 use codec::Row;
@@ -48,6 +48,7 @@ fn config_in(w: ConfigWords) -> ArbitrationConfig
 fn store_made(window: &mut WindowWords, made: WindowMade) -> u64
     ensures { λ r. ⌜ left r (windowOf (now (window .exit)))
         ≡ answered (windowOf (now (window .entry))) (windowMade made) ⌝ }
+    ensures { λ r. ⌜ Stays r (now (window .entry)) (now (window .exit)) ⌝ }
 {
     match made {
         WindowMade::Made(fresh) => {
@@ -63,6 +64,7 @@ fn store_made(window: &mut WindowWords, made: WindowMade) -> u64
 pub extern "C" fn board_window(window: &mut WindowWords, config: &ConfigWords) -> u64
     ensures { λ r. ⌜ left r (windowOf (now (window .exit)))
         ≡ answered (windowOf (now (window .entry))) (madeWindow (configOf (now (config .entry)))) ⌝ }
+    ensures { λ r. ⌜ Stays r (now (window .entry)) (now (window .exit)) ⌝ }
 {
     store_made(window, made_window(config_in(*config)))
 }
@@ -80,6 +82,8 @@ pub extern "C" fn board_key(
         ≡ keyLeft (keyOptionOf (now (key .entry)))
         (keyCall (windowOf (now (window .entry))) «now_ns» (candidateOf (now (current .entry)))
         (demandOf (now (demand .entry)))) ⌝ }
+    ensures { λ r. ⌜ Stays r (now (window .entry)) (now (window .exit)) ⌝ }
+    ensures { λ r. ⌜ Stays r (now (key .entry)) (now (key .exit)) ⌝ }
 {
     window_candidate_key(window, now_ns, current, demand, key)
 }

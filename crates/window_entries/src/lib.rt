@@ -2,6 +2,7 @@
 // Each is the call of its name on what the words stand for. It answers document 01's number, 0 where the call was
 // accepted; a refusal leaves what the lent words stand for as it was.
 ghost use mathlib.Core.Path.{_≡_};
+ghost use mathlib.Core.Logic.{_≢_};
 ghost use Rattle.refusal.specs.Cases.{choose};
 ghost use Rattle.time.specs.Time.{rises};
 ghost use Rattle.policy_words.specs.PolicyWords.{word, parametersOf, roleFrom, backendFrom, epochFrom, deadlineOf};
@@ -377,6 +378,8 @@ pub extern "C" fn window_candidate_key(
         ≡ leftOf (keyOptionOf (now (answer .entry)))
         (keyCall (windowOf (now (window .entry))) «now_ns» (candidateOf (now (candidate .entry)))
         (demandOf (now (demand .entry)))) ⌝ }
+    ensures { λ r. ⌜ (r ≢ 0 → now (window .exit) ≡ now (window .entry)) ⌝ }
+    ensures { λ r. ⌜ (r ≢ 0 → now (answer .exit) ≡ now (answer .entry)) ⌝ }
 {
     let words = *window;
     if !is_sound(words) {

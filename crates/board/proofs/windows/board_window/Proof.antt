@@ -1,5 +1,6 @@
 -- The window of the words' configuration is stored.
 use Rattle.board.specs.BoardLaws.{window-made}
+use Rattle.board.specs.KeepingLaws.{keeping}
 use borrow.Author.Needs.{needs}
 use Rattle.board.proofs.windows.board_window.Statement.{statement}
 use Rattle.board.proofs.windows.board_window.Tie as tie
@@ -11,4 +12,4 @@ board-window-spec =
     (λ c κs. search needs)
     (λ c κs. search needs)
     (λ c κs. search needs)
-    (λ c. search window-made depth 8))
+    (λ c. (search window-made depth 8, search keeping)))

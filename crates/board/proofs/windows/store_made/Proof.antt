@@ -1,5 +1,6 @@
 -- The window that is made is stored, a refusal's number is told.
 use Rattle.board.specs.BoardLaws.{storing}
+use Rattle.board.specs.KeepingLaws.{keeping}
 use borrow.Author.Needs.{needs}
 use Rattle.board.proofs.windows.store_made.Statement.{statement}
 use Rattle.board.proofs.windows.store_made.Tie as tie
@@ -12,5 +13,5 @@ store-made-spec =
     (λ c κs. search needs)
     (λ c. search needs)
     (λ c κs. search needs)
-    (λ c. search storing depth 8)
-    (λ c. search storing depth 8))
+    (λ c. (search storing depth 8, search keeping))
+    (λ c. (search storing depth 8, search keeping)))
