@@ -16,11 +16,11 @@ use Rattle.board_words.specs.BoardWords.{readyOf, demandFrom, passFrom, selecti
 use Rattle.board.specs.Board.{queueLeft, answered, beside, selectionLeft, Enqueues, Selects}
 use Rattle.sound_queue.specs.Sound.{nobody, including}
 use Rattle.sound_selection.specs.Computing.{computing}
-use Rattle.sound_selection.specs.Instance.{Met, three-met}
+use Rattle.sound_selection.specs.Instance.{three-met}
 use Rattle.sound_board.specs.Claim.{Board, New, left, Steps, none, then, enqueues, PremisesOn, Answers}
 use Rattle.sound_board.specs.Words.{demand-3-words}
 
--- The first 16 words of a protected loop's row, with this tag of its epoch; of the FIFO thread's.
+-- The first 16 words of a protected loop's row, with this tag of its epoch, and of the FIFO thread's.
 abbrev loop : ℕ → List ℕ → List ℕ
 loop epoch rest =
     2 ∷ 0 ∷ 1 ∷ 2 ∷ 0 ∷ 0 ∷ 0 ∷ 1 ∷ 2000000 ∷ 10000000 ∷ 2000000 ∷ 2 ∷ epoch ∷ 0 ∷ 2000000 ∷ 2000000 ∷ rest
@@ -28,10 +28,11 @@ loop epoch rest =
 abbrev drive : List ℕ → List ℕ
 drive rest = 0 ∷ 5 ∷ 1 ∷ 1 ∷ 0 ∷ 0 ∷ 0 ∷ 0 ∷ 0 ∷ 0 ∷ 0 ∷ 0 ∷ 0 ∷ 0 ∷ 0 ∷ 0 ∷ rest
 
--- The others: the turn, the tree's links and height, the list's links, the membership, the processor, two spare words.
+-- The other words: turn, tree links with height, list links, membership, processor, two spare ones. In no list:
 abbrev unqueued : ℕ → List ℕ
 unqueued turn = turn ∷ replicate 15 0
 
+-- In the list and the tree of loops: the first has the second before it and below it.
 abbrev first-loop : List ℕ
 first-loop = loop 0 (12 ∷ 1 ∷ 1 ∷ 0 ∷ 0 ∷ 2 ∷ 1 ∷ 1 ∷ 0 ∷ 0 ∷ 2 ∷ replicate 5 0)
 
@@ -49,14 +50,14 @@ rows₁ = loop 0 (12 ∷ 0 ∷ 0 ∷ 0 ∷ 0 ∷ 1 ∷ 0 ∷ 0 ∷ 0 ∷ 0 ∷ 2
 abbrev rows₂ : List (List ℕ)
 rows₂ = first-loop ∷ second-loop 0 ∷ drive (unqueued 13) ∷ []
 
--- The last call leaves the second loop in epoch 0.
+-- Tag 0 after the last enqueue; the selection refreshes the second loop, the head of its tree, which has tag 1 then.
 abbrev rows₃ : ℕ → List (List ℕ)
 rows₃ epoch =
     first-loop ∷ second-loop epoch
     ∷ drive (13 ∷ 0 ∷ 0 ∷ 0 ∷ 0 ∷ 1 ∷ 0 ∷ 0 ∷ 0 ∷ 0 ∷ 1 ∷ 0 ∷ 5 ∷ 0 ∷ 0 ∷ 0 ∷ []) ∷ []
 
--- The queue's words at first, and after each call: the list of loops, the root of their tree, the counts
--- with the epoch's words; then the list of priority 5 and the root of its tree too.
+-- The queue's words at first, and after each call: the list of loops, the root of their tree, the row of counts and
+-- epoch; then the list of priority 5 and the root of its tree too, and by the selection the tag of the epoch.
 abbrev queue : List (List ℕ)
 queue = replicate queueRows (replicate 5 0)
 
