@@ -1,6 +1,6 @@
 -- Demand 3 over the words that a board lends: what a board is, what a step of it is, and what is claimed of a
--- selection. A step is what an entry's contract says of the words before and after (`Enqueues` and the others, crate board), so
--- nothing is asked of a board but that it calls the entries.
+-- selection. A step is what an entry's contract says of the words before and after (`Enqueues` and the others, crate
+-- board), so nothing is asked of a board but that it calls the entries.
 use Prim.Native.Nat.{ℕ, _≤_, _<_}
 use mathlib.Core.Path.{_≡_}
 use mathlib.Core.Bool.{Bool, true}

@@ -4,3 +4,5 @@ pub mod Numbers
 pub mod Claim
 -- The theorem.
 pub mod Words
+-- A board whose words meet the premises.
+pub mod Instance

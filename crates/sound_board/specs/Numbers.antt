@@ -74,7 +74,8 @@ module _ {A : Type 0} (P : A → Type 0) where
   unfolding ifEqual
   if-equal n m x y h k = by-test (eqb n m) x y h k
 
-  by-record : (r : RecordRead) (a : A) (f : ThreadRecord → A) → P a → ((x : ThreadRecord) → P (f x)) → P (onRecord r a f)
+  by-record : (r : RecordRead) (a : A) (f : ThreadRecord → A) → P a → ((x : ThreadRecord) → P (f x))
+      → P (onRecord r a f)
   unfolding onRecord
   by-record (read.Got x) a f h k = k x
   by-record read.Damaged a f h k = h

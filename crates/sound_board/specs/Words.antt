@@ -1,5 +1,5 @@
--- Demand 3 over the words that a board lends: from `board_new`'s words on, whatever calls are made for one processor and
--- whatever becomes of rows that are not queued.
+-- Demand 3 over the words that a board lends: from `board_new`'s words on, whatever calls are made for one processor
+-- and whatever becomes of rows that are not queued.
 use Prim.Native.Nat.{ℕ, _≤_, _<_}
 use mathlib.Core.Path.{_≡_, refl, sym, ap, _∙_, subst}
 use mathlib.Core.Bool.{Bool, true, false}

@@ -1,78 +1,85 @@
 -- Demand 3 is not empty: a run, by computation, in which the premises hold and two protected threads wait in one tree.
 -- And a queue with threads of two processors, from which a selection is accepted.
-use Prim.Native.Nat.{ℕ, zero, suc, _+_}
-use mathlib.Core.Path.{_≡_, refl}
+use Prim.Native.Nat.{ℕ, zero, suc, _+_, _/_}
+use mathlib.Core.Path.{_≡_, refl, sym, _∙_, subst}
 use mathlib.Core.Bool.{Bool, true, false}
-use mathlib.Core.List.{[], _∷_}
+use mathlib.Core.List.{List, [], _∷_}
+use native.Mathlib.Omega.{arith}
 use Rattle.refusal.specs.Answer.{value, damaged}
-use Rattle.refusal.specs.Cases.{never, choose, ifLess, ifEqual, given}
-use Rattle.order.specs.Order.{compareNumbers, thenBy, compareParts, onOrdering}
+use Rattle.refusal.specs.Cases.{never}
 use Rattle.time.specs.declared.Epoch.the-variants as epoch
-use Rattle.time.specs.Time.{rises, periodStart, checkedAdd, periodEnd, onDeadline}
+use Rattle.policy.specs.declared.FairBackend.{FairBackend}
 use Rattle.policy.specs.declared.FairBackend.the-variants as backend
 use Rattle.policy.specs.declared.SchedulingRole.the-variants as role
-use Rattle.policy.specs.PolicyCases.{onPolicy, onRole, onBackend, onBudget}
-use Rattle.policy.specs.Budget.{soundBudget}
-use Rattle.budget.specs.Runtime as budget
-use Rattle.algorithms.specs.Runtime.{onRuntime, sameKind, candidateKey, epochRefreshed, ofBudget}
-use Rattle.avl.specs.Rotation.{leanOf, onLean}
-use Rattle.window_config.specs.Config.{soundConfig, ranksRise, acceptsBudget, sameBackend, admitted}
-use Rattle.arbitration.specs.Window.{isPriority, isProtected, protectionDeadline, dueAt}
-use Rattle.arbitration.specs.Window as windows
-use Rattle.arbitration.specs.Key.{exhaustedOf, shutOut, strictFifo, hurried, favoured, algorithmOf, onAlgorithm}
-use Rattle.arbitration.specs.Key.{ordinaryRank, tierOf, keyOf, compareKeys}
-use Rattle.thread.specs.Membership.{onLink, onMembership, onCpu, isNone, pointsTo, isUnqueued, isReadyRealTime}
-use Rattle.thread.specs.Membership.{isReadyFair, isWaiting, isTerminated, sameMembership, readyCpu, isReadyOn}
-use Rattle.thread.specs.Judgement.{hasBudget, isBadBudget, isBadRecord}
-use Rattle.thread.specs.Filing.{budgetAvailable, roleIndex, indexFor, onIndex}
-use Rattle.thread.specs.TreeKey.{algorithmKey, treeKey, readyIndexKey, parts, compareTreeKeys}
-use Rattle.algorithms.specs.declared.PolicyRuntime.the-variants as runtime
-use Rattle.rows.specs.Table.{recordOf, changed, reading, storing, linksAt, keyAt, queueLinksAt, recordAt, setLinks}
-use Rattle.rows.specs.Table.{out, setQueueLinks, setRuntime}
-use Rattle.rows.specs.TableCases.{onLinks, onKey, onQueueLinks, onRecord, onMade}
-use Rattle.lists.specs.Checks.{assignedTo, headAgrees, tailAgrees, endsAgree, preflightInsert, previousValid}
-use Rattle.lists.specs.Checks.{nextValid, validateNeighbors}
-use Rattle.lists.specs.Lists.{onAnswer, onOut, setNext, setPrevious, commitInsert, commitRemove, append, prepend, push}
-use Rattle.lists.specs.Lists.{pushFront, updatePreviousLink, updateNextLink, unlink}
-use Rattle.lists.specs.Lists as list
-use Rattle.rotations.specs.Cases.{onHeight, onTurned}
-use Rattle.ready_index.specs.Cases.{onRooted, onWay, onSought}
-use Rattle.rotations.specs.Balance.{height, larger, update, rotateLeft, rotateRight, balanceLeft, balanceRight, balance}
-use Rattle.ready_index.specs.Index.{descend, first, wayAt, lookFor, contains, onWalk, walk, hung, rebuildStep, rebuild}
-use Rattle.ready_index.specs.Index.{insert, soughtAt, onSearch, search, onSuccessor, successor, replace}
-use Rattle.ready_index.specs.Index as index
-use Rattle.queue_work.specs.Work.{countedIn, countedOut, totalIn, totalOut, pushAt, insertWork, removeWork}
-use Rattle.queue.specs.Queue.{step, newQueue, listOf, rootOf, partsOf, withParts, worked, isFifo, isBudget}
-use Rattle.queue.specs.Queue.{membershipFor, judged, enqueueCall, partner, onContained, treeWith, removeReady}
-use Rattle.queue.specs.Queue.{removeFrom, removeCall}
-use Rattle.queue.specs.Samples.{cpu, fifo}
-use Rattle.demands.specs.declared.CandidateOption.the-variants as candidate
-use Rattle.renewal.specs.Leaves.{onLeaves}
-use Rattle.demands.specs.Demands.{candidateOf, demandOf, either, joined, addDemand, comparePasses, lesserPass, onPass}
-use Rattle.demands.specs.Demands.{lowestPass, gathered, onCandidate, ofCurrent}
-use Rattle.renewal.specs.Renewal.{leastLink, headOf, refreshRecord, refreshRuntime, moveOne, moveAll, withTrees}
-use Rattle.renewal.specs.Renewal.{renewRoles, isEpoch, isHalt, renew}
-use Rattle.selection.specs.Heads.{headAt, gatherHeads, onReady, onKeyOption, comesBefore, lesserReady, readyWith}
-use Rattle.selection.specs.Heads.{leastOf}
-use Rattle.selection.specs.Peek.{chosen, peekRunning, peekParts, selectionParts, withSelectionParts, restored, peekNext}
-use Rattle.selection.specs.Samples.{window, thread, budgeted, answerOf, named}
-use mathlib.Core.Path.{sym, ap, _∙_, subst}
-use mathlib.Core.List.{List}
-use native.Mathlib.Omega.{arith}
 use Rattle.policy.specs.Parameters.{ofFifo}
+use Rattle.algorithms.specs.declared.PolicyRuntime.the-variants as runtime
+use Rattle.window_config.specs.Config.{soundConfig, admitted}
+use Rattle.arbitration.specs.declared.CpuWindow.{CpuWindow}
 use Rattle.thread.specs.declared.Link.the-variants as link
-use Rattle.ready_index.specs.declared.Contained.the-variants as contained
 use Rattle.thread.specs.declared.ThreadRecord.{ThreadRecord}
-use Rattle.sound_queue.specs.Sound.{Sound, nobody, including, excluding, PriorityFits}
+use Rattle.thread.specs.Filing.{budgetAvailable}
+use Rattle.rows.specs.Table.{recordOf, out}
+use Rattle.ready_index.specs.declared.Contained.the-variants as contained
+use Rattle.ready_index.specs.Index.{contains}
+use Rattle.queue.specs.RunQueue.{CpuRunQueue, treeCount}
+use Rattle.queue.specs.Queue.{step, newQueue, rootOf, isBudget, enqueueCall}
+use Rattle.queue.specs.Samples.{cpu, fifo}
+use Rattle.sound_queue.specs.Sound.{Sound, nobody, including, PriorityFits}
 use Rattle.sound_queue.specs.SoundLaws.{included-other}
 use Rattle.sound_queue.specs.PlaceLaws.{same-or-not}
-use Rattle.sound_selection.specs.Claim.{refreshedTo, filedReady, Call, enqueueAt, selectAt, State, Bytes, after}
-use Rattle.sound_selection.specs.Claim.{afterAll, AllAllowed, Accepted, fresh, PremisesIn, AnsweredIn}
+use Rattle.demands.specs.declared.CandidateOption.the-variants as candidate
+use Rattle.selection.specs.Peek.{peekNext}
+use Rattle.selection.specs.Samples.{window, thread, budgeted, answerOf, named}
+use Rattle.sound_selection.specs.Claim.{refreshedTo, filedReady, Premises, Call, enqueueAt, selectAt, State}
+use Rattle.sound_selection.specs.Claim.{Bytes, after, afterAll, AllAllowed, Accepted, fresh, PremisesIn}
+use Rattle.sound_selection.specs.Claim.{AnsweredIn}
 use Rattle.sound_selection.specs.Reached.{Reached}
 use Rattle.sound_selection.specs.Reached as reached
 use Rattle.sound_selection.specs.ReachedSound.{reached-sound}
 use Rattle.sound_selection.specs.Demand3.{demand-3}
-use Rattle.queue.specs.RunQueue.{treeCount}
+use Rattle.sound_selection.specs.Computing.{computing}
+
+-- Threads 0, 1 and 2.
+abbrev pub three : ℕ → Bool
+three = including 2 (including 1 (including 0 nobody))
+
+-- What the premises come to where these are queued: all are admitted, the first two have time left and are filed so,
+-- and the third has no budget.
+pub record Met (q : CpuRunQueue) (t : List ThreadRecord) (now : ℕ) (w : CpuWindow) (b : FairBackend) : Type 0 where
+  pub window : soundConfig (w .config) ≡ true
+  pub admits : (admitted (w .config) (recordOf t 0 .parameters) b ≡ true)
+      × (admitted (w .config) (recordOf t 1 .parameters) b ≡ true)
+      × (admitted (w .config) (recordOf t 2 .parameters) b ≡ true)
+  pub left : (budgetAvailable (refreshedTo now (recordOf t 0) .runtime) ≡ true)
+      × (budgetAvailable (refreshedTo now (recordOf t 1) .runtime) ≡ true)
+  pub filed : (filedReady q t (now / w .config .«period_ns») 0 ≡ true)
+      × (filedReady q t (now / w .config .«period_ns») 1 ≡ true)
+  pub fifo : isBudget (recordOf t 2 .parameters .policy) ≡ false
+
+-- What holds of the three holds of everybody who is queued.
+of-three : (P : ℕ → Type 0) → P 0 → P 1 → P 2 → (j : ℕ) → three j ≡ true → P j
+of-three P p q r j e =
+    same-or-not j 2 (λ x. subst P (sym x) r) (λ x. same-or-not j 1 (λ y. subst P (sym y) q)
+    (λ y. same-or-not j 0 (λ z. subst P (sym z) p)
+    (λ z. absurd (let n : false ≡ true =
+    sym (included-other 2 (including 1 (including 0 nobody)) j x ∙ included-other 1 (including 0 nobody) j y
+    ∙ included-other 0 nobody j z) ∙ e in
+    never cc))))
+
+pub three-met : {q : CpuRunQueue} {t : List ThreadRecord} {now : ℕ} {w : CpuWindow} {b : FairBackend} → Met q t now w b
+    → Premises three q t now w
+three-met {q} {t} {now} {w} {b} m = record {
+  window = m .window;
+  backend = b;
+  admits =
+      of-three (λ j. admitted (w .config) (recordOf t j .parameters) b ≡ true) (m .admits .0) (m .admits .1)
+      (m .admits .2);
+  filing =
+      of-three (λ j. isBudget (recordOf t j .parameters .policy) ≡ true
+      → budgetAvailable (refreshedTo now (recordOf t j) .runtime) ≡ filedReady q t (now / w .config .«period_ns») j)
+      (λ e. m .left .0 ∙ sym (m .filed .0)) (λ e. m .left .1 ∙ sym (m .filed .1))
+      (λ e. let n : true ≡ false = sym e ∙ m .fifo in never cc);
+}
 
 -- A protected loop of either hook with time left, one of them with the lower turn; and a FIFO thread on the priority
 -- allowance.
@@ -118,24 +125,16 @@ both-in = after (cpu 1) (enqueueAt false 1) first-in
 
 -- What computation gives of these runs.
 pub record Computed : Type 0 where
-  -- The two wait in one tree, and the three are queued.
+  -- The two wait in one tree, the three are queued, and the premises are met.
   pub root : rootOf (crane-state .queue) 8 ≡ link.Some 0
   pub waits : contains (crane-state .table) (rootOf (crane-state .queue) 8) 1 ≡ contained.Yes
-  pub queued : crane-state .queued ≡ including 2 (including 1 (including 0 nobody))
+  pub queued : crane-state .queued ≡ three
+  pub met : Met (crane-state .queue) (crane-state .table) 7000000 window backend.Stride
   -- Before protection is due the FIFO thread is named; then the protected one with the lower turn.
   pub undue : named (answerOf (peekNext (crane-state .table) (crane-state .queue)
       (cpu 0) 6999999 window candidate.None)) ≡ 1 + 2
   pub due : named (answerOf (peekNext (crane-state .table) (crane-state .queue) (cpu 0) 7000000 window candidate.None))
       ≡ 1 + 1
-  -- The three are admitted; the two have time left and are filed so; the third has no budget.
-  pub admits : (admitted (window .config) (recordOf (crane-state .table) 0 .parameters) backend.Stride ≡ true)
-      × (admitted (window .config) (recordOf (crane-state .table) 1 .parameters) backend.Stride ≡ true)
-      × (admitted (window .config) (recordOf (crane-state .table) 2 .parameters) backend.Stride ≡ true)
-  pub left : (budgetAvailable (refreshedTo 7000000 (recordOf (crane-state .table) 0) .runtime) ≡ true)
-      × (budgetAvailable (refreshedTo 7000000 (recordOf (crane-state .table) 1) .runtime) ≡ true)
-  pub filed : (filedReady (crane-state .queue) (crane-state .table) 0 0 ≡ true)
-      × (filedReady (crane-state .queue) (crane-state .table) 0 1 ≡ true)
-  pub fifo : isBudget (recordOf (crane-state .table) 2 .parameters .policy) ≡ false
   -- Both enqueues are accepted. The more urgent thread is the head of their tree: a selection for its processor names
   -- it, and one for the other processor is refused.
   pub first-accepted : enqueueCall false mixed newQueue 0 (cpu 0)
@@ -150,35 +149,21 @@ pub record Computed : Type 0 where
       ≡ 100 + damaged
 
 pub crane-computed : Computed
-unfolding choose ifLess ifEqual given compareNumbers thenBy compareParts onOrdering onPolicy onRole onBackend onBudget
-    soundBudget onRuntime sameKind candidateKey leanOf onLean onLink onMembership onCpu isNone pointsTo isUnqueued
-    isReadyRealTime isReadyFair isWaiting isTerminated sameMembership readyCpu hasBudget isBadBudget isBadRecord
-    budgetAvailable roleIndex indexFor onIndex algorithmKey treeKey readyIndexKey parts compareTreeKeys recordOf changed
-    reading storing linksAt keyAt queueLinksAt recordAt setLinks setQueueLinks onLinks onKey onQueueLinks onRecord
-    onMade assignedTo headAgrees tailAgrees endsAgree preflightInsert previousValid nextValid validateNeighbors onAnswer
-    onOut setNext setPrevious commitInsert commitRemove append prepend push pushFront updatePreviousLink updateNextLink
-    unlink list.remove onHeight onTurned onRooted onWay onSought height larger update rotateLeft rotateRight balanceLeft
-    balanceRight balance wayAt lookFor contains onWalk walk hung rebuildStep rebuild insert soughtAt onSearch
-    search onSuccessor successor replace index.remove countedIn countedOut totalIn totalOut pushAt insertWork removeWork
-    listOf partsOf withParts worked isFifo isBudget membershipFor judged enqueueCall partner onContained treeWith
-    removeReady removeFrom removeCall rises periodStart checkedAdd periodEnd onDeadline epochRefreshed ofBudget
-    budget.judged budget.refreshed budget.refreshedJudged setRuntime descend first isReadyOn soundConfig ranksRise
-    acceptsBudget sameBackend admitted windows.refreshed isPriority isProtected protectionDeadline dueAt exhaustedOf
-    shutOut strictFifo hurried favoured algorithmOf onAlgorithm ordinaryRank tierOf keyOf compareKeys onLeaves
-    candidateOf demandOf either joined addDemand comparePasses lesserPass onPass lowestPass gathered onCandidate
-    ofCurrent leastLink headOf refreshRecord refreshRuntime moveOne moveAll withTrees renewRoles isEpoch isHalt renew
-    headAt gatherHeads onReady onKeyOption comesBefore lesserReady readyWith leastOf chosen peekRunning peekParts
-    selectionParts withSelectionParts restored peekNext refreshedTo filedReady after afterAll including excluding
+unfolding computing
 crane-computed = record {
   root = refl;
   waits = refl;
   queued = refl;
+  met =
+      record {
+        window = refl;
+        admits = (refl, refl, refl);
+        left = (refl, refl);
+        filed = (refl, refl);
+        fifo = refl;
+      };
   undue = refl;
   due = refl;
-  admits = (refl, refl, refl);
-  left = (refl, refl);
-  filed = (refl, refl);
-  fifo = refl;
   first-accepted = refl;
   second-accepted = refl;
   fits = (omega arith, omega arith);
@@ -187,38 +172,11 @@ crane-computed = record {
   not-own = refl;
 }
 
--- By who is queued.
-three : {A : Type 0} (j : ℕ) → including 2 (including 1 (including 0 nobody)) j ≡ true → (j ≡ 0 → A) → (j ≡ 1 → A)
-    → (j ≡ 2 → A) → A
-three {A} j e f g h = same-or-not j 2 h (λ x. same-or-not j 1 g (λ y. same-or-not j 0 f
-    (λ z. absurd (let q : false ≡ true =
-    sym (included-other 2 (including 1 (including 0 nobody)) j x ∙ included-other 1 (including 0 nobody) j y
-    ∙ included-other 0 nobody j z) ∙ e in
-    never cc))))
-
 -- The premises hold.
 crane-premises : PremisesIn crane-state 7000000 window
-unfolding soundConfig ranksRise ifLess ifEqual choose
-crane-premises = record {
-  window = refl;
-  backend = backend.Stride;
-  admits = λ j e. three j (subst (λ (f : ℕ → Bool). f j ≡ true) (crane-computed .queued) e)
-      (λ z. subst (λ n. admitted (window .config) (recordOf (crane-state .table) n .parameters) backend.Stride ≡ true)
-      (sym z) (crane-computed .admits .0))
-      (λ z. subst (λ n. admitted (window .config) (recordOf (crane-state .table) n .parameters) backend.Stride ≡ true)
-      (sym z) (crane-computed .admits .1))
-      (λ z. subst (λ n. admitted (window .config) (recordOf (crane-state .table) n .parameters) backend.Stride ≡ true)
-      (sym z) (crane-computed .admits .2));
-  filing = λ j e b. three j (subst (λ (f : ℕ → Bool). f j ≡ true) (crane-computed .queued) e)
-      (λ z. subst (λ n. budgetAvailable (refreshedTo 7000000 (recordOf (crane-state .table) n) .runtime)
-      ≡ filedReady (crane-state .queue) (crane-state .table) 0 n) (sym z)
-      (crane-computed .left .0 ∙ sym (crane-computed .filed .0)))
-      (λ z. subst (λ n. budgetAvailable (refreshedTo 7000000 (recordOf (crane-state .table) n) .runtime)
-      ≡ filedReady (crane-state .queue) (crane-state .table) 0 n) (sym z)
-      (crane-computed .left .1 ∙ sym (crane-computed .filed .1)))
-      (λ z. let q : true ≡ false = sym b ∙ ap (λ n. isBudget (recordOf (crane-state .table) n .parameters .policy)) z
-      ∙ crane-computed .fifo in never cc);
-}
+crane-premises =
+    subst (λ (f : ℕ → Bool). Premises f (crane-state .queue) (crane-state .table) 7000000 window)
+    (sym (crane-computed .queued)) (three-met (crane-computed .met))
 
 -- So demand 3 speaks of this run: the thread that is named has the least key of the three.
 pub crane-answered : AnsweredIn (cpu 0) crane-state 7000000 window candidate.None

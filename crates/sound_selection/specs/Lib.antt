@@ -42,5 +42,7 @@ pub mod Filing
 pub mod Guarantee
 -- Demand 3.
 pub mod Demand3
+-- What computes in instances, under one name.
+pub mod Computing
 -- A run in which the premises hold.
 pub mod Instance
