@@ -170,8 +170,8 @@ def page():
 
 
 def public(crate):
-    """The public functions of a library, as the check names them: of the root file, of types, exported to C, or shown by
-    the root file's `pub use`."""
+    """The public functions of a library, as the check names them: of the root file, of types, exported to C, or shown
+    by the root file's `pub use`."""
     root = f'crates/{crate}/src/lib.rt'
     if not os.path.exists(root):
         return []

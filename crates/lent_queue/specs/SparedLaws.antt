@@ -1,5 +1,5 @@
--- Laws by which a refusal leaves every word of queue and table: a refused work stored nothing, a first Halted aside, and
--- a queue that halted earlier gets no plan.
+-- Laws by which a refusal leaves every word of queue and table: a refused work stored nothing, a first Halted aside,
+-- and a queue that halted earlier gets no plan.
 use Prim.Native.Nat.{ℕ}
 use mathlib.Core.Path.{_≡_, refl, sym, ap, subst, _∙_}
 use mathlib.Core.Bool.{Bool, true, false}
@@ -74,7 +74,8 @@ not-judged b c t id {r} {x} {j} {f} e h m y =
 pub not-planned : {B : Type 0} (b c : B) (t : List ThreadRecord) (id : ℕ) (cpu : CpuIndex) {r x : Bool} {p : Planned}
     {plan : Plan} → r ≡ x → plannedAnswer p ≡ insertionPlan t r id cpu → p ≡ planned.Plan plan → x ≡ true → c ≡ b
 unfolding insertionPlan andThen
-not-planned {B} b c t id cpu {r} {x} {p} {plan} e h m y = go (plans.judgement t r id) refl (sym (ap plannedAnswer m) ∙ h)
+not-planned {B} b c t id cpu {r} {x} {p} {plan} e h m y =
+    go (plans.judgement t r id) refl (sym (ap plannedAnswer m) ∙ h)
   where
     go : (a : Answer Filed) → a ≡ plans.judgement t r id
         → value plan ≡ andThen a (λ f. plans.planInsertion f cpu) → c ≡ b

@@ -20,8 +20,8 @@ use Rattle.lists.specs.ListsLaws.{went-out}
 use Rattle.queue_work.specs.declared.Total.{Total}
 use Rattle.queue_work.specs.declared.Total.the-variants as total
 use Rattle.queue_work.specs.declared.Parts.{Parts}
-use Rattle.queue_work.specs.Work.{Work, done, turnedDown, halts, Untouched, Stores, totalAnswer, withBudgetThreads}
-use Rattle.queue_work.specs.Work.{countedIn, countedOut}
+use Rattle.queue_work.specs.Work.{Work, done, turnedDown, halts, Untouched, Stores, totalAnswer}
+use Rattle.queue_work.specs.Work.{withBudgetThreads, countedIn, countedOut}
 
 module _ {B : Type 0} {y : B} {r : Total} {x : Answer ℕ} (g f : ℕ → B) where
   pub total-length : {n : ℕ} → totalAnswer r ≡ x → r ≡ total.Length n → y ≡ f n → y ≡ onAnswer x g f

@@ -1,5 +1,5 @@
--- What a refusal leaves, word for word. Contracts that speak of what words stand for say what the call leaves; these say
--- that where it is refused the words themselves are as they were.
+-- What a refusal leaves, word for word. Contracts that speak of what words stand for say what the call leaves; these
+-- say that where it is refused the words themselves are as they were.
 use Prim.Native.Nat.{ℕ, _≤_, _<_}
 use mathlib.Core.Path.{_≡_}
 use mathlib.Core.Bool.{Bool, true, false, not}
