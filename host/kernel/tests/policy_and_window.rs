@@ -232,7 +232,13 @@ fn a_fair_thread_is_preferred_while_the_allowance_lasts() {
             .unwrap()
             .1
             .unwrap();
-        (key.urgency, key.rank, key.algorithm_rank, key.algorithm, mode)
+        (
+            key.urgency,
+            key.rank,
+            key.algorithm_rank,
+            key.algorithm,
+            mode,
+        )
     };
     assert_eq!(at(false, 1), (2, 2, 1, 9, Mode::Ordinary));
     assert_eq!(at(true, 1), (2, 0, 1, 9, Mode::Priority));
