@@ -5,9 +5,10 @@
  * 4,096 and 4,097. A round starts from a new queue and sound rows, and its words are then damaged at times, or from
  * words of any kind. A fault is: a crash, a call that takes longer than a second or two, a word read or written
  * outside, a word changed that is only to be read, an answer that document 01 does not have for the entry, 10, 5, 9 or
- * 4 where another is due or missed, a halt without its mark, and a change by a refusal that leaves everything. The
- * table of answers is printed; the last line is
- * `fuzz: N calls, 0 faults`, and the exit status then 0. */
+ * 4 where another is due or missed, a halt without its mark, a word changed by a refusal that leaves it; and, whatever
+ * is answered, a row's parameters, processor or spare words changed, a row that encoded a record and no longer does,
+ * and a row changed that is not the named thread's, where the call has to do with that one alone. The table of answers
+ * is printed; the last line is `fuzz: N calls, 0 faults`, and the exit status then 0. */
 #define _GNU_SOURCE
 #include <inttypes.h>
 #include <setjmp.h>
@@ -111,23 +112,52 @@ static bool unchanged(const struct lent *thing)
     return hash(thing) == thing->before;
 }
 
-/* What a window's words stand for: a rank is a remainder, a flag is 0 or 1, an epoch counts where there is one. */
-static uint64_t meaning(const uint64_t *w)
+/* The rows before the call. */
+static uint64_t rows_before[BOARD_MOST_RECORDS + 1][BOARD_ROW_WORDS];
+
+enum { LEFT = 17, RIGHT = 19, HEIGHT = 21, PREVIOUS = 22, NEXT = 24, MEMBERSHIP = 26, PROCESSOR = 29, SPARE = 30 };
+
+/* None has no number. */
+static bool option_encodes(const uint64_t *w)
 {
-    uint64_t sum = 0;
-    for (size_t k = 0; k < BOARD_WINDOW_WORDS; k++) {
-        uint64_t word = w[k];
-        if (k >= BOARD_WINDOW_PRIORITY_RANK && k <= BOARD_WINDOW_BORROW_RANK) {
-            word %= 256;
-        } else if (k == BOARD_WINDOW_PREFER_FAIR || k == BOARD_WINDOW_HAS_EPOCH) {
-            word = word != 0;
-        } else if (k == BOARD_WINDOW_EPOCH && w[BOARD_WINDOW_HAS_EPOCH] == 0) {
-            word = 0;
+    return w[0] == 0 ? w[1] == 0 : w[0] == 1;
+}
+
+static bool zeros(const uint64_t *w, size_t count)
+{
+    for (size_t k = 0; k < count; k++) {
+        if (w[k] != 0) {
+            return false;
         }
-        sum = (sum ^ word) * UINT64_C(0x9e3779b97f4a7c15);
-        sum ^= sum >> 29;
     }
-    return sum;
+    return true;
+}
+
+static bool runtime_encodes(const uint64_t *w)
+{
+    switch (w[0]) {
+    case BOARD_POLICY_FAIR: return w[4] == 0;
+    case BOARD_POLICY_BUDGET: return option_encodes(w + 1);
+    default: return w[0] < 4 && zeros(w + 1, 4);
+    }
+}
+
+static bool membership_encodes(const uint64_t *w)
+{
+    switch (w[0]) {
+    case 1: return w[1] < 256 && w[2] < 256;
+    case 2: return w[1] < 256 && w[2] == 0;
+    case 3: return w[2] == 0;
+    default: return w[0] < 5 && zeros(w + 1, 2);
+    }
+}
+
+/* Whether the words that calls store are those of some record. */
+static bool encodes(const uint64_t *w)
+{
+    return runtime_encodes(w + BOARD_ROW_RUNTIME) && option_encodes(w + LEFT) && option_encodes(w + RIGHT)
+        && w[HEIGHT] < 256 && option_encodes(w + PREVIOUS) && option_encodes(w + NEXT)
+        && membership_encodes(w + MEMBERSHIP);
 }
 
 /* ---- the caller's own words, which go from call to call ---- */
@@ -510,7 +540,25 @@ static bool leaves_all(uint64_t number, bool halted_before)
     return entry != SELECT || number == BOARD_BAD_TABLE || number == BOARD_BAD_CONFIG;
 }
 
-static void judge(uint64_t got, uint64_t wanted, bool halted_before, uint64_t meant)
+/* What no call does to the rows, whatever it answers. `alone`: the call has to do with the named thread's row alone. */
+static void judge_rows(bool alone)
+{
+    for (size_t i = 0; i < rows; i++) {
+        const uint64_t *was = rows_before[i], *is = row(i);
+        if (memcmp(was, is, BOARD_ROW_RUNTIME * sizeof *is) != 0
+            || memcmp(was + PROCESSOR, is + PROCESSOR, (BOARD_ROW_WORDS - PROCESSOR) * sizeof *is) != 0) {
+            fault("parameters, processor or spare words of a row are changed", i);
+        }
+        if (encodes(was) && !encodes(is)) {
+            fault("what is stored to a row is no record's encoding", i);
+        }
+        if (alone && i != id && memcmp(was, is, BOARD_ROW_WORDS * sizeof *is) != 0) {
+            fault("the row of a thread that was not named is changed", i);
+        }
+    }
+}
+
+static void judge(uint64_t got, uint64_t wanted, bool halted_before)
 {
     if (got >= ANSWERS - 1 || (allowed[entry] & BIT(got)) == 0) {
         fault("an answer that it does not have", got);
@@ -524,17 +572,17 @@ static void judge(uint64_t got, uint64_t wanted, bool halted_before, uint64_t me
     if (got == BOARD_HALTED && !is_halted()) {
         fault("a halt without its mark", got);
     }
-    bool leaves = got != BOARD_MADE && leaves_all(got, halted_before);
-    if (leaves && entry_lends(&window) && meaning(window.at) != meant) {
-        fault("a refusal changes the window", got);
+    if (lends[entry] & LENDS_TABLE) {
+        judge_rows((lends[entry] & NAMES_A_THREAD) != 0 && (lends[entry] & LENDS_QUEUE) == 0);
     }
+    bool leaves = got != BOARD_MADE && leaves_all(got, halted_before);
     for (size_t i = 0; i < sizeof all / sizeof *all; i++) {
         const struct lent *thing = all[i];
         if (thing->at == NULL) {
             continue;
         }
-        bool answers = thing == &answer || thing == &key || thing == &current;
-        bool kept = !may_change(thing) || (leaves && thing != &window) || (got != BOARD_MADE && answers);
+        bool everywhere = thing != &queue && thing != &table;
+        bool kept = !may_change(thing) || leaves || (got != BOARD_MADE && everywhere);
         if (kept && thing != &path && !unchanged(thing)) {
             fault("words that were to stay are changed", i);
         }
@@ -600,7 +648,9 @@ static void call(void)
     }
     uint64_t wanted = due();
     bool halted_before = is_halted();
-    uint64_t meant = entry_lends(&window) ? meaning(window.at) : 0;
+    if (lends[entry] & LENDS_TABLE) {
+        memcpy(rows_before, table.at, table.words * sizeof(uint64_t));
+    }
     static volatile uint64_t got;
     int signalled = sigsetjmp(out, 1);
     if (signalled != 0) {
@@ -613,7 +663,7 @@ static void call(void)
     got = made();
     calling = 0;
     counts[entry][got < ANSWERS - 1 ? got : ANSWERS - 1]++;
-    judge(got, wanted, halted_before, meant);
+    judge(got, wanted, halted_before);
     take_back(&window, own_window, BOARD_WINDOW_WORDS);
     take_back(&current, own_current, BOARD_ROW_WORDS);
     take_back(&key, own_key, BOARD_KEY_WORDS);

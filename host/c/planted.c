@@ -22,18 +22,24 @@ uint64_t __wrap_board_switch(const uint64_t *ready, const uint64_t *key, const u
     return got;
 }
 #else
-/* At times it answers 12 (PLANT 2), changes the table though it refuses (3), or does not end (4). */
+/* At times it answers 12 (PLANT 2), changes the table though it refuses (3), does not end (4), changes another
+   thread's row (5), or a spare word of its own (6), though it was made. */
 uint64_t __real_board_finish(uint64_t (*)[BOARD_ROW_WORDS], size_t, uint64_t);
 uint64_t __wrap_board_finish(uint64_t (*t)[BOARD_ROW_WORDS], size_t rows, uint64_t id);
 uint64_t __wrap_board_finish(uint64_t (*t)[BOARD_ROW_WORDS], size_t rows, uint64_t id)
 {
     uint64_t got = __real_board_finish(t, rows, id);
     bool refused = got != 0 && rows != 0;
-    if ((PLANT == 3 && !refused) || ++number % 64 != 0) {
+    bool made = got == 0 && rows > 1;
+    if ((PLANT == 3 && !refused) || (PLANT > 4 && !made) || ++number % 64 != 0) {
         return got;
     }
     if (PLANT == 3) {
         t[0][31] += 1;
+    } else if (PLANT == 5) {
+        t[id == 0][16] += 1;
+    } else if (PLANT == 6) {
+        t[id][30] += 1;
     }
     for (volatile int on = PLANT == 4; on;) {
     }
