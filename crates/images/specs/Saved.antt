@@ -1,6 +1,6 @@
 -- What is stored is loaded again as it was, and what is loaded is stored again as it was; and what is loaded is exactly
 -- the encodings.
-use Prim.Native.Nat.{ℕ, _*_, _≤_}
+use Prim.Native.Nat.{ℕ, suc, _*_, _≤_}
 use native.Mathlib.Omega.{arith}
 use mathlib.Core.Path.{_≡_, refl, sym, ap, _∙_}
 use mathlib.Core.Bool.{Bool, true, false}
@@ -9,7 +9,7 @@ use lib.Dec.{eqb, ltb}
 use lib.ListN.{length, replicate, length-append, length-map}
 use borrow.Author.Tests.{eqb-true, eq-eqb, ltb-false}
 use Rattle.refusal.specs.Answer.{damaged, badConfig, badTable, badRecord}
-use Rattle.refusal.specs.Cases.{choose, ifLess, ifEqual, not-less}
+use Rattle.refusal.specs.Cases.{choose, ifLess, ifEqual, never, not-less}
 use Rattle.thread.specs.declared.ThreadRecord.{ThreadRecord}
 use Rattle.arbitration.specs.declared.CpuWindow.{CpuWindow}
 use Rattle.queue.specs.RunQueue.{CpuRunQueue}
@@ -60,6 +60,43 @@ took : {A : Type 0} (have want : ℕ) (x : Bool) (number : ℕ) (new old y : A) 
     → accepted have want x number new old ≡ left 0 y → Taken have want x new y
 unfolding accepted ifEqual
 took have want x number new old y p h = took-by (eqb have want) x have want number new old y refl p h
+
+-- A refusal leaves what stood there.
+refused-by : {A : Type 0} (s x : Bool) (number n : ℕ) (new old y : A)
+    → choose s (choose x (left 0 new) (left number old)) (left badTable old) ≡ left (suc n) y → y ≡ old
+unfolding choose
+refused-by true true number n new old y h = never (cc)
+refused-by true false number n new old y h = cc
+refused-by false x number n new old y h = cc
+
+pub refused-leaves : {A : Type 0} (have want : ℕ) (x : Bool) (number n : ℕ) (new old y : A)
+    → accepted have want x number new old ≡ left (suc n) y → y ≡ old
+unfolding accepted ifEqual
+refused-leaves have want x number n new old y h = refused-by (eqb have want) x number n new old y h
+
+too-many-by : {A : Type 0} (s : Bool) (n : ℕ) (old y : A) (x : Left A) → (x ≡ left (suc n) y → y ≡ old)
+    → choose s (left badTable old) x ≡ left (suc n) y → y ≡ old
+unfolding choose
+too-many-by true n old y x f h = cc
+too-many-by false n old y x f h = f h
+
+pub table-load-leaves : (bytes : List ℕ) (old t : List (List ℕ)) (n : ℕ) → loadTable bytes old ≡ left (suc n) t
+    → t ≡ old
+unfolding loadTable ifLess
+table-load-leaves bytes old t n h =
+    too-many-by (ltb maxRecords (length old)) n old t (loadRows rowWords (length old) tableEncodes badRecord bytes old)
+    (refused-leaves (length bytes) (wordBytes * rowWords * length old)
+    (tableEncodes (rowsOfBytes rowWords (length old) bytes)) badRecord n (rowsOfBytes rowWords (length old) bytes) old
+    t)
+    h
+
+pub table-store-leaves : (t : List (List ℕ)) (bytes after : List ℕ) (n : ℕ) → storeTable t bytes ≡ left (suc n) after
+    → after ≡ bytes
+unfolding storeTable ifLess
+table-store-leaves t bytes after n h =
+    too-many-by (ltb maxRecords (length t)) n bytes after (storeRows rowWords (length t) tableEncodes badRecord t bytes)
+    (refused-leaves (length bytes) (wordBytes * rowWords * length t) (tableEncodes t) badRecord n (bytesOfRows t) bytes
+    after) h
 
 -- Words, and rows, whatever their test.
 module _ (count number : ℕ) (test : List ℕ → Bool) where

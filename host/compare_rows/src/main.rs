@@ -1,10 +1,12 @@
-//! Compares the port's trees and lists over rows with the kernel's own Rust: `compare_rows [--seed N] [--seconds S]`.
+//! Compares the port's trees and lists over rows with the kernel's own Rust: `compare_rows [--seed N] [--seconds S]`;
+//! and the byte images with what writing again gives what was read.
 //!
 //! First every order of few keys and paths at their limit, then seeded random runs for S seconds. After each call
 //! the answer, the root or the list, and every record are compared. The last line is `differs 0`, or `differs N` with
 //! the first differing inputs above it and exit code 1.
 
 mod calls;
+mod image_runs;
 mod list_runs;
 mod lists;
 mod port;
@@ -33,6 +35,7 @@ fn layout(tally: &mut Tally, random: &mut Random) {
 /// The layout, every order of few keys, and paths at their limit.
 fn first(tally: &mut Tally, random: &mut Random) {
     layout(tally, random);
+    image_runs::limits(tally, random);
     tree_runs::every_order(tally);
     tree_runs::long_paths(tally);
 }
@@ -44,6 +47,7 @@ fn round(tally: &mut Tally, random: &mut Random, number: u64) {
         list_runs::seeded(tally, random, 4096, 200);
     }
     for _ in 0..64 {
+        image_runs::seeded(tally, random);
         tree_runs::damaged(tally, random);
         list_runs::damaged(tally, random);
         let count = 1 + random.below(64);
