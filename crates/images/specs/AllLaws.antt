@@ -1,7 +1,7 @@
 -- Laws of what holds of each element of a list.
 use Prim.Native.Nat.{ℕ, zero, suc, _<_}
 use native.Mathlib.Omega.{arith}
-use mathlib.Core.List.{List, [], _∷_}
+use mathlib.Core.List.{List, [], _∷_, _++_}
 use lib.ListN.{length, take, drop, getD}
 use Rattle.images.specs.Fits.{All}
 
@@ -20,3 +20,7 @@ module _ {A : Type 0} (P : A → Type 0) where
   all-drop zero l h = h
   all-drop (suc n) [] h = tt
   all-drop (suc n) (x ∷ rest) h = all-drop n rest (h .1)
+
+  pub all-append : (a b : List A) → All P a → All P b → All P (a ++ b)
+  all-append [] b h g = g
+  all-append (x ∷ rest) b h g = (h .0, all-append rest b (h .1) g)

@@ -7,7 +7,7 @@ use mathlib.Core.List.{List, [], _∷_}
 use lib.ListN.{length, take, drop, length-append, length-drop, take-append-drop}
 use lib.Seq.{take-at, drop-at, length-take-le}
 use Rattle.images.specs.Fits.{All, IsByte, IsWord, IsRow}
-use Rattle.images.specs.AllLaws.{all-take, all-drop}
+use Rattle.images.specs.AllLaws.{all-take, all-drop, all-append}
 use Rattle.images.specs.Bytes.{wordBytes, lowBytes, bytesOfWord, wordOfBytes, images, pieces}
 use Rattle.images.specs.Bytes.{bytesOfWords, wordsOfBytes, bytesOfRows, rowsOfBytes}
 use Rattle.images.specs.BytesLaws.{pieces-length}
@@ -134,3 +134,58 @@ pub rows-wide : (width n : ℕ) (bytes : List ℕ) → All (λ (r : List ℕ). l
 unfolding rowsOfBytes
 rows-wide width n bytes =
     all-pieces (λ (r : List ℕ). length r ≡ width) (wordBytes * width) (wordsOfBytes width) (words-count width) n bytes
+
+-- What is written is bytes, and what is read from bytes is words: what a load leaves meets the premises of a store's
+-- theorem, and what a store leaves those of a load's.
+low-bytes-fit : (k n : ℕ) → All IsByte (lowBytes k n)
+unfolding lowBytes
+low-bytes-fit zero n = tt
+low-bytes-fit (suc k) n = (omega arith, low-bytes-fit k (n / 256))
+
+images-fit : {A : Type 0} (g : A → List ℕ) → ((x : A) → All IsByte (g x)) → (xs : List A) → All IsByte (images g xs)
+unfolding images
+images-fit g h [] = tt
+images-fit g h (x ∷ rest) = all-append IsByte (g x) (images g rest) (h x) (images-fit g h rest)
+
+pub bytes-fit : (words : List ℕ) → All IsByte (bytesOfWords words)
+unfolding bytesOfWords bytesOfWord
+bytes-fit words = images-fit (lowBytes wordBytes) (low-bytes-fit wordBytes) words
+
+pub row-bytes-fit : (rows : List (List ℕ)) → All IsByte (bytesOfRows rows)
+unfolding bytesOfRows
+row-bytes-fit rows = images-fit bytesOfWords bytes-fit rows
+
+word-below : (bytes : List ℕ) → All IsByte bytes → wordOfBytes bytes < limit (length bytes)
+unfolding wordOfBytes
+word-below [] h = omega arith
+word-below (b ∷ rest) h =
+    let others : wordOfBytes rest < limit (length rest) = word-below rest (h .1) in
+    omega (arith, h .0)
+
+word-fits : (b : List ℕ) → All IsByte b → length b ≡ wordBytes → IsWord (wordOfBytes b)
+word-fits b h e = rw e at (word-below b h)
+
+pieces-fit : {A : Type 0} (P : A → Type 0) (size : ℕ) (f : List ℕ → A)
+    → ((b : List ℕ) → All IsByte b → length b ≡ size → P (f b)) → (n : ℕ) (bytes : List ℕ) → All IsByte bytes
+    → length bytes ≡ size * n → All P (pieces size f n bytes)
+unfolding pieces
+pieces-fit P size f fits zero bytes h e = tt
+pieces-fit P size f fits (suc n) bytes h e =
+    let more : length bytes ≡ size * n + size = e ∙ mul-suc size n in
+    let there : length (take size bytes) ≡ size = length-take-le size bytes (omega arith) in
+    let left : length (drop size bytes) ≡ size * n = length-drop size bytes ∙ omega arith in (
+      fits (take size bytes) (all-take IsByte size bytes h) there,
+      pieces-fit P size f fits n (drop size bytes) (all-drop IsByte size bytes h) left,
+    )
+
+pub words-fit : (n : ℕ) (bytes : List ℕ) → All IsByte bytes → length bytes ≡ wordBytes * n
+    → IsRow n (wordsOfBytes n bytes)
+unfolding wordsOfBytes
+words-fit n bytes h e =
+    (pieces-length wordBytes wordOfBytes n bytes, pieces-fit IsWord wordBytes wordOfBytes word-fits n bytes h e)
+
+pub rows-fit : (width n : ℕ) (bytes : List ℕ) → All IsByte bytes → length bytes ≡ wordBytes * width * n
+    → All (IsRow width) (rowsOfBytes width n bytes)
+unfolding rowsOfBytes
+rows-fit width n bytes h e =
+    pieces-fit (IsRow width) (wordBytes * width) (wordsOfBytes width) (words-fit width) n bytes h e
