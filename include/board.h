@@ -1,4 +1,5 @@
-/* The scheduling core of a hoist board: the C entries of crate board (libboard.a, by `rt staticlib board`). C99 and
+/* The scheduling core of a hoist board: the C entries of crate board (libboard.a, by `rt staticlib board`), and at the
+ * end those of crate images, which save what they work on as bytes (libimages.a, by `rt staticlib images`). C99 and
  * C++.
  *
  * Everything is numbers of 64 bits that the caller keeps and lends for the time of one call: the run queue, the table
@@ -60,6 +61,9 @@ enum board_refusal {
 #define BOARD_EXPIRED_WORDS 1
 #define BOARD_SWITCH_WORDS 2
 #define BOARD_DEADLINE_WORDS 2
+#define BOARD_RECORD_BYTES 256 /* of a row; a table has as many for each of its rows */
+#define BOARD_WINDOW_BYTES 96
+#define BOARD_QUEUE_BYTES 10800
 
 /* A run queue of one processor: 256 priority lists, the fair list, twelve roots, counts, epoch and mark. Made by
    board_new, changed by the calls alone. */
@@ -261,6 +265,34 @@ uint64_t board_deadline(uint64_t (*t)[BOARD_ROW_WORDS], size_t rows, uint64_t id
                         const uint64_t key[BOARD_KEY_WORDS], uint64_t window[BOARD_WINDOW_WORDS], uint64_t competition,
                         uint64_t budget_peer, uint64_t ready, const uint64_t demand[BOARD_DEMAND_WORDS],
                         uint64_t answer[BOARD_DEADLINE_WORDS]);
+
+/* Byte images, for what is saved or sent: the words in their order, each as eight bytes, the lowest first; of a queue
+ * and of a table the rows one after the other. Unlike the calls above a load does not take any words: just those that
+ * are the encoding of what they stand for, which is what a store gives. A choice or a flag is a number that it has, a
+ * byte is below 256, a weight below 65536, and a word that nothing uses is 0: the number of an absent link, epoch or
+ * budget, words 30 and 31 of a row, the last three of a root's. Whether policy, budget and runtime agree is not asked,
+ * nor whether a window's configuration is one that board_window makes: the calls above ask it.
+ *
+ * `count` is how many bytes are lent. Refused, in this order: 10, where they are not as many as the image has; then, of
+ * bytes or words that nothing encodes to, the number that the call names. Refused, nothing is changed. What was stored
+ * is loaded again as it was, word for word, and what was loaded is stored again as it was, byte for byte. */
+
+/* One record, 256 bytes. Answers 0, 10 or 11. */
+uint64_t image_load_record(const uint8_t *bytes, size_t count, uint64_t row[BOARD_ROW_WORDS]);
+uint64_t image_store_record(const uint64_t row[BOARD_ROW_WORDS], uint8_t *bytes, size_t count);
+
+/* A window, 96 bytes. Answers 0, 10 or 5. */
+uint64_t image_load_window(const uint8_t *bytes, size_t count, uint64_t window[BOARD_WINDOW_WORDS]);
+uint64_t image_store_window(const uint64_t window[BOARD_WINDOW_WORDS], uint8_t *bytes, size_t count);
+
+/* A queue, 10,800 bytes. Answers 0, 10 or 1. Whether its lists and trees are sound is not asked. */
+uint64_t image_load_queue(const uint8_t *bytes, size_t count, board_queue *q);
+uint64_t image_store_queue(const board_queue *q, uint8_t *bytes, size_t count);
+
+/* A table, 256 bytes for each of its `rows`. Answers 0, 10 (also where the rows are more than BOARD_MOST_RECORDS) or
+ * 11. Refused, no row is changed, those before the one that is not an encoding neither. */
+uint64_t image_load_table(const uint8_t *bytes, size_t count, uint64_t (*t)[BOARD_ROW_WORDS], size_t rows);
+uint64_t image_store_table(uint64_t (*t)[BOARD_ROW_WORDS], size_t rows, uint8_t *bytes, size_t count);
 
 #ifdef __cplusplus
 }

@@ -1,4 +1,5 @@
-//! Links the static library of crates/board, from STATICLIB_DIR or the repository's target/staticlib.
+//! Links the static library of the port's crate that the package is named after, from STATICLIB_DIR or the
+//! repository's target/staticlib.
 
 use std::env;
 use std::path::PathBuf;
@@ -9,11 +10,10 @@ fn main() {
         Some(place) => PathBuf::from(place),
         None => package.join("../../target/staticlib"),
     };
+    let name = env::var("CARGO_PKG_NAME").expect("the package's name");
+    let archive = place.join(format!("lib{name}.a"));
     println!("cargo::rerun-if-env-changed=STATICLIB_DIR");
-    println!(
-        "cargo::rerun-if-changed={}",
-        place.join("libboard.a").display()
-    );
+    println!("cargo::rerun-if-changed={}", archive.display());
     println!("cargo::rustc-link-search=native={}", place.display());
-    println!("cargo::rustc-link-lib=static=board");
+    println!("cargo::rustc-link-lib=static={name}");
 }

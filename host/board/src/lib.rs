@@ -7,6 +7,11 @@ mod declared;
 
 use declared::*;
 
+/// Record, window, queue and table as bytes.
+pub use images::{
+    load_queue, load_record, load_table, load_window, store_queue, store_record, store_table, store_window,
+};
+
 /// A record, or a candidate.
 pub type Row = [u64; 32];
 /// The steps of one descent, lent for the time of a call.

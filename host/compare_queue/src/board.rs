@@ -3,6 +3,7 @@
 use core::fmt::Debug;
 
 use kernel::oracle::*;
+use tables::bytes::queue_words;
 use tables::named;
 use tables::queues::{MarkedQueue, QueueWords, queue_of, words_of};
 use tables::rows::{Path, Row};
@@ -67,7 +68,7 @@ impl Board {
 
     pub fn of(marked: MarkedQueue, records: Vec<Record>) -> Self {
         Self {
-            words: words_of(&marked),
+            words: queue_words(&marked),
             table: Table::of(records),
             marked,
             path: [[u64::MAX; 2]; 40],

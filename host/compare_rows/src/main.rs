@@ -1,4 +1,5 @@
-//! Compares the port's trees and lists over rows with the kernel's own Rust: `compare_rows [--seed N] [--seconds S]`.
+//! Compares the port's trees and lists over rows with the kernel's own Rust: `compare_rows [--seed N] [--seconds S]`;
+//! and the byte images with what writing again gives what was read.
 //!
 //! First every order of few keys, and paths and tables at their limits, then seeded random runs for S seconds. After
 //! each call the answer, the root or the list, and every record are compared. The last line is `differs 0`, or
@@ -6,6 +7,7 @@
 //! hands a number outside back as any other error: what document 01 refuses before, the host knows by rule.
 
 mod calls;
+mod image_runs;
 mod list_runs;
 mod lists;
 mod port;
@@ -34,6 +36,7 @@ fn layout(tally: &mut Tally, random: &mut Random) {
 /// The layout, every order of few keys, paths at their limit, and tables at theirs.
 fn first(tally: &mut Tally, random: &mut Random) {
     layout(tally, random);
+    image_runs::limits(tally, random);
     tree_runs::every_order(tally);
     tree_runs::long_paths(tally);
     tree_runs::limits(tally);
@@ -47,6 +50,7 @@ fn round(tally: &mut Tally, random: &mut Random, number: u64) {
         list_runs::seeded(tally, random, 4096, 200);
     }
     for _ in 0..64 {
+        image_runs::seeded(tally, random);
         tree_runs::damaged(tally, random);
         list_runs::damaged(tally, random);
         let count = 1 + random.below(64);

@@ -3,8 +3,9 @@
 use kernel::oracle::*;
 
 use crate::port;
+use tables::bytes::{rows_of, same_rows};
 use tables::named;
-use tables::rows::{Row, TREE_WORDS, record_of, row_of, tree_words};
+use tables::rows::{Row, TREE_WORDS, record_of, tree_words};
 use tables::table::{Answer, Table, expected, refused};
 use tables::tally::Tally;
 
@@ -120,7 +121,7 @@ pub struct LargeTree {
 
 impl LargeTree {
     pub fn of(records: &[Record]) -> Self {
-        let rows: Vec<Row> = records.iter().map(row_of).collect();
+        let rows = rows_of(records);
         let keyed = records.iter().zip(0..);
         let nodes = keyed.map(|(record, place)| Node {
             key: record_tree_key(record, place),
@@ -142,7 +143,7 @@ impl LargeTree {
             row[TREE_WORDS..TREE_WORDS + 5].copy_from_slice(&tree_words(node.links));
         }
         let mut pairs = self.rows.iter().zip(&self.wanted);
-        let place = if self.rows == self.wanted {
+        let place = if same_rows(&self.rows, &self.wanted) {
             None
         } else {
             pairs.position(|(row, wanted)| record_of(row) != record_of(wanted))

@@ -4,7 +4,8 @@ use kernel::oracle::{Candidate, Config, Demand, Key, Mode, Record, Turns, Window
 
 use crate::calls::*;
 use crate::words::*;
-use tables::rows::{record_of, row_of};
+use tables::bytes::rows_of;
+use tables::rows::record_of;
 use tables::windows::candidate_of;
 
 /// What a call gives, or the number of a refusal.
@@ -35,7 +36,7 @@ pub struct Rows(Vec<Row>);
 
 impl Rows {
     pub fn of(records: &[Record]) -> Self {
-        Self(records.iter().map(row_of).collect())
+        Self(rows_of(records))
     }
 
     pub fn records(&self) -> Vec<Record> {

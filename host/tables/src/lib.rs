@@ -1,6 +1,8 @@
 //! What the comparisons share: seeded values and records, tables as rows and as records, queues and windows as words,
+//! as bytes,
 //! and the count of what differs.
 
+pub mod bytes;
 pub mod generator;
 pub mod make;
 pub mod product;

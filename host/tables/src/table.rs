@@ -1,7 +1,9 @@
 //! One table on both sides: the port's rows and the oracle's records.
 
+use images::RECORD_BYTES;
 use kernel::oracle::*;
 
+use crate::bytes::{by_bytes, is_image, record_in, rows_of, with_image};
 use crate::rows::{Row, record_of, row_of};
 
 /// What a call gives, or the number of a refusal.
@@ -23,8 +25,9 @@ pub struct Table {
 }
 
 impl Table {
+    /// The port's rows are loaded from the records' bytes.
     pub fn of(records: Vec<Record>) -> Self {
-        let rows = records.iter().map(row_of).collect();
+        let rows = rows_of(&records);
         Self { rows, records }
     }
 
@@ -36,7 +39,7 @@ impl Table {
 
     /// Another record in a place, on both sides.
     pub fn put(&mut self, place: usize, record: Record) {
-        self.rows[place] = row_of(&record);
+        self.rows[place] = rows_of(&[record])[0];
         self.records[place] = record;
     }
 
@@ -45,8 +48,27 @@ impl Table {
         (self.records.len() <= SHOWN).then(|| self.records.clone())
     }
 
-    /// The first record that differs, as the port and as the source left it. Every row is looked at.
+    /// The first record that differs, as the port and as the source left it. Every row is looked at: as the bytes that
+    /// the port stores it to at times, and else as its words.
     pub fn difference(&self) -> (Placed, Placed) {
+        let of_bytes = by_bytes(self.rows.len());
+        let differing = of_bytes
+            .then(|| with_image(&self.rows, |bytes| self.difference_of_bytes(bytes)))
+            .flatten();
+        differing.unwrap_or_else(|| self.difference_of_words())
+    }
+
+    fn difference_of_bytes(&self, bytes: &[u8]) -> (Placed, Placed) {
+        let images = bytes.chunks_exact(RECORD_BYTES);
+        let mut pairs = images.zip(&self.records).enumerate();
+        let differing = pairs.find(|(_, (image, record))| !is_image(image, record));
+        differing.map_or((None, None), |(place, (image, record))| {
+            (Some((place, record_in(image))), Some((place, *record)))
+        })
+    }
+
+    /// The same by the words, of which those that nothing encodes to stand for a record too.
+    fn difference_of_words(&self) -> (Placed, Placed) {
         let pairs = self.rows.iter().zip(&self.records).enumerate();
         for (place, (row, record)) in pairs {
             if *row != row_of(record) && record_of(row) != *record {

@@ -1,0 +1,19 @@
+-- What is asked of the words, in the definition's order.
+use Rattle.refusal.specs.Cases.{cases}
+use Rattle.images.specs.Encodes.{runtimeEncodes}
+use borrow.Author.Needs.{needs}
+use Rattle.images.proofs.encodes.runtime_encodes.Statement.{statement}
+use Rattle.images.proofs.encodes.runtime_encodes.Tie as tie
+
+pub runtime-encodes-spec : {M : Type 1} → statement M
+unfolding runtimeEncodes
+runtime-encodes-spec =
+    tie.close
+    (tie.spec
+    (λ c. search cases depth 8)
+    (λ c κs. search needs)
+    (λ c. search cases depth 8)
+    (λ c κs. search needs)
+    (λ c. search cases depth 8)
+    (λ c. search cases depth 8)
+    (λ c. search cases depth 8))

@@ -1,0 +1,21 @@
+-- What is asked, in the definition's order.
+use Rattle.refusal.specs.Cases.{cases}
+use Rattle.images.specs.Images.{storeWindow}
+use Rattle.images.specs.ImagesLaws.{acceptings}
+use borrow.Author.Needs.{needs}
+use Rattle.images.proofs.image_store_window.Statement.{statement}
+use Rattle.images.proofs.image_store_window.Tie as tie
+
+pub image-store-window-spec : {M : Type 1} → statement M
+unfolding storeWindow
+image-store-window-spec =
+    tie.close
+    (tie.spec
+    (λ c κs. search needs)
+    (λ c. search (acceptings, cases, needs) depth 12)
+    (λ c κs. search needs)
+    (λ c κs. search needs)
+    (λ c. search (acceptings, cases, needs) depth 12)
+    (λ c κs. search needs)
+    (λ c. search needs)
+    (λ c. search (acceptings, cases, needs) depth 12))
