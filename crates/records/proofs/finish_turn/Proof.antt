@@ -21,7 +21,7 @@ returns-2 c =
     called (args .rows .now) (args .t .now) _ (λ (l : List ThreadRecord). finishTurn l (args .id .0))
     (copying .last .1 .0) (core .last .0)
     (c .before .before .before .before .before .before .before .before .before .before .before .before .before .if1
-    .left) (copying .ensures) (core .kept .0) (core .ensures) (c .before .before .from-rows .ensures)
+    .left) (copying .ensures) (core .kept .0) (core .ensures .0) (c .before .before .from-rows .ensures)
 
 pub finish-turn-spec : {M : Type 1} → statement M
 finish-turn-spec =

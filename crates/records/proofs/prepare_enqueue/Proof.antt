@@ -22,7 +22,7 @@ returns-2 c =
     _ (λ (l : List ThreadRecord). prepareEnqueue l (args .id .0) (args .front) (args .reading) (args .turns))
     (copying .last .1 .0) (core .last .0)
     (c .before .before .before .before .before .before .before .before .before .before .before .before .before .if1
-    .left) (copying .ensures) (core .kept .0) (core .ensures) (c .before .before .from-rows .ensures)
+    .left) (copying .ensures) (core .kept .0) (core .ensures .0) (c .before .before .from-rows .ensures)
 
 pub prepare-enqueue-spec : {M : Type 1} → statement M
 prepare-enqueue-spec =
