@@ -215,8 +215,9 @@ uint64_t board_window(uint64_t window[BOARD_WINDOW_WORDS], const uint64_t config
 
 /* Names, of all queued threads, the one with the least key; where the period changed, exhausted budget threads are
  * refreshed and filed as ready first. `current` is the running thread as a candidate where `running` is set. The window
- * is refreshed, unless the queue is empty. Answers 0, 10, 5, 9, 1 or 11. Refused by 10, 5 or an earlier 9: nothing is
- * changed; by 1, 11 or a first 9: the stores so far stay, and the selection's words are as they were. */
+ * is refreshed, unless the queue is empty. Answers 0, 10, 5, 9, 1 or 11. Refused by 10, 5 or an earlier 9: no word is
+ * changed; by 1, 11 or a first 9: queue and table keep the stores so far (moved and refreshed threads, refreshed heads,
+ * the queue's epoch), window and answer are as they were. */
 uint64_t board_select(board_queue *q, uint64_t (*t)[BOARD_ROW_WORDS], size_t rows, board_path *path, uint8_t cpu,
                       uint64_t now_ns, uint64_t window[BOARD_WINDOW_WORDS], uint64_t running,
                       const uint64_t current[BOARD_ROW_WORDS], uint64_t answer[BOARD_SELECTION_WORDS]);
