@@ -19,6 +19,10 @@ use Rattle.codec.specs.Codec.{cpuWord}
 use Rattle.codec.specs.RowLaws.{by-words, nextStored, previousStored}
 use Rattle.rows.specs.declared.QueueLinksRead.the-variants as queueLinks
 use Rattle.rows.specs.Table.{Out, out, after, table, recordAt, queueLinksAt, setQueueLinks}
+use Rattle.rows.specs.declared.Change.{Change}
+use Rattle.rows.specs.Asked.{answering}
+use Rattle.rows.specs.Answers.{changeAnswer}
+use Rattle.rows.specs.AnswersLaws.{same-change}
 use Rattle.rows.specs.TableCases.{onRecord, onQueueLinks}
 use Rattle.rows.specs.RowTableLaws.{record-inside, record-outside, queue-links-inside, queue-links-outside}
 use Rattle.rows.specs.RowTableLaws.{set-queue-links-inside}
@@ -55,8 +59,9 @@ either-end true t q id m e = e
 either-end false t q id m e = e
 
 -- The table that a store left is the table after it.
-pub left-by : {A : Type 0} {r : A} {t : List ThreadRecord} {x : Out A} → out r t ≡ x → t ≡ after x
-left-by e = ap after e
+pub left-by : (r : Change) (x : Out Change) {t : List ThreadRecord}
+    → out (changeAnswer r) t ≡ answering changeAnswer x → t ≡ after x
+left-by r x {t} e = ap after (same-change r t x e)
 
 -- The table after a store that stands for part of an answer.
 pub answered : {A : Type 0} (a : A) {t x : List ThreadRecord} → t ≡ x → out a t ≡ out a x

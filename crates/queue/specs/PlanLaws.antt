@@ -36,6 +36,8 @@ use Rattle.rows.specs.AskedLaws.{below-count, not-below-count}
 use Rattle.lists.specs.Lists.{onAnswer}
 use Rattle.ready_index.specs.declared.Contained.{Contained}
 use Rattle.ready_index.specs.declared.Contained.the-variants as contained
+use Rattle.ready_index.specs.Answers.{containedAnswer}
+use Rattle.ready_index.specs.AnswersLaws.{same-contained}
 use Rattle.ready_index.specs.Index as index
 use Rattle.queue.specs.RunQueue.{CpuRunQueue, treeCount}
 use Rattle.queue.specs.declared.Filed.{Filed}
@@ -254,18 +256,18 @@ module _ {B : Type 0} {y : B} {r : Planned} {x : Answer Plan} (g : ℕ → B) (f
   unfolding onAnswer
   planned-off e m h = rw (sym e, m) h
 
-module _ {A : Type 0} {y : A} {r x : Contained} (a b d : A) where
-  pub held : r ≡ x → r ≡ contained.Yes → y ≡ a → y ≡ onContained x a b d
+module _ {A : Type 0} {y : A} {r : Contained} (x : Contained) (a b d : A) where
+  pub held : containedAnswer r ≡ containedAnswer x → r ≡ contained.Yes → y ≡ a → y ≡ onContained x a b d
   unfolding onContained
-  held e m h = rw (sym e ∙ m) h
+  held e m h = rw (sym (same-contained r x e) ∙ m) h
 
-  pub not-held : r ≡ x → r ≡ contained.No → y ≡ b → y ≡ onContained x a b d
+  pub not-held : containedAnswer r ≡ containedAnswer x → r ≡ contained.No → y ≡ b → y ≡ onContained x a b d
   unfolding onContained
-  not-held e m h = rw (sym e ∙ m) h
+  not-held e m h = rw (sym (same-contained r x e) ∙ m) h
 
-  pub held-damaged : r ≡ x → r ≡ contained.Damaged → y ≡ d → y ≡ onContained x a b d
+  pub held-damaged : containedAnswer r ≡ containedAnswer x → r ≡ contained.Damaged → y ≡ d → y ≡ onContained x a b d
   unfolding onContained
-  held-damaged e m h = rw (sym e ∙ m) h
+  held-damaged e m h = rw (sym (same-contained r x e) ∙ m) h
 
 -- The record count is the count of rows.
 module _ {A : Type 0} {y : A} (a b : A) (rows : List (List ℕ)) where

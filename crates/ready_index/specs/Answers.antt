@@ -1,5 +1,5 @@
--- What each answer of the crate stands for: document 01's number, or its values.
-use Prim.Native.Nat.{ℕ}
+-- What each answer of the crate stands for: document 01's number, or its values. The first three stay shut in proofs of
+-- code, which go by the laws in AnswersLaws.
 use mathlib.Core.Bool.{Bool, true, false}
 use Rattle.refusal.specs.Answer.{Answer, value, refused, numberOf, damaged}
 use Rattle.thread.specs.declared.Link.{Link}
@@ -18,19 +18,19 @@ use Rattle.ready_index.specs.declared.TreeRoot.{TreeRoot}
 use Rattle.ready_index.specs.declared.TreeRoot.the-variants as tree-root
 
 -- The tree's least thread, or none.
-abbrev pub leastAnswer : Least → Answer Link
+unfoldable pub leastAnswer : Least → Answer Link
 leastAnswer least.None = value link.None
 leastAnswer (least.Some i) = value (link.Some i)
 leastAnswer least.Damaged = refused damaged
 
 -- Whether the tree holds the thread.
-abbrev pub containedAnswer : Contained → Answer Bool
+unfoldable pub containedAnswer : Contained → Answer Bool
 containedAnswer contained.Yes = value true
 containedAnswer contained.No = value false
 containedAnswer contained.Damaged = refused damaged
 
 -- The tree's root afterwards.
-abbrev pub rootedAnswer : Rooted → Answer Link
+unfoldable pub rootedAnswer : Rooted → Answer Link
 rootedAnswer (rooted.Root l) = value l
 rootedAnswer rooted.Damaged = refused damaged
 

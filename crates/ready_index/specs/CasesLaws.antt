@@ -11,7 +11,7 @@ use Rattle.ready_index.specs.declared.Way.{Way}
 use Rattle.ready_index.specs.declared.Way.the-variants as way
 use Rattle.ready_index.specs.declared.Sought.{Sought}
 use Rattle.ready_index.specs.declared.Sought.the-variants as sought
-use Rattle.rotations.specs.CasesLaws.{turnings}
+use Rattle.rotations.specs.CasesLaws.{balancings}
 use Rattle.rows.specs.Table.{Out, out}
 use Rattle.ready_index.specs.Cases.{onRooted, onWay, onSought}
 
@@ -70,7 +70,7 @@ made-anew e h = rw e h
 
 pub ruleset answers = (
   orderings,
-  turnings,
+  balancings,
   rooted-root,
   rooted-damaged,
   way-left,

@@ -16,6 +16,9 @@ use Rattle.rows.specs.declared.Change.the-variants as change
 use Rattle.rows.specs.Table.{Out, out, after, linksAt, setLinks, setLeft, setRight}
 use Rattle.rows.specs.TableCases.{onLinks, onMade}
 use Rattle.rows.specs.TableLaws.{links-got-within, links-set-links-same, set-left-links, set-right-links}
+use Rattle.rows.specs.Answers.{linksAnswer}
+use Rattle.rows.specs.AnswersLaws.{same-links}
+use Rattle.rotations.specs.AnswersLaws.{same-turn}
 use Rattle.rotations.specs.declared.Turned.{Turned}
 use Rattle.rotations.specs.declared.Turned.the-variants as turned
 use Rattle.rotations.specs.Balance.{balance}
@@ -39,27 +42,32 @@ climbed t s sub {l} {m} e f =
     go (out change.Made t₁) k = by-its-links t₁ (s .id) k
     go (out change.Damaged t₁) k = refl
 
+read-as : (t : List ThreadRecord) (i : ℕ) {x : LinksRead} → linksAnswer x ≡ linksAnswer (linksAt t i) → x ≡ linksAt t i
+read-as t i {x} e = same-links x (linksAt t i) e
+
 -- By what was read of the node, x, and by the side that the step's row says: with 0 the left one.
 module _ {y : Out Turned} {x : LinksRead} (t : List ThreadRecord) (step : List ℕ) (sub : Link) where
-  pub up-from-nowhere : x ≡ linksAt t (getD step 0 0) → x ≡ links.Damaged → y ≡ out turned.Damaged t
-      → y ≡ rebuildStep t (stepOf step) sub
+  pub up-from-nowhere : linksAnswer x ≡ linksAnswer (linksAt t (getD step 0 0)) → x ≡ links.Damaged
+      → y ≡ out turned.Damaged t → y ≡ rebuildStep t (stepOf step) sub
   unfolding rebuildStep onLinks
-  up-from-nowhere e m h = rw (sym e ∙ m) h
+  up-from-nowhere e m h = rw (sym (read-as t (getD step 0 0) e) ∙ m) h
 
-  pub up-from-left : {l : Links} → x ≡ linksAt t (getD step 0 0) → x ≡ links.Got l → getD step 1 0 ≡ 0
+  pub up-from-left : {l : Links} → linksAnswer x ≡ linksAnswer (linksAt t (getD step 0 0)) → x ≡ links.Got l
+      → getD step 1 0 ≡ 0
       → y ≡ onMade (setLeft t (getD step 0 0) sub) (out turned.Damaged)
       (λ t₁. balanceBy t₁ (getD step 0 0) sub (l .right)) → y ≡ rebuildStep t (stepOf step) sub
   unfolding hung choose
   up-from-left e m p h =
-      (rw (set-left-links t (getD step 0 0) (sym e ∙ m) sub) at h)
-      ∙ climbed t (stepOf step) sub (sym e ∙ m) (rw (eq-eqb (getD step 1 0) 0 p))
+      (rw (set-left-links t (getD step 0 0) (sym (read-as t (getD step 0 0) e) ∙ m) sub) at h)
+      ∙ climbed t (stepOf step) sub (sym (read-as t (getD step 0 0) e) ∙ m) (rw (eq-eqb (getD step 1 0) 0 p))
 
-  pub up-from-right : {l : Links} → x ≡ linksAt t (getD step 0 0) → x ≡ links.Got l → (getD step 1 0 ≡ 0 → ⊥)
+  pub up-from-right : {l : Links} → linksAnswer x ≡ linksAnswer (linksAt t (getD step 0 0)) → x ≡ links.Got l
+      → (getD step 1 0 ≡ 0 → ⊥)
       → y ≡ onMade (setRight t (getD step 0 0) sub) (out turned.Damaged)
       (λ t₁. balanceBy t₁ (getD step 0 0) (l .left) sub) → y ≡ rebuildStep t (stepOf step) sub
   unfolding hung choose
   up-from-right e m p h =
-      (rw (set-right-links t (getD step 0 0) (sym e ∙ m) sub) at h)
-      ∙ climbed t (stepOf step) sub (sym e ∙ m) (rw (ne-eqb (getD step 1 0) 0 p))
+      (rw (set-right-links t (getD step 0 0) (sym (read-as t (getD step 0 0) e) ∙ m) sub) at h)
+      ∙ climbed t (stepOf step) sub (sym (read-as t (getD step 0 0) e) ∙ m) (rw (ne-eqb (getD step 1 0) 0 p))
 
-pub ruleset step-up = (up-from-nowhere, up-from-left, up-from-right)
+pub ruleset step-up = (up-from-nowhere, up-from-left, up-from-right, same-turn)

@@ -6,6 +6,8 @@ pub mod CasesLaws
 pub mod Index
 -- What the answers stand for.
 pub mod Answers
+-- Laws of those.
+pub mod AnswersLaws
 -- The calls on a tree by itself, with what is asked first.
 pub mod Calls
 -- The lent path as steps.

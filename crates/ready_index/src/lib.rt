@@ -8,7 +8,10 @@ ghost use Prim.Native.Nat.{_+_, _-_, _≤_};
 ghost use mathlib.Core.List.{[]};
 ghost use mathlib.Core.Path.{_≡_};
 ghost use lib.ListN.{length};
+ghost use Rattle.rows.specs.Asked.{answering};
 ghost use Rattle.rows.specs.Table.{table, out};
+ghost use Rattle.rotations.specs.Answers.{turnedAnswer};
+ghost use Rattle.ready_index.specs.Answers.{leastAnswer, containedAnswer, rootedAnswer};
 ghost use Rattle.ready_index.specs.Index as index;
 ghost use Rattle.ready_index.specs.Path.{stepOf, stack, walkOf, walkSteps, lastSought, searchOf, searchSteps};
 ghost use Rattle.ready_index.specs.Path.{successorOf, successorSteps};
@@ -146,7 +149,7 @@ fn descend(t: &[Row], start: u64) -> Least
 
 // The least thread of the tree under a root.
 pub fn first_under(t: &[Row], root: Link) -> Least
-    ensures { λ r. ⌜ r ≡ index.first (table (now (t .entry))) root ⌝ }
+    ensures { λ r. ⌜ leastAnswer r ≡ leastAnswer (index.first (table (now (t .entry))) root) ⌝ }
 {
     match root {
         Link::None => Least::None,
@@ -215,7 +218,7 @@ fn look_for(t: &[Row], key: TreeKey, id: u64, root: Link) -> Contained
 
 // Whether the tree under a root holds a thread.
 pub fn contains_under(t: &[Row], root: Link, id: u64) -> Contained
-    ensures { λ r. ⌜ r ≡ index.contains (table (now (t .entry))) root id ⌝ }
+    ensures { λ r. ⌜ containedAnswer r ≡ containedAnswer (index.contains (table (now (t .entry))) root id) ⌝ }
 {
     let KeyRead::Got(key) = key_at(t, id) else {
         return Contained::Damaged;
@@ -263,7 +266,8 @@ fn walk(t: &[Row], path: &mut [PathStep], key: TreeKey, root: Link) -> Walked
 // One step up: the new subtree is hung under the node where the step led, and the node balanced. Its links are read
 // before the store and not again: a load that may or may not meet a store just made waits for it.
 fn rebuild_step(t: &mut [Row], step: [u64; 2], sub: Link) -> Turned
-    ensures { λ r. ⌜ out r (table (now (t .exit))) ≡ index.rebuildStep (table (now (t .entry))) (stepOf step) sub ⌝ }
+    ensures { λ r. ⌜ out (turnedAnswer r) (table (now (t .exit)))
+        ≡ answering turnedAnswer (index.rebuildStep (table (now (t .entry))) (stepOf step) sub) ⌝ }
 {
     let parent = step[0];
     let LinksRead::Got(links) = links_at(t, parent) else {
@@ -334,7 +338,8 @@ fn insert_at(t: &mut [Row], path: &mut [PathStep], key: TreeKey, root: Link, id:
 
 // A thread put into the tree under a root, by a path that is lent for the time of the call.
 pub fn insert_under(t: &mut [Row], path: &mut Path, root: Link, id: u64) -> Rooted
-    ensures { λ r. ⌜ out r (table (now (t .exit))) ≡ index.insert (table (now (t .entry))) root id ⌝ }
+    ensures { λ r. ⌜ out (rootedAnswer r) (table (now (t .exit)))
+        ≡ answering rootedAnswer (index.insert (table (now (t .entry))) root id) ⌝ }
 {
     let KeyRead::Got(key) = key_at(t, id) else {
         return Rooted::Damaged;
@@ -561,7 +566,8 @@ fn remove_at(t: &mut [Row], path: &mut [PathStep], key: TreeKey, root: Link, id:
 
 // A thread taken out of the tree under a root, by a path that is lent for the time of the call.
 pub fn remove_under(t: &mut [Row], path: &mut Path, root: Link, id: u64) -> Rooted
-    ensures { λ r. ⌜ out r (table (now (t .exit))) ≡ index.remove (table (now (t .entry))) root id ⌝ }
+    ensures { λ r. ⌜ out (rootedAnswer r) (table (now (t .exit)))
+        ≡ answering rootedAnswer (index.remove (table (now (t .entry))) root id) ⌝ }
 {
     let KeyRead::Got(key) = key_at(t, id) else {
         return Rooted::Damaged;

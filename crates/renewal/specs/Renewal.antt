@@ -12,7 +12,6 @@ use Rattle.time.specs.declared.Epoch.the-variants as epoch
 use Rattle.policy.specs.PolicyCases.{onBudget}
 use Rattle.algorithms.specs.Runtime.{epochRefreshed}
 use Rattle.thread.specs.declared.Link.{Link}
-use Rattle.thread.specs.declared.Link.the-variants as link
 use Rattle.thread.specs.declared.ThreadRecord.{ThreadRecord}
 use Rattle.thread.specs.Membership.{onLink}
 use Rattle.thread.specs.Records.{withRuntime}
@@ -20,8 +19,7 @@ use Rattle.thread.specs.Judgement.{isBadRecord}
 use Rattle.rows.specs.Table.{Out, out, after, recordAt, setRuntime}
 use Rattle.rows.specs.TableCases.{onRecord}
 use Rattle.lists.specs.Lists.{onAnswer, onOut}
-use Rattle.ready_index.specs.declared.Least.{Least}
-use Rattle.ready_index.specs.declared.Least.the-variants as least
+use Rattle.ready_index.specs.Answers.{leastAnswer}
 use Rattle.ready_index.specs.Cases.{onRooted}
 use Rattle.ready_index.specs.Index as index
 use Rattle.queue.specs.declared.Root.{Root}
@@ -31,14 +29,9 @@ use Rattle.renewal.specs.Parts.{SelectionParts}
 use Rattle.renewal.specs.Leaves.{Leaves, leaves, onLeaves}
 use Rattle.thread.specs.Filing.{budgetExhausted, budgetReady}
 
-unfoldable pub leastLink : Least → Answer Link
-leastLink least.None = value link.None
-leastLink (least.Some i) = value (link.Some i)
-leastLink least.Damaged = refused damaged
-
 -- The head of a tree, or none of an empty tree; an error on the way to it is Damaged.
 unfoldable pub headOf : List ThreadRecord → Link → Answer Link
-headOf t root = leastLink (index.first t root)
+headOf t root = leastAnswer (index.first t root)
 
 -- A record that was read: judged, then refreshed to now, and stored where it has a budget (`refresh_runtime`). The
 -- answer is the record as it then stands.

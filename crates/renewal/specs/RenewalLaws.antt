@@ -40,7 +40,11 @@ use Rattle.rows.specs.Table.{Out, out, after, table, recordOf, recordAt, setRun
 use Rattle.rows.specs.TableCases.{onRecord}
 use Rattle.rows.specs.TableLaws.{record-within, record-got-within, record-set-runtime-same}
 use Rattle.rows.specs.RowTableLaws.{record-inside}
+use Rattle.lists.specs.ListsLaws.{left-by}
 use Rattle.lists.specs.Lists.{onAnswer, onOut}
+use Rattle.rows.specs.declared.Change.{Change}
+use Rattle.rows.specs.Asked.{answering}
+use Rattle.rows.specs.Answers.{changeAnswer}
 use Rattle.ready_index.specs.declared.Least.{Least}
 use Rattle.ready_index.specs.declared.Least.the-variants as least
 use Rattle.ready_index.specs.Cases.{onRooted}
@@ -64,7 +68,8 @@ use Rattle.queue.specs.Queue.{emptyRoot}
 use Rattle.queue.specs.RowJudgement.{kindFrom, badRow, budgetParameters, judged-by-tags, kind-of-two, budget-runs}
 use Rattle.queue.specs.RowJudgement.{without-budget, with-budget}
 use Rattle.renewal.specs.RootRows.{rootsOf}
-use Rattle.renewal.specs.Renewal.{leastLink, headOf, refreshRecord, refreshRuntime, budgetTrees, moveOne}
+use Rattle.ready_index.specs.Answers.{leastAnswer}
+use Rattle.renewal.specs.Renewal.{headOf, refreshRecord, refreshRuntime, budgetTrees, moveOne}
 use Rattle.renewal.specs.Renewal.{moveAll, rootAt, withTrees, renewRoles, isEpoch}
 use Rattle.renewal.specs.Steps.{refreshedStored, budgetRefreshed, rowRefreshed, runtimeRefreshed, refiled, Next}
 use Rattle.renewal.specs.Steps.{emptied, moved, stopped, onNext, nextMove, lastMove, roleRenewed}
@@ -73,18 +78,19 @@ use Rattle.policy_words.specs.PolicyWords.{policyTag, budgetTag, runtimeTag}
 use Rattle.thread.specs.Filing.{budgetExhausted, budgetReady}
 
 -- By the least thread of a tree.
-module _ {y : Answer Link} {r x : Least} where
-  pub least-none : r ≡ x → r ≡ least.None → y ≡ value link.None → y ≡ leastLink x
-  unfolding leastLink
-  least-none e m h = rw (sym e ∙ m) h
+module _ {y : Answer Link} {r : Least} (x : Least) where
+  pub least-none : leastAnswer r ≡ leastAnswer x → r ≡ least.None → y ≡ value link.None → y ≡ leastAnswer x
+  unfolding leastAnswer
+  least-none e m h = h ∙ ap leastAnswer (sym m) ∙ e
 
-  pub least-some : {n : ℕ} → r ≡ x → r ≡ least.Some n → y ≡ value (link.Some n) → y ≡ leastLink x
-  unfolding leastLink
-  least-some e m h = rw (sym e ∙ m) h
+  pub least-some : {n : ℕ} → leastAnswer r ≡ leastAnswer x → r ≡ least.Some n → y ≡ value (link.Some n)
+      → y ≡ leastAnswer x
+  unfolding leastAnswer
+  least-some e m h = h ∙ ap leastAnswer (sym m) ∙ e
 
-  pub least-damaged : r ≡ x → r ≡ least.Damaged → y ≡ refused damaged → y ≡ leastLink x
-  unfolding leastLink
-  least-damaged e m h = rw (sym e ∙ m) h
+  pub least-damaged : leastAnswer r ≡ leastAnswer x → r ≡ least.Damaged → y ≡ refused damaged → y ≡ leastAnswer x
+  unfolding leastAnswer
+  least-damaged e m h = h ∙ ap leastAnswer (sym m) ∙ e
 
 -- By a tree's head.
 module _ {B : Type 0} {y : B} {r : HeadRead} {x : Answer Link} (g : ℕ → B) (f : Link → B) where
@@ -117,9 +123,9 @@ module _ {B : Type 0} {y : B} {r : Verdict} (g : ℕ → B) (f : Unit {0} → B)
   was-turned-down m h = rw m h
 
 -- An answer and the table after a store.
-pub stored-after : {A B : Type 0} {a : A} {c : B} {t : List ThreadRecord} {x : Out B} → out c t ≡ x
-    → out a t ≡ out a (after x)
-stored-after s = rw (ap after s)
+pub stored-after : {A : Type 0} {a : A} (c : Change) (x : Out Change) {t : List ThreadRecord}
+    → out (changeAnswer c) t ≡ answering changeAnswer x → out a t ≡ out a (after x)
+stored-after c x s = rw (left-by c x s)
 
 -- By the budget that a row's words say.
 module _ {A : Type 0} {y : A} (w : List ℕ) (a : A) (f : BudgetParameters → A) where
@@ -425,7 +431,7 @@ set-same {A} (x ∷ l) (suc k) d = ap {B = List A} (λ r. x ∷ r) (set-same l k
 
 no-exhausted : (moves : ℕ) (t : List ThreadRecord) (ready : Link) (now : ℕ)
     → moveAll moves t link.None ready now ≡ out (leaves (value tt) (budgetTrees link.None ready moves)) t
-unfolding moveAll headOf index.first leastLink onAnswer onLink
+unfolding moveAll headOf index.first leastAnswer onAnswer onLink
 no-exhausted zero t ready now = refl
 no-exhausted (suc moves) t ready now = refl
 

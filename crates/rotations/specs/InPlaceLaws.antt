@@ -17,12 +17,15 @@ use Rattle.thread.specs.declared.ThreadRecord.{ThreadRecord}
 use Rattle.rows.specs.declared.LinksRead.the-variants as links
 use Rattle.rows.specs.declared.Change.the-variants as change
 use Rattle.rows.specs.Table.{Out, out, linksAt, setLinks, setHeight}
+use Rattle.rows.specs.Asked.{answering}
 use Rattle.rows.specs.TableCases.{onLinks, onMade}
 use Rattle.rows.specs.TableLaws.{set-height-links}
 use Rattle.rotations.specs.declared.HeightRead.{HeightRead}
 use Rattle.rotations.specs.declared.HeightRead.the-variants as read
 use Rattle.rotations.specs.declared.Turned.{Turned}
 use Rattle.rotations.specs.declared.Turned.the-variants as turned
+use Rattle.rotations.specs.Answers.{turnedAnswer}
+use Rattle.rotations.specs.AnswersLaws.{same-turn}
 use Rattle.rotations.specs.Cases.{onHeight}
 use Rattle.rotations.specs.CasesLaws.{height-got, height-damaged}
 use Rattle.rotations.specs.Balance.{height, larger, update, balance}
@@ -86,9 +89,9 @@ module _ (t : List ThreadRecord) (i : ℕ) {l : Links} (e : linksAt t i ≡ link
       go (read.Got a) f (read.Got b) g = even a b f g (isEven a b) refl
 
 -- An answer handed on.
-pub handed-on : {r x : Turned} {s : List ThreadRecord} (t : List ThreadRecord) (i : ℕ) → out r s ≡ balance t i → r ≡ x
-    → out x s ≡ balance t i
-handed-on t i e m = rw (sym m) e
+pub handed-on : {r x : Turned} {s : List ThreadRecord} (t : List ThreadRecord) (i : ℕ)
+    → out (turnedAnswer r) s ≡ answering turnedAnswer (balance t i) → r ≡ x → out x s ≡ balance t i
+handed-on {r} {x} {s} t i e m = rw (sym m) (same-turn r s (balance t i) e)
 
 -- Going by two heights and by whether they are even: few laws, so that a search for what is not so comes to its end.
 pub ruleset by-links = (height-got, height-damaged, holds, fails, handed-on)

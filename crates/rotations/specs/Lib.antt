@@ -1,5 +1,9 @@
 -- Going by what a call answered.
 pub mod Cases
+-- What the answer stands for.
+pub mod Answers
+-- Laws of that.
+pub mod AnswersLaws
 -- The laws by which proofs of code go by an answer.
 pub mod CasesLaws
 -- Heights, rotations and the balancing of one node.

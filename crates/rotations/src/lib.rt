@@ -2,7 +2,10 @@
 ghost use Prim.Native.Nat.{_+_, _-_};
 ghost use mathlib.Core.Path.{_≡_};
 ghost use Rattle.avl.specs.Rotation.{leanOf};
+ghost use Rattle.rows.specs.Answers.{changeAnswer};
+ghost use Rattle.rows.specs.Asked.{answering};
 ghost use Rattle.rows.specs.Table.{table, out};
+ghost use Rattle.rotations.specs.Answers.{turnedAnswer};
 ghost use Rattle.rotations.specs.Balance as spec;
 ghost use Rattle.rotations.specs.InPlace.{isEven, heightStored, balanceBy};
 use avl::Lean;
@@ -49,7 +52,8 @@ fn larger(a: u8, b: u8) -> u8
 }
 
 fn update(t: &mut [Row], i: u64, links: Links) -> Change
-    ensures { λ r. ⌜ out r (table (now (t .exit))) ≡ spec.update (table (now (t .entry))) i links ⌝ }
+    ensures { λ r. ⌜ out (changeAnswer r) (table (now (t .exit)))
+        ≡ answering changeAnswer (spec.update (table (now (t .entry))) i links) ⌝ }
 {
     let left = links.left;
     let right = links.right;
@@ -258,7 +262,8 @@ fn lean(left: u8, right: u8) -> Lean
 }
 
 pub fn balance(t: &mut [Row], i: u64) -> Turned
-    ensures { λ r. ⌜ out r (table (now (t .exit))) ≡ spec.balance (table (now (t .entry))) i ⌝ }
+    ensures { λ r. ⌜ out (turnedAnswer r) (table (now (t .exit)))
+        ≡ answering turnedAnswer (spec.balance (table (now (t .entry))) i) ⌝ }
 {
     let LinksRead::Got(links) = links_at(t, i) else {
         return Turned::Damaged;
@@ -315,7 +320,8 @@ fn store_height(t: &mut [Row], i: u64, left: u8, right: u8) -> Turned
 // `balance` for the way up, where the node's links are known and nearly every node stays in its place: then nothing is
 // read again, the height alone is stored, and no call is made.
 pub fn rebalance(t: &mut [Row], i: u64, left: Link, right: Link) -> Turned
-    ensures { λ r. ⌜ out r (table (now (t .exit))) ≡ balanceBy (table (now (t .entry))) i left right ⌝ }
+    ensures { λ r. ⌜ out (turnedAnswer r) (table (now (t .exit)))
+        ≡ answering turnedAnswer (balanceBy (table (now (t .entry))) i left right) ⌝ }
 {
     let HeightRead::Got(a) = height(t, left) else {
         return Turned::Damaged;

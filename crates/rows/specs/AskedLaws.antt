@@ -93,5 +93,3 @@ unfolding answering
 answered-by f h e = rw (e, sym h) refl
 
 pub ruleset counts = (below-count, not-below-count)
-
-pub ruleset askings = (table-refused, table-granted, granted, turned-away, answered-by)

@@ -17,6 +17,9 @@ use Rattle.rows.specs.declared.RecordRead.the-variants as read
 use Rattle.rows.specs.declared.Change.{Change}
 use Rattle.rows.specs.declared.Change.the-variants as change
 use Rattle.rows.specs.Table.{Out, out}
+use Rattle.rows.specs.Asked.{answering}
+use Rattle.rows.specs.Answers.{linksAnswer, keyAnswer, queueLinksAnswer, changeAnswer}
+use Rattle.rows.specs.AnswersLaws.{same-links, same-key, same-queue-links, same-change}
 
 -- Each with Damaged first.
 unfoldable pub onLinks : {A : Type 0} → LinksRead → A → (Links → A) → A
@@ -41,31 +44,36 @@ onMade (out change.Damaged t) a f = a t
 onMade (out change.Made t) a f = f t
 
 module _ {A : Type 0} {y : A} (a : A) where
-  pub links-got : {r x : LinksRead} {l : Links} (f : Links → A) → r ≡ x → r ≡ links.Got l → y ≡ f l → y ≡ onLinks x a f
+  pub links-got : {r : LinksRead} (x : LinksRead) {l : Links} (f : Links → A)
+      → linksAnswer r ≡ linksAnswer x → r ≡ links.Got l → y ≡ f l → y ≡ onLinks x a f
   unfolding onLinks
-  links-got f e m h = rw (sym e ∙ m) h
+  links-got {r} x f e m h = rw (sym (same-links r x e) ∙ m) h
 
-  pub links-damaged : {r x : LinksRead} (f : Links → A) → r ≡ x → r ≡ links.Damaged → y ≡ a → y ≡ onLinks x a f
+  pub links-damaged : {r : LinksRead} (x : LinksRead) (f : Links → A)
+      → linksAnswer r ≡ linksAnswer x → r ≡ links.Damaged → y ≡ a → y ≡ onLinks x a f
   unfolding onLinks
-  links-damaged f e m h = rw (sym e ∙ m) h
+  links-damaged {r} x f e m h = rw (sym (same-links r x e) ∙ m) h
 
-  pub key-got : {r x : KeyRead} {k : TreeKey} (f : TreeKey → A) → r ≡ x → r ≡ key.Got k → y ≡ f k → y ≡ onKey x a f
+  pub key-got : {r : KeyRead} (x : KeyRead) {k : TreeKey} (f : TreeKey → A)
+      → keyAnswer r ≡ keyAnswer x → r ≡ key.Got k → y ≡ f k → y ≡ onKey x a f
   unfolding onKey
-  key-got f e m h = rw (sym e ∙ m) h
+  key-got {r} x f e m h = rw (sym (same-key r x e) ∙ m) h
 
-  pub key-damaged : {r x : KeyRead} (f : TreeKey → A) → r ≡ x → r ≡ key.Damaged → y ≡ a → y ≡ onKey x a f
+  pub key-damaged : {r : KeyRead} (x : KeyRead) (f : TreeKey → A)
+      → keyAnswer r ≡ keyAnswer x → r ≡ key.Damaged → y ≡ a → y ≡ onKey x a f
   unfolding onKey
-  key-damaged f e m h = rw (sym e ∙ m) h
+  key-damaged {r} x f e m h = rw (sym (same-key r x e) ∙ m) h
 
-  pub queue-links-got : {r x : QueueLinksRead} {l : QueueLinks} (f : QueueLinks → A) → r ≡ x → r ≡ queueLinks.Got l
-      → y ≡ f l → y ≡ onQueueLinks x a f
+  pub queue-links-got : {r : QueueLinksRead} (x : QueueLinksRead) {l : QueueLinks} (f : QueueLinks → A)
+      → queueLinksAnswer r ≡ queueLinksAnswer x → r ≡ queueLinks.Got l → y ≡ f l → y ≡ onQueueLinks x a f
   unfolding onQueueLinks
-  queue-links-got f e m h = rw (sym e ∙ m) h
+  queue-links-got {r} x f e m h = rw (sym (same-queue-links r x e) ∙ m) h
 
-  pub queue-links-damaged : {r x : QueueLinksRead} (f : QueueLinks → A) → r ≡ x → r ≡ queueLinks.Damaged → y ≡ a
+  pub queue-links-damaged : {r : QueueLinksRead} (x : QueueLinksRead) (f : QueueLinks → A)
+      → queueLinksAnswer r ≡ queueLinksAnswer x → r ≡ queueLinks.Damaged → y ≡ a
       → y ≡ onQueueLinks x a f
   unfolding onQueueLinks
-  queue-links-damaged f e m h = rw (sym e ∙ m) h
+  queue-links-damaged {r} x f e m h = rw (sym (same-queue-links r x e) ∙ m) h
 
   pub record-got : {r x : RecordRead} {t : ThreadRecord} (f : ThreadRecord → A) → r ≡ x → r ≡ read.Got t → y ≡ f t
       → y ≡ onRecord x a f
@@ -76,14 +84,14 @@ module _ {A : Type 0} {y : A} (a : A) where
   unfolding onRecord
   record-damaged f e m h = rw (sym e ∙ m) h
 
-module _ {A : Type 0} {y : A} {r : Change} {x : Out Change} {t : List ThreadRecord} (a f : List ThreadRecord → A) where
-  pub made : out r t ≡ x → r ≡ change.Made → y ≡ f t → y ≡ onMade x a f
+module _ {A : Type 0} {y : A} {r : Change} (x : Out Change) {t : List ThreadRecord} (a f : List ThreadRecord → A) where
+  pub made : out (changeAnswer r) t ≡ answering changeAnswer x → r ≡ change.Made → y ≡ f t → y ≡ onMade x a f
   unfolding onMade
-  made e m h = rw (sym e) (rw m h)
+  made e m h = rw (sym (same-change r t x e)) (rw m h)
 
-  pub not-made : out r t ≡ x → r ≡ change.Damaged → y ≡ a t → y ≡ onMade x a f
+  pub not-made : out (changeAnswer r) t ≡ answering changeAnswer x → r ≡ change.Damaged → y ≡ a t → y ≡ onMade x a f
   unfolding onMade
-  not-made e m h = rw (sym e) (rw m h)
+  not-made e m h = rw (sym (same-change r t x e)) (rw m h)
 
 pub ruleset tables = (
   links-got,

@@ -2,8 +2,8 @@
 // part.
 ghost use mathlib.Core.Path.{_≡_};
 ghost use Rattle.refusal.specs.Answer.{value, refused};
-ghost use Rattle.rows.specs.Answers.{permissionAnswer};
-ghost use Rattle.rows.specs.Asked.{asked};
+ghost use Rattle.rows.specs.Answers.{linksAnswer, keyAnswer, queueLinksAnswer, changeAnswer, permissionAnswer};
+ghost use Rattle.rows.specs.Asked.{asked, answering};
 ghost use Rattle.rows.specs.Table.{table, out, linksAt, keyAt, queueLinksAt, setLinks, setLeft, setRight};
 ghost use Rattle.rows.specs.Table.{setHeight, setQueueLinks, setRuntime, setTurn};
 use algorithms::PolicyRuntime;
@@ -77,7 +77,7 @@ pub fn asked(t: &[Row], id: u64) -> Permission
 }
 
 pub fn links_at(t: &[Row], i: u64) -> LinksRead
-    ensures { λ r. ⌜ r ≡ linksAt (table (now (t .entry))) i ⌝ }
+    ensures { λ r. ⌜ linksAnswer r ≡ linksAnswer (linksAt (table (now (t .entry))) i) ⌝ }
 {
     let k = i as usize;
     if k < t.len() {
@@ -89,7 +89,7 @@ pub fn links_at(t: &[Row], i: u64) -> LinksRead
 }
 
 pub fn key_at(t: &[Row], i: u64) -> KeyRead
-    ensures { λ r. ⌜ r ≡ keyAt (table (now (t .entry))) i ⌝ }
+    ensures { λ r. ⌜ keyAnswer r ≡ keyAnswer (keyAt (table (now (t .entry))) i) ⌝ }
 {
     let k = i as usize;
     if k < t.len() {
@@ -101,7 +101,7 @@ pub fn key_at(t: &[Row], i: u64) -> KeyRead
 }
 
 pub fn queue_links_at(t: &[Row], i: u64) -> QueueLinksRead
-    ensures { λ r. ⌜ r ≡ queueLinksAt (table (now (t .entry))) i ⌝ }
+    ensures { λ r. ⌜ queueLinksAnswer r ≡ queueLinksAnswer (queueLinksAt (table (now (t .entry))) i) ⌝ }
 {
     let k = i as usize;
     if k < t.len() {
@@ -113,7 +113,8 @@ pub fn queue_links_at(t: &[Row], i: u64) -> QueueLinksRead
 }
 
 pub fn set_links(t: &mut [Row], i: u64, links: Links) -> Change
-    ensures { λ r. ⌜ out r (table (now (t .exit))) ≡ setLinks (table (now (t .entry))) i links ⌝ }
+    ensures { λ r. ⌜ out (changeAnswer r) (table (now (t .exit)))
+        ≡ answering changeAnswer (setLinks (table (now (t .entry))) i links) ⌝ }
 {
     let k = i as usize;
     if k < t.len() {
@@ -127,7 +128,8 @@ pub fn set_links(t: &mut [Row], i: u64, links: Links) -> Change
 
 // One of the tree links, or their height alone: two words or one are stored, and none has to be read.
 pub fn set_left(t: &mut [Row], i: u64, link: Link) -> Change
-    ensures { λ r. ⌜ out r (table (now (t .exit))) ≡ setLeft (table (now (t .entry))) i link ⌝ }
+    ensures { λ r. ⌜ out (changeAnswer r) (table (now (t .exit)))
+        ≡ answering changeAnswer (setLeft (table (now (t .entry))) i link) ⌝ }
 {
     let k = i as usize;
     if k < t.len() {
@@ -140,7 +142,8 @@ pub fn set_left(t: &mut [Row], i: u64, link: Link) -> Change
 }
 
 pub fn set_right(t: &mut [Row], i: u64, link: Link) -> Change
-    ensures { λ r. ⌜ out r (table (now (t .exit))) ≡ setRight (table (now (t .entry))) i link ⌝ }
+    ensures { λ r. ⌜ out (changeAnswer r) (table (now (t .exit)))
+        ≡ answering changeAnswer (setRight (table (now (t .entry))) i link) ⌝ }
 {
     let k = i as usize;
     if k < t.len() {
@@ -153,7 +156,8 @@ pub fn set_right(t: &mut [Row], i: u64, link: Link) -> Change
 }
 
 pub fn set_height(t: &mut [Row], i: u64, height: u8) -> Change
-    ensures { λ r. ⌜ out r (table (now (t .exit))) ≡ setHeight (table (now (t .entry))) i height ⌝ }
+    ensures { λ r. ⌜ out (changeAnswer r) (table (now (t .exit)))
+        ≡ answering changeAnswer (setHeight (table (now (t .entry))) i height) ⌝ }
 {
     let k = i as usize;
     if k < t.len() {
@@ -166,7 +170,8 @@ pub fn set_height(t: &mut [Row], i: u64, height: u8) -> Change
 }
 
 pub fn set_queue_links(t: &mut [Row], i: u64, links: QueueLinks) -> Change
-    ensures { λ r. ⌜ out r (table (now (t .exit))) ≡ setQueueLinks (table (now (t .entry))) i links ⌝ }
+    ensures { λ r. ⌜ out (changeAnswer r) (table (now (t .exit)))
+        ≡ answering changeAnswer (setQueueLinks (table (now (t .entry))) i links) ⌝ }
 {
     let k = i as usize;
     if k < t.len() {
@@ -179,7 +184,8 @@ pub fn set_queue_links(t: &mut [Row], i: u64, links: QueueLinks) -> Change
 }
 
 pub fn set_runtime(t: &mut [Row], i: u64, runtime: PolicyRuntime) -> Change
-    ensures { λ r. ⌜ out r (table (now (t .exit))) ≡ setRuntime (table (now (t .entry))) i runtime ⌝ }
+    ensures { λ r. ⌜ out (changeAnswer r) (table (now (t .exit)))
+        ≡ answering changeAnswer (setRuntime (table (now (t .entry))) i runtime) ⌝ }
 {
     let k = i as usize;
     if k < t.len() {
@@ -192,7 +198,8 @@ pub fn set_runtime(t: &mut [Row], i: u64, runtime: PolicyRuntime) -> Change
 }
 
 pub fn set_turn(t: &mut [Row], i: u64, turn: u64) -> Change
-    ensures { λ r. ⌜ out r (table (now (t .exit))) ≡ setTurn (table (now (t .entry))) i turn ⌝ }
+    ensures { λ r. ⌜ out (changeAnswer r) (table (now (t .exit)))
+        ≡ answering changeAnswer (setTurn (table (now (t .entry))) i turn) ⌝ }
 {
     let k = i as usize;
     if k < t.len() {

@@ -51,6 +51,8 @@ use Rattle.rows.specs.declared.Change.{Change}
 use Rattle.rows.specs.declared.RecordRead.the-variants as read
 use Rattle.rows.specs.Table.{Out, out, after, table, recordAt, setRuntime, setTurn}
 use Rattle.rows.specs.TableCases.{onRecord}
+use Rattle.rows.specs.Asked.{answering}
+use Rattle.rows.specs.Answers.{changeAnswer}
 use Rattle.rows.specs.RowTableLaws.{record-inside, record-outside, set-runtime-inside}
 use Rattle.lists.specs.Lists.{onAnswer, onOut}
 use Rattle.lists.specs.ListsLaws.{left-by, answered}
@@ -549,11 +551,11 @@ candidate-written w row p a n size e f =
     w size
 
 -- The turn is stored in the table that the refresh leaves.
-pub row-stores : {a : Bool} {c : Change} {t₁ t₂ : List ThreadRecord} (t : List ThreadRecord) (id : ℕ) (w : List ℕ)
-    (now turn : ℕ) → out a t₁ ≡ refreshedRow t id w now → out c t₂ ≡ setTurn t₁ id turn
-    → t₂ ≡ preparedRow t id w now turn
+pub row-stores : {a : Bool} (c : Change) {t₁ t₂ : List ThreadRecord} (t : List ThreadRecord) (id : ℕ) (w : List ℕ)
+    (now turn : ℕ) → out a t₁ ≡ refreshedRow t id w now
+    → out (changeAnswer c) t₂ ≡ answering changeAnswer (setTurn t₁ id turn) → t₂ ≡ preparedRow t id w now turn
 unfolding preparedRow onOut
-row-stores t id w now turn e f = rw (sym e) (ap after f)
+row-stores c {t₁} t id w now turn e f = rw (sym e) (left-by c (setTurn t₁ id turn) f)
 
 -- By the turn, with the policy by its words.
 module _ {A : Type 0} {y : A} {r : TurnAnswer} {p : SchedulingPolicy} (front : Bool) (w : List ℕ) (n : ℕ) (c : Turns)

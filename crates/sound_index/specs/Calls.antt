@@ -7,7 +7,7 @@ use Prim.Native.Nat.{ℕ, suc, _≤_, _<_}
 use native.Mathlib.Omega.{arith}
 use native.Mathlib.Decide.{decLe}
 use lib.ListN.{length}
-use Rattle.refusal.specs.Answer.{Answer, value, refused, damaged, badTable, noThread}
+use Rattle.refusal.specs.Answer.{value, refused, damaged, badTable, noThread}
 use Rattle.refusal.specs.Cases.{never, choose}
 use Rattle.avl.specs.Tree.{Tree, inOrder, Balanced}
 use Rattle.thread.specs.declared.Link.{Link}
@@ -76,7 +76,7 @@ module _ (t : List ThreadRecord) (x : Tree) (h : Holds t x) (b : Balanced x) (n 
   first-call = first-is t (root x) n ∙ ap leastAnswer (first-names-least t x h b n)
 
   pub contains-call : (i : ℕ) → i < length t → containsCall t (root x) i ≡ value (has i (inOrder x))
-  unfolding choose
+  unfolding choose containedAnswer
   contains-call i l = call-is t (root x) i n l .0 ∙ ap containedAnswer (contains-tells t x i h b n l)
       ∙ told (has i (inOrder x))
     where
@@ -88,7 +88,7 @@ module _ (t : List ThreadRecord) (x : Tree) (h : Holds t x) (b : Balanced x) (n 
   pub insert-call : (i : ℕ) (l : i < length t) (e : has i (inOrder x) ≡ false)
       → let I : Inserted t x i (insert t (root x) i) = insertion t x i h b n l e in
       insertCall t (root x) i ≡ out (value (root (I .tree))) (I .table)
-  unfolding answering
+  unfolding answering rootedAnswer
   insert-call i l e =
       call-is t (root x) i n l .1 ∙ ap (answering rootedAnswer) (insertion t x i h b n l e .is)
 
@@ -96,26 +96,26 @@ module _ (t : List ThreadRecord) (x : Tree) (h : Holds t x) (b : Balanced x) (n 
   pub remove-call : (i : ℕ) (e : has i (inOrder x) ≡ true)
       → let R : Removed t x i (remove t (root x) i) = removal t x i h b n e in
       removeCall t (root x) i ≡ out (value (root (R .tree))) (R .table)
-  unfolding answering
+  unfolding answering rootedAnswer
   remove-call i e =
       call-is t (root x) i n (held-inside t x i h e) .2 ∙ ap (answering rootedAnswer) (removal t x i h b n e .is)
 
   -- An equal key, or a thread that the tree does not hold, is Damaged, and nothing changes.
   pub equal-key-damaged : (i : ℕ) → has i (inOrder x) ≡ true → insertCall t (root x) i ≡ unchanged t damaged
-  unfolding answering
+  unfolding answering rootedAnswer
   equal-key-damaged i e =
       call-is t (root x) i n (held-inside t x i h e) .1
       ∙ ap (answering rootedAnswer) (equal-key-refused t x i h b n e)
 
   pub absent-damaged : (i : ℕ) → i < length t → has i (inOrder x) ≡ false
       → removeCall t (root x) i ≡ unchanged t damaged
-  unfolding answering
+  unfolding answering rootedAnswer
   absent-damaged i l e = call-is t (root x) i n l .2 ∙ ap (answering rootedAnswer) (absent-refused t x i h l e)
 
 -- What was answered as a value was answered as a root.
 accepted : (o : Out Rooted) (m : Link) (s : List ThreadRecord) → answering rootedAnswer o ≡ out (value m) s
     → o ≡ out (rooted.Root m) s
-unfolding answering
+unfolding answering rootedAnswer
 accepted (out (rooted.Root l) t) m s e =
     let p : l ≡ m = cc in
     let q : t ≡ s = cc in

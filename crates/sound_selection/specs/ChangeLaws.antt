@@ -29,7 +29,8 @@ use Rattle.sound_index.specs.Outcomes.{leastOf}
 use Rattle.sound_index.specs.Demand2.{first-names-least}
 use Rattle.queue.specs.declared.Root.{Root}
 use Rattle.queue.specs.Queue.{isBudget}
-use Rattle.renewal.specs.Renewal.{leastLink, headOf, rootAt}
+use Rattle.ready_index.specs.Answers.{leastAnswer}
+use Rattle.renewal.specs.Renewal.{headOf, rootAt}
 use Rattle.sound_queue.specs.Forest.{Forest}
 use Rattle.sound_queue.specs.LinksLaws.{alike-record}
 use Rattle.sound_queue.specs.Sound.{Filed, by-filing, in-partner}
@@ -101,8 +102,8 @@ precedes-each t i (k ∷ l) j p e =
 -- The head of a list of threads in key order, whose threads are those of tree k.
 head-by : (t : List ThreadRecord) (place : ℕ → ℕ) (k : ℕ) (l : List ℕ) → Rising t l
     → ((j : ℕ) → has j l ≡ eqb (place j) k)
-    → (x : Link) × (leastLink (leastOf l) ≡ value x) × Head t place k x
-unfolding leastLink
+    → (x : Link) × (leastAnswer (leastOf l) ≡ value x) × Head t place k x
+unfolding leastAnswer
 head-by t place k [] p x = (link.None, refl, nobody-there (λ j. eqb-false (place j) k (sym (x j))))
 head-by t place k (i ∷ l) p x = (
   link.Some i,

@@ -38,7 +38,8 @@ use Rattle.queue.specs.Queue.{partner, onContained, treeWith, removeReady, remo
 use Rattle.renewal.specs.Leaves.{onLeaves}
 use Rattle.demands.specs.Demands.{candidateOf, demandOf, either, joined, addDemand, comparePasses, lesserPass, onPass}
 use Rattle.demands.specs.Demands.{lowestPass, gathered, onCandidate, ofCurrent}
-use Rattle.renewal.specs.Renewal.{leastLink, headOf, refreshRecord, refreshRuntime, moveOne, moveAll, withTrees}
+use Rattle.ready_index.specs.Answers.{leastAnswer}
+use Rattle.renewal.specs.Renewal.{headOf, refreshRecord, refreshRuntime, moveOne, moveAll, withTrees}
 use Rattle.renewal.specs.Renewal.{renewRoles, isEpoch, isHalt, renew}
 use Rattle.selection.specs.Heads.{headAt, gatherHeads, onReady, onKeyOption, comesBefore, lesserReady, readyWith}
 use Rattle.selection.specs.Heads.{leastOf}
@@ -63,7 +64,7 @@ unfolding choose ifLess ifEqual given compareNumbers thenBy compareParts onOrder
     isReadyOn soundConfig ranksRise acceptsBudget sameBackend admitted windows.refreshed isPriority isProtected
     protectionDeadline dueAt exhaustedOf shutOut strictFifo hurried favoured algorithmOf onAlgorithm ordinaryRank
     tierOf keyOf compareKeys onLeaves candidateOf demandOf either joined addDemand comparePasses lesserPass onPass
-    lowestPass gathered onCandidate ofCurrent leastLink headOf refreshRecord refreshRuntime moveOne moveAll withTrees
+    lowestPass gathered onCandidate ofCurrent leastAnswer headOf refreshRecord refreshRuntime moveOne moveAll withTrees
     renewRoles isEpoch isHalt renew headAt gatherHeads onReady onKeyOption comesBefore lesserReady readyWith leastOf
     chosen peekRunning peekParts selectionParts withSelectionParts restored peekNext refreshedTo filedReady after
     afterAll including excluding

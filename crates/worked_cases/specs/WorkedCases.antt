@@ -46,7 +46,8 @@ use Rattle.queue.specs.Samples.{made, andAfter, then, leftBy}
 use Rattle.renewal.specs.Leaves.{onLeaves}
 use Rattle.demands.specs.Demands.{candidateOf, demandOf, either, joined, addDemand, comparePasses, lesserPass, onPass}
 use Rattle.demands.specs.Demands.{lowestPass, gathered, onCandidate, ofCurrent}
-use Rattle.renewal.specs.Renewal.{leastLink, headOf, refreshRecord, refreshRuntime, moveOne, moveAll, withTrees}
+use Rattle.ready_index.specs.Answers.{leastAnswer, rootedAnswer}
+use Rattle.renewal.specs.Renewal.{headOf, refreshRecord, refreshRuntime, moveOne, moveAll, withTrees}
 use Rattle.renewal.specs.Renewal.{renewRoles, isEpoch, isHalt, renew}
 use Rattle.selection.specs.Heads.{headAt, gatherHeads, onReady, onKeyOption, comesBefore, lesserReady, readyWith}
 use Rattle.selection.specs.Heads.{leastOf}
@@ -79,15 +80,15 @@ unfolding choose ifLess ifEqual given compareNumbers thenBy compareParts onOrder
     onOut setNext setPrevious commitInsert commitRemove append prepend push pushFront updatePreviousLink updateNextLink
     unlink list.remove onHeight onTurned onRooted onWay onSought height larger update rotateLeft rotateRight balanceLeft
     balanceRight balance wayAt lookFor contains onWalk walk hung rebuildStep rebuild insert soughtAt onSearch
-    search onSuccessor successor replace index.remove askedTable asked answering tree.insertCall tree.removeCall
-    countedIn countedOut totalIn totalOut pushAt insertWork removeWork
+    search onSuccessor successor replace index.remove askedTable asked answering rootedAnswer tree.insertCall
+    tree.removeCall countedIn countedOut totalIn totalOut pushAt insertWork removeWork
     listOf partsOf withParts worked isFifo isBudget membershipFor judged enqueueCall partner onContained treeWith
     removeReady removeFrom removeCall made andAfter then leftBy rises periodStart checkedAdd periodEnd onDeadline
     epochRefreshed ofBudget budget.judged budget.refreshed budget.refreshedJudged setRuntime descend first isReadyOn
     soundConfig ranksRise acceptsBudget windows.refreshed isPriority isProtected protectionDeadline dueAt exhaustedOf
     shutOut strictFifo hurried favoured algorithmOf onAlgorithm ordinaryRank tierOf keyOf compareKeys onLeaves
     candidateOf demandOf either joined addDemand comparePasses lesserPass onPass lowestPass gathered onCandidate
-    ofCurrent leastLink headOf refreshRecord refreshRuntime moveOne moveAll withTrees renewRoles isEpoch isHalt renew
+    ofCurrent leastAnswer headOf refreshRecord refreshRuntime moveOne moveAll withTrees renewRoles isEpoch isHalt renew
     headAt gatherHeads onReady onKeyOption comesBefore lesserReady readyWith leastOf chosen peekRunning peekParts
     selectionParts withSelectionParts restored peekNext chargeOf newConfig onMode usesAllowance charged call.judged
     call.accountCall andThen setTurn accounted turnFinished ofBudgetDeadline nextDeadline budget.charged

@@ -1,5 +1,5 @@
 -- What is asked first, then the one call of both ends.
-use Rattle.rows.specs.AskedLaws.{askings}
+use Rattle.rows.specs.AskedLaws.{granted, turned-away}
 use Rattle.refusal.specs.Cases.{choose}
 use Rattle.lists.specs.Calls.{pushFrontCall}
 use borrow.Author.Needs.{needs}
@@ -16,6 +16,6 @@ push-front-spec =
     (λ c κs. search needs)
     (λ c. search needs)
     (λ c. search needs)
-    (λ c. search askings depth 8)
+    (λ c. search (granted, turned-away) depth 8)
     (λ c. search needs)
-    (λ c. search askings depth 8))
+    (λ c. search (granted, turned-away) depth 8))

@@ -1,5 +1,5 @@
 -- What is asked first, then the removal.
-use Rattle.rows.specs.AskedLaws.{askings}
+use Rattle.rows.specs.AskedLaws.{granted, turned-away}
 use Rattle.lists.specs.Calls.{removeCall}
 use borrow.Author.Needs.{needs}
 use Rattle.lists.proofs.remove.Statement.{statement}
@@ -15,6 +15,6 @@ remove-spec =
     (λ c κs. search needs)
     (λ c. search needs)
     (λ c. search needs)
-    (λ c. search askings depth 8)
+    (λ c. search (granted, turned-away) depth 8)
     (λ c. search needs)
-    (λ c. search askings depth 8))
+    (λ c. search (granted, turned-away) depth 8))

@@ -1,5 +1,5 @@
 -- The tree, then the count, on the table that the tree left.
-use Rattle.ready_index.specs.CasesLaws.{answers}
+use Rattle.ready_index.specs.AnswersLaws.{rootings}
 use Rattle.queue_work.specs.WorkLaws.{works, storing}
 use borrow.Author.Needs.{needs}
 use Rattle.queue_work.proofs.remove_from_tree.Statement.{statement}
@@ -13,7 +13,7 @@ remove-from-tree-spec =
     (λ c. search needs)
     (λ c. search needs)
     (λ c. search needs)
-    (λ c. (search (answers, works) depth 8, search storing))
+    (λ c. (search (rootings, works) depth 8, search storing))
     (λ c κs. search needs)
     (λ c. search needs)
-    (λ c. (search (answers, works) depth 8, search storing)))
+    (λ c. (search (rootings, works) depth 8, search storing)))

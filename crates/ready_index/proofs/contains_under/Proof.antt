@@ -1,4 +1,5 @@
 -- The key is read, and the way down decides.
+use Rattle.ready_index.specs.AnswersLaws.{contained-told}
 use Rattle.ready_index.specs.CasesLaws.{answers}
 use Rattle.ready_index.specs.Index.{contains}
 use borrow.Author.Needs.{needs}
@@ -13,6 +14,6 @@ contains-under-spec =
     (λ c κs. search needs)
     (λ c. search needs)
     (λ c. search needs)
-    (λ c. search answers depth 8)
+    (λ c. search (contained-told, answers) depth 9)
     (λ c κs. search needs)
-    (λ c. search answers depth 8))
+    (λ c. search (contained-told, answers) depth 9))

@@ -1,4 +1,5 @@
 -- An empty tree has none; else the way down decides.
+use Rattle.ready_index.specs.AnswersLaws.{least-told}
 use Rattle.ready_index.specs.CasesLaws.{answers}
 use Rattle.ready_index.specs.Index.{first}
 use borrow.Author.Needs.{needs}
@@ -13,5 +14,5 @@ first-under-spec =
     (λ c. search needs)
     (λ c. search needs)
     (λ c κs. search needs)
-    (λ c. search answers depth 8)
-    (λ c. search answers depth 8))
+    (λ c. search (least-told, answers) depth 9)
+    (λ c. search (least-told, answers) depth 9))

@@ -1,4 +1,5 @@
 -- The key is read, and the whole path is lent.
+use Rattle.ready_index.specs.AnswersLaws.{rooted-told}
 use Rattle.ready_index.specs.CasesLaws.{answers}
 use Rattle.ready_index.specs.Index.{remove}
 use Rattle.ready_index.specs.WaysLaws.{remove-lent}
@@ -15,7 +16,7 @@ remove-under-spec =
     (λ c. search needs)
     (λ c. search needs)
     (λ c. search needs)
-    (λ c. search answers depth 8)
+    (λ c. search (rooted-told, answers) depth 9)
     (λ c κs. search needs)
     (λ c. search needs)
-    (λ c. search (answers, remove-lent) depth 8))
+    (λ c. search (rooted-told, answers, remove-lent) depth 9))

@@ -1,5 +1,5 @@
 -- The exhausted tree, then the rest of the move.
-use Rattle.ready_index.specs.CasesLaws.{answers}
+use Rattle.ready_index.specs.AnswersLaws.{rootings}
 use Rattle.renewal.specs.Renewal.{moveOne}
 use Rattle.renewal.specs.RenewalLaws.{refiled-so}
 use borrow.Author.Needs.{needs}
@@ -15,7 +15,7 @@ move-one-spec =
     (λ c. search needs)
     (λ c. search needs)
     (λ c. search needs)
-    (λ c. search answers depth 8)
+    (λ c. search rootings depth 8)
     (λ c κs. search needs)
     (λ c. search needs)
-    (λ c. search (answers, refiled-so) depth 8))
+    (λ c. search (rootings, refiled-so) depth 8))

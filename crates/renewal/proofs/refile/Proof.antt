@@ -1,6 +1,6 @@
 -- The refresh, then the ready tree.
 use Rattle.lists.specs.ListsLaws.{listings}
-use Rattle.ready_index.specs.CasesLaws.{answers}
+use Rattle.ready_index.specs.AnswersLaws.{rootings}
 use Rattle.renewal.specs.RenewalLaws.{renewing}
 use borrow.Author.Needs.{needs}
 use Rattle.renewal.proofs.refile.Statement.{statement}
@@ -17,8 +17,8 @@ refile-spec =
     (λ c. search needs)
     (λ c. search needs)
     (λ c. search needs)
-    (λ c. search (listings, answers, renewing) depth 8)
+    (λ c. search (listings, rootings, renewing) depth 8)
     (λ c. search needs)
-    (λ c. search (listings, answers, renewing) depth 8)
+    (λ c. search (listings, rootings, renewing) depth 8)
     (λ c. search needs)
-    (λ c. search (listings, answers, renewing) depth 8))
+    (λ c. search (listings, rootings, renewing) depth 8))

@@ -1,5 +1,5 @@
 -- Both records are read before one is stored, as in the definition.
-use Rattle.rotations.specs.CasesLaws.{turnings}
+use Rattle.rotations.specs.CasesLaws.{rotatings}
 use Rattle.rotations.specs.Balance.{rotateRight}
 use borrow.Author.Needs.{needs}
 use Rattle.rotations.proofs.rotate_right.Statement.{statement}
@@ -14,25 +14,25 @@ rotate-right-spec =
     (λ c. search needs)
     (λ c. search needs)
     (λ c. search needs)
-    (λ c. search turnings depth 8)
+    (λ c. search rotatings depth 8)
     (λ c. search needs)
     (λ c. search needs)
     (λ c. search needs)
-    (λ c. search turnings depth 8)
+    (λ c. search rotatings depth 8)
     (λ c κs. search needs)
     (λ c. search needs)
     (λ c. search needs)
     (λ c. search needs)
-    (λ c. search turnings depth 8)
+    (λ c. search rotatings depth 8)
     (λ c κs. search needs)
     (λ c. search needs)
     (λ c. search needs)
     (λ c. search needs)
-    (λ c. search turnings depth 8)
+    (λ c. search rotatings depth 8)
     (λ c κs. search needs)
     (λ c. search needs)
     (λ c. search needs)
     (λ c. search needs)
-    (λ c. search turnings depth 8)
+    (λ c. search rotatings depth 8)
     (λ c. search needs)
-    (λ c. search turnings depth 8))
+    (λ c. search rotatings depth 8))

@@ -1,4 +1,5 @@
 -- Inside the table the row's part is read, outside nothing.
+use Rattle.rows.specs.AnswersLaws.{key-told}
 use Rattle.rows.specs.RowTableLaws.{key-inside, key-outside}
 use borrow.Author.Needs.{needs}
 use Rattle.rows.proofs.key_at.Statement.{statement}
@@ -11,5 +12,5 @@ key-at-spec =
     (λ c. search needs)
     (λ c. search needs)
     (λ c κs. search needs)
-    (λ c. search (key-inside, key-outside) depth 8)
-    (λ c. search (key-inside, key-outside) depth 8))
+    (λ c. search (key-told, key-inside, key-outside) depth 8)
+    (λ c. search (key-told, key-inside, key-outside) depth 8))

@@ -1,4 +1,5 @@
 -- Inside the table the row's part is read, outside nothing.
+use Rattle.rows.specs.AnswersLaws.{links-told}
 use Rattle.rows.specs.RowTableLaws.{links-inside, links-outside}
 use borrow.Author.Needs.{needs}
 use Rattle.rows.proofs.links_at.Statement.{statement}
@@ -11,5 +12,5 @@ links-at-spec =
     (λ c. search needs)
     (λ c. search needs)
     (λ c κs. search needs)
-    (λ c. search (links-inside, links-outside) depth 8)
-    (λ c. search (links-inside, links-outside) depth 8))
+    (λ c. search (links-told, links-inside, links-outside) depth 8)
+    (λ c. search (links-told, links-inside, links-outside) depth 8))

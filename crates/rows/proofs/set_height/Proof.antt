@@ -1,4 +1,5 @@
 -- Inside the table one row is replaced by itself with one part changed, outside nothing is.
+use Rattle.rows.specs.AnswersLaws.{change-told}
 use Rattle.rows.specs.RowTableLaws.{set-height-inside, set-height-outside}
 use borrow.Author.Needs.{needs}
 use Rattle.rows.proofs.set_height.Statement.{statement}
@@ -14,5 +15,5 @@ set-height-spec =
     (λ c. search needs)
     (λ c. search needs)
     (λ c. search needs)
-    (λ c. search (set-height-inside, set-height-outside) depth 8)
-    (λ c. search (set-height-inside, set-height-outside) depth 8))
+    (λ c. search (change-told, set-height-inside, set-height-outside) depth 8)
+    (λ c. search (change-told, set-height-inside, set-height-outside) depth 8))

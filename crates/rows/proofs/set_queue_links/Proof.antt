@@ -1,4 +1,5 @@
 -- Inside the table one row is replaced by itself with one part changed, outside nothing is.
+use Rattle.rows.specs.AnswersLaws.{change-told}
 use Rattle.rows.specs.RowTableLaws.{set-queue-links-inside, set-queue-links-outside}
 use borrow.Author.Needs.{needs}
 use Rattle.rows.proofs.set_queue_links.Statement.{statement}
@@ -14,5 +15,5 @@ set-queue-links-spec =
     (λ c. search needs)
     (λ c. search needs)
     (λ c. search needs)
-    (λ c. search (set-queue-links-inside, set-queue-links-outside) depth 8)
-    (λ c. search (set-queue-links-inside, set-queue-links-outside) depth 8))
+    (λ c. search (change-told, set-queue-links-inside, set-queue-links-outside) depth 8)
+    (λ c. search (change-told, set-queue-links-inside, set-queue-links-outside) depth 8))

@@ -11,6 +11,6 @@ contained-spec =
     (λ c. search needs)
     (λ c. search needs)
     (λ c. search needs)
-    (λ c. search needs)
-    (λ c. search needs)
+    (λ c. search tellings)
+    (λ c. search tellings)
     (λ c. search tellings))

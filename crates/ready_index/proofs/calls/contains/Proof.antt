@@ -1,5 +1,6 @@
 -- What is asked first, then the search.
-use Rattle.ready_index.specs.CallsLaws.{calls}
+use Rattle.rows.specs.AskedLaws.{granted, turned-away}
+use Rattle.ready_index.specs.CallsLaws.{contained-handed}
 use Rattle.ready_index.specs.Calls.{containsCall}
 use borrow.Author.Needs.{needs}
 use Rattle.ready_index.proofs.calls.contains.Statement.{statement}
@@ -15,5 +16,5 @@ contains-spec =
     (λ c κs. search needs)
     (λ c κs. search needs)
     (λ c. search needs)
-    (λ c. search calls depth 8)
-    (λ c. search calls depth 8))
+    (λ c. search (granted, turned-away, contained-handed) depth 8)
+    (λ c. search (granted, turned-away, contained-handed) depth 8))

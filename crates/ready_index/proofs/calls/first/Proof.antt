@@ -1,5 +1,6 @@
 -- The table is asked for, and the way down decides.
-use Rattle.ready_index.specs.CallsLaws.{calls}
+use Rattle.rows.specs.AskedLaws.{table-refused, table-granted}
+use Rattle.ready_index.specs.CallsLaws.{least-handed}
 use Rattle.ready_index.specs.Calls.{firstCall}
 use borrow.Author.Needs.{needs}
 use Rattle.ready_index.proofs.calls.first.Statement.{statement}
@@ -10,7 +11,7 @@ unfolding firstCall
 first-spec =
     tie.close
     (tie.spec
-    (λ c. search calls depth 8)
+    (λ c. search (table-refused, table-granted, least-handed) depth 8)
     (λ c κs. search needs)
     (λ c κs. search needs)
-    (λ c. search calls depth 8))
+    (λ c. search (table-refused, table-granted, least-handed) depth 8))

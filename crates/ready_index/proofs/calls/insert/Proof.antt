@@ -1,5 +1,6 @@
 -- What is asked first, then the insertion.
-use Rattle.ready_index.specs.CallsLaws.{calls}
+use Rattle.rows.specs.AskedLaws.{granted, turned-away}
+use Rattle.ready_index.specs.CallsLaws.{rooted-handed}
 use Rattle.ready_index.specs.Calls.{insertCall}
 use borrow.Author.Needs.{needs}
 use Rattle.ready_index.proofs.calls.insert.Statement.{statement}
@@ -16,6 +17,6 @@ insert-spec =
     (λ c κs. search needs)
     (λ c. search needs)
     (λ c. search needs)
-    (λ c. search calls depth 8)
+    (λ c. search (granted, turned-away, rooted-handed) depth 8)
     (λ c. search needs)
-    (λ c. search calls depth 8))
+    (λ c. search (granted, turned-away, rooted-handed) depth 8))
