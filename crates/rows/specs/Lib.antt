@@ -14,3 +14,5 @@ pub mod Answers
 pub mod AskedLaws
 -- What a refusal leaves, word for word.
 pub mod Unmoved
+-- What any call leaves of the rows' words.
+pub mod Frame

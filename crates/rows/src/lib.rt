@@ -5,6 +5,7 @@ ghost use Rattle.refusal.specs.Answer.{value, refused};
 ghost use Rattle.rows.specs.Answers.{permissionAnswer};
 ghost use Rattle.rows.specs.Asked.{asked};
 ghost use Rattle.rows.specs.Table.{table, out, linksAt, keyAt, queueLinksAt, setLinks, setLeft, setRight};
+ghost use Rattle.rows.specs.Frame.{Framed};
 ghost use Rattle.rows.specs.Table.{setHeight, setQueueLinks, setRuntime, setTurn};
 use algorithms::PolicyRuntime;
 use codec::Row;
@@ -114,6 +115,7 @@ pub fn queue_links_at(t: &[Row], i: u64) -> QueueLinksRead
 
 pub fn set_links(t: &mut [Row], i: u64, links: Links) -> Change
     ensures { λ r. ⌜ out r (table (now (t .exit))) ≡ setLinks (table (now (t .entry))) i links ⌝ }
+    ensures { λ r. ⌜ Framed (now (t .entry)) (now (t .exit)) ⌝ }
 {
     let k = i as usize;
     if k < t.len() {
@@ -128,6 +130,7 @@ pub fn set_links(t: &mut [Row], i: u64, links: Links) -> Change
 // One of the tree links, or their height alone: two words or one are stored, and none has to be read.
 pub fn set_left(t: &mut [Row], i: u64, link: Link) -> Change
     ensures { λ r. ⌜ out r (table (now (t .exit))) ≡ setLeft (table (now (t .entry))) i link ⌝ }
+    ensures { λ r. ⌜ Framed (now (t .entry)) (now (t .exit)) ⌝ }
 {
     let k = i as usize;
     if k < t.len() {
@@ -141,6 +144,7 @@ pub fn set_left(t: &mut [Row], i: u64, link: Link) -> Change
 
 pub fn set_right(t: &mut [Row], i: u64, link: Link) -> Change
     ensures { λ r. ⌜ out r (table (now (t .exit))) ≡ setRight (table (now (t .entry))) i link ⌝ }
+    ensures { λ r. ⌜ Framed (now (t .entry)) (now (t .exit)) ⌝ }
 {
     let k = i as usize;
     if k < t.len() {
@@ -154,6 +158,7 @@ pub fn set_right(t: &mut [Row], i: u64, link: Link) -> Change
 
 pub fn set_height(t: &mut [Row], i: u64, height: u8) -> Change
     ensures { λ r. ⌜ out r (table (now (t .exit))) ≡ setHeight (table (now (t .entry))) i height ⌝ }
+    ensures { λ r. ⌜ Framed (now (t .entry)) (now (t .exit)) ⌝ }
 {
     let k = i as usize;
     if k < t.len() {
@@ -167,6 +172,7 @@ pub fn set_height(t: &mut [Row], i: u64, height: u8) -> Change
 
 pub fn set_queue_links(t: &mut [Row], i: u64, links: QueueLinks) -> Change
     ensures { λ r. ⌜ out r (table (now (t .exit))) ≡ setQueueLinks (table (now (t .entry))) i links ⌝ }
+    ensures { λ r. ⌜ Framed (now (t .entry)) (now (t .exit)) ⌝ }
 {
     let k = i as usize;
     if k < t.len() {
@@ -180,6 +186,7 @@ pub fn set_queue_links(t: &mut [Row], i: u64, links: QueueLinks) -> Change
 
 pub fn set_runtime(t: &mut [Row], i: u64, runtime: PolicyRuntime) -> Change
     ensures { λ r. ⌜ out r (table (now (t .exit))) ≡ setRuntime (table (now (t .entry))) i runtime ⌝ }
+    ensures { λ r. ⌜ Framed (now (t .entry)) (now (t .exit)) ⌝ }
 {
     let k = i as usize;
     if k < t.len() {
@@ -193,6 +200,7 @@ pub fn set_runtime(t: &mut [Row], i: u64, runtime: PolicyRuntime) -> Change
 
 pub fn set_turn(t: &mut [Row], i: u64, turn: u64) -> Change
     ensures { λ r. ⌜ out r (table (now (t .exit))) ≡ setTurn (table (now (t .entry))) i turn ⌝ }
+    ensures { λ r. ⌜ Framed (now (t .entry)) (now (t .exit)) ⌝ }
 {
     let k = i as usize;
     if k < t.len() {

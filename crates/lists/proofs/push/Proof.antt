@@ -2,6 +2,7 @@
 use Rattle.rows.specs.AskedLaws.{askings}
 use Rattle.refusal.specs.Cases.{choose}
 use Rattle.lists.specs.Calls.{pushCall}
+use Rattle.rows.specs.Frame.{framing}
 use borrow.Author.Needs.{needs}
 use Rattle.lists.proofs.push.Statement.{statement}
 use Rattle.lists.proofs.push.Tie as tie
@@ -16,6 +17,6 @@ push-spec =
     (λ c κs. search needs)
     (λ c. search needs)
     (λ c. search needs)
-    (λ c. search askings depth 8)
+    (λ c. search (askings, framing) depth 8)
     (λ c. search needs)
-    (λ c. search askings depth 8))
+    (λ c. search (askings, framing) depth 8))

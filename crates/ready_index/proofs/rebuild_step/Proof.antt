@@ -1,6 +1,7 @@
 -- One link is stored, and the node is balanced by the links that it then has.
 use Rattle.ready_index.specs.CasesLaws.{answers}
 use Rattle.ready_index.specs.InPlaceLaws.{step-up}
+use Rattle.rows.specs.Frame.{framing}
 use borrow.Author.Needs.{needs}
 use Rattle.ready_index.proofs.rebuild_step.Statement.{statement}
 use Rattle.ready_index.proofs.rebuild_step.Tie as tie
@@ -14,21 +15,21 @@ rebuild-step-spec =
     (λ c. search needs)
     (λ c. search needs)
     (λ c. search needs)
-    (λ c. search (answers, step-up) depth 8)
+    (λ c. (search (answers, step-up) depth 8, search framing depth 8))
     (λ c. search needs)
     (λ c κs. search needs)
     (λ c. search needs)
     (λ c. search needs)
     (λ c. search needs)
-    (λ c. search (answers, step-up) depth 8)
+    (λ c. (search (answers, step-up) depth 8, search framing depth 8))
     (λ c κs. search needs)
     (λ c. search needs)
-    (λ c. search (answers, step-up) depth 8)
+    (λ c. (search (answers, step-up) depth 8, search framing depth 8))
     (λ c κs. search needs)
     (λ c. search needs)
     (λ c. search needs)
     (λ c. search needs)
-    (λ c. search (answers, step-up) depth 8)
+    (λ c. (search (answers, step-up) depth 8, search framing depth 8))
     (λ c κs. search needs)
     (λ c. search needs)
-    (λ c. search (answers, step-up) depth 8))
+    (λ c. (search (answers, step-up) depth 8, search framing depth 8)))

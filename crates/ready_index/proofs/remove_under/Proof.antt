@@ -2,6 +2,7 @@
 use Rattle.ready_index.specs.CasesLaws.{answers}
 use Rattle.ready_index.specs.Index.{remove}
 use Rattle.ready_index.specs.WaysLaws.{remove-lent}
+use Rattle.rows.specs.Frame.{framing}
 use borrow.Author.Needs.{needs}
 use Rattle.ready_index.proofs.remove_under.Statement.{statement}
 use Rattle.ready_index.proofs.remove_under.Tie as tie
@@ -15,7 +16,7 @@ remove-under-spec =
     (λ c. search needs)
     (λ c. search needs)
     (λ c. search needs)
-    (λ c. search answers depth 8)
+    (λ c. (search answers depth 8, search framing depth 8))
     (λ c κs. search needs)
     (λ c. search needs)
-    (λ c. search (answers, remove-lent) depth 8))
+    (λ c. (search (answers, remove-lent) depth 8, search framing depth 8)))

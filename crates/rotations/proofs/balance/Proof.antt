@@ -1,6 +1,7 @@
 -- The links and the two heights are read in order, and the lean decides.
 use Rattle.rotations.specs.CasesLaws.{by-lean}
 use Rattle.rotations.specs.Balance.{balance}
+use Rattle.rows.specs.Frame.{framing}
 use borrow.Author.Needs.{needs}
 use Rattle.rotations.proofs.balance.Statement.{statement}
 use Rattle.rotations.proofs.balance.Tie as tie
@@ -14,17 +15,17 @@ balance-spec =
     (λ c. search needs)
     (λ c. search needs)
     (λ c. search needs)
-    (λ c. search by-lean depth 8)
+    (λ c. (search by-lean depth 8, search framing depth 8))
     (λ c κs. search needs)
     (λ c. search needs)
     (λ c. search needs)
     (λ c. search needs)
-    (λ c. search by-lean depth 8)
+    (λ c. (search by-lean depth 8, search framing depth 8))
     (λ c κs. search needs)
     (λ c. search needs)
     (λ c. search needs)
     (λ c. search needs)
-    (λ c. search by-lean depth 8)
+    (λ c. (search by-lean depth 8, search framing depth 8))
     (λ c κs. search needs)
     (λ c. search needs)
     (λ c κs. search needs)
@@ -35,10 +36,10 @@ balance-spec =
     (λ c. search needs)
     (λ c. search needs)
     (λ c. search needs)
-    (λ c. search by-lean depth 8)
+    (λ c. (search by-lean depth 8, search framing depth 8))
     (λ c. search needs)
-    (λ c. search by-lean depth 8)
+    (λ c. (search by-lean depth 8, search framing depth 8))
     (λ c. search needs)
-    (λ c. search by-lean depth 8)
+    (λ c. (search by-lean depth 8, search framing depth 8))
     (λ c. search needs)
-    (λ c. search by-lean depth 8))
+    (λ c. (search by-lean depth 8, search framing depth 8)))

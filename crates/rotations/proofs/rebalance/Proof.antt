@@ -1,6 +1,7 @@
 -- A node whose sides are even is left with its links; any other is balanced.
 use Rattle.rotations.specs.InPlace.{balanceBy}
 use Rattle.rotations.specs.InPlaceLaws.{by-links}
+use Rattle.rows.specs.Frame.{framing}
 use borrow.Author.Needs.{needs}
 use Rattle.rotations.proofs.rebalance.Statement.{statement}
 use Rattle.rotations.proofs.rebalance.Tie as tie
@@ -14,20 +15,20 @@ rebalance-spec =
     (λ c. search needs)
     (λ c. search needs)
     (λ c. search needs)
-    (λ c. search by-links depth 8 fits 20000)
+    (λ c. (search by-links depth 8 fits 20000, search framing depth 8))
     (λ c κs. search needs)
     (λ c. search needs)
     (λ c. search needs)
     (λ c. search needs)
-    (λ c. search by-links depth 8 fits 20000)
+    (λ c. (search by-links depth 8 fits 20000, search framing depth 8))
     (λ c κs. search needs)
     (λ c κs. search needs)
     (λ c. search needs)
-    (λ c. search by-links depth 8 fits 20000)
+    (λ c. (search by-links depth 8 fits 20000, search framing depth 8))
     (λ c κs. search needs)
     (λ c. search needs)
     (λ c. search needs)
     (λ c. search needs)
-    (λ c. search by-links depth 8 fits 20000)
+    (λ c. (search by-links depth 8 fits 20000, search framing depth 8))
     (λ c. search needs)
-    (λ c. search by-links depth 8 fits 20000))
+    (λ c. (search by-links depth 8 fits 20000, search framing depth 8)))

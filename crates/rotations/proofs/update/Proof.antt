@@ -1,6 +1,7 @@
 -- The two heights are read in order, and only a height that fits is stored.
 use Rattle.rotations.specs.CasesLaws.{turnings}
 use Rattle.rotations.specs.Balance.{update}
+use Rattle.rows.specs.Frame.{framing}
 use borrow.Author.Needs.{needs}
 use Rattle.rotations.proofs.update.Statement.{statement}
 use Rattle.rotations.proofs.update.Tie as tie
@@ -14,16 +15,16 @@ update-spec =
     (λ c. search needs)
     (λ c. search needs)
     (λ c. search needs)
-    (λ c. search turnings depth 8)
+    (λ c. (search turnings depth 8, search framing depth 8))
     (λ c κs. search needs)
     (λ c. search needs)
     (λ c. search needs)
     (λ c. search needs)
-    (λ c. search turnings depth 8)
+    (λ c. (search turnings depth 8, search framing depth 8))
     (λ c κs. search needs)
     (λ c. search needs)
     (λ c κs. search needs)
     (λ c. search needs)
-    (λ c. search turnings depth 8)
+    (λ c. (search turnings depth 8, search framing depth 8))
     (λ c. search needs)
-    (λ c. search turnings depth 8))
+    (λ c. (search turnings depth 8, search framing depth 8)))

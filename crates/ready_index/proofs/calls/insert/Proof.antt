@@ -1,6 +1,7 @@
 -- What is asked first, then the insertion.
 use Rattle.ready_index.specs.CallsLaws.{calls}
 use Rattle.ready_index.specs.Calls.{insertCall}
+use Rattle.rows.specs.Frame.{framing}
 use borrow.Author.Needs.{needs}
 use Rattle.ready_index.proofs.calls.insert.Statement.{statement}
 use Rattle.ready_index.proofs.calls.insert.Tie as tie
@@ -16,6 +17,6 @@ insert-spec =
     (λ c κs. search needs)
     (λ c. search needs)
     (λ c. search needs)
-    (λ c. search calls depth 8)
+    (λ c. (search calls depth 8, search framing depth 8))
     (λ c. search needs)
-    (λ c. search calls depth 8))
+    (λ c. (search calls depth 8, search framing depth 8)))
