@@ -6,3 +6,7 @@ pub mod PartLaws
 pub mod RowLaws
 -- Laws of keys: the algorithm's part by a row's tags.
 pub mod KeyLaws
+-- What calls leave of a row's words.
+pub mod Frame
+-- Laws of it: nothing, one thing after another, and the store of each part.
+pub mod FrameLaws

@@ -34,18 +34,18 @@ parametersStored r a =
     over budgetBurst a (over budgetPeriod a (over budgetWord a (over budgetTag a (over backendTag a (over quantumWord a
     (over weightWord a (over roleTag a (over bandWord a (over fifoPriority a (over policyTag a r))))))))))
 
-abbrev runtimeStored : List ℕ → List ℕ → List ℕ
+abbrev pub runtimeStored : List ℕ → List ℕ → List ℕ
 runtimeStored r a =
     set (set (set (set (set r runtimeTag (word a 0)) runtimeFirst (word a 1)) runtimeSecond (word a 2))
     runtimeThird (word a 3)) runtimeFourth (word a 4)
 
-abbrev leftStored : List ℕ → List ℕ → List ℕ
+abbrev pub leftStored : List ℕ → List ℕ → List ℕ
 leftStored r a = set (set r leftTag (word a 0)) leftWord (word a 1)
 
-abbrev rightStored : List ℕ → List ℕ → List ℕ
+abbrev pub rightStored : List ℕ → List ℕ → List ℕ
 rightStored r a = set (set r rightTag (word a 0)) rightWord (word a 1)
 
-abbrev linksStored : List ℕ → List ℕ → List ℕ → ℕ → List ℕ
+abbrev pub linksStored : List ℕ → List ℕ → List ℕ → ℕ → List ℕ
 linksStored r a b height = set (rightStored (leftStored r a) b) heightWord height
 
 abbrev pub previousStored : List ℕ → List ℕ → List ℕ
@@ -54,7 +54,7 @@ previousStored r a = set (set r previousTag (word a 0)) previousWord (word a 1)
 abbrev pub nextStored : List ℕ → List ℕ → List ℕ
 nextStored r a = set (set r nextTag (word a 0)) nextWord (word a 1)
 
-abbrev queueLinksStored : List ℕ → List ℕ → List ℕ → List ℕ → List ℕ
+abbrev pub queueLinksStored : List ℕ → List ℕ → List ℕ → List ℕ → List ℕ
 queueLinksStored r a b m =
     set (set (set (nextStored (previousStored r a) b) membershipTag (word m 0)) membershipFirst (word m 1))
     membershipSecond (word m 2)

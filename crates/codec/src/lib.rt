@@ -1,8 +1,10 @@
 // A record as a row of 32 words. Nothing here is partial: every row is some record's.
 ghost use mathlib.Core.Path.{_≡_};
+ghost use mathlib.Core.Bool.{true};
 ghost use Prim.Native.Nat.{_%_};
 ghost use Rattle.codec.specs.Codec.{word, decoded, linkFrom, membershipFrom, parametersOf, runtimeOf, linksOf};
 ghost use Rattle.codec.specs.Codec.{queueLinksOf, readyTurn};
+ghost use Rattle.codec.specs.Frame.{optionEncodes, membershipEncodes, RowFramed};
 ghost use Rattle.thread.specs.Records.{withParameters, withRuntime, withTurn, withLinks, withLeft, withRight};
 ghost use Rattle.thread.specs.Records.{withHeight, withQueueLinks, withCpu};
 ghost use Rattle.thread.specs.TreeKey.{algorithmKey, readyIndexKey};
@@ -198,6 +200,7 @@ pub fn decode(w: Row) -> ThreadRecord
 
 pub fn words_of_link(link: Link) -> [u64; 2]
     ensures { λ w. ⌜ linkFrom (word w 0) (word w 1) ≡ link ⌝ }
+    ensures { λ w. ⌜ optionEncodes (word w 0) (word w 1) ≡ true ⌝ }
 {
     match link {
         Link::None => [0, 0],
@@ -207,6 +210,7 @@ pub fn words_of_link(link: Link) -> [u64; 2]
 
 fn words_of_membership(membership: QueueMembership) -> [u64; 3]
     ensures { λ w. ⌜ membershipFrom (word w 0) (word w 1) (word w 2) ≡ membership ⌝ }
+    ensures { λ w. ⌜ membershipEncodes (word w 0) (word w 1) (word w 2) ≡ true ⌝ }
 {
     match membership {
         QueueMembership::None => [0, 0, 0],
@@ -242,6 +246,7 @@ pub fn with_parameters(w: Row, parameters: SchedulingParameters) -> Row
 
 pub fn with_runtime(w: Row, runtime: PolicyRuntime) -> Row
     ensures { λ r. ⌜ decoded r ≡ withRuntime runtime (decoded w) ⌝ }
+    ensures { λ r. ⌜ RowFramed w r ⌝ }
 {
     let words = words_of_runtime(runtime);
     let mut row = w;
@@ -255,6 +260,7 @@ pub fn with_runtime(w: Row, runtime: PolicyRuntime) -> Row
 
 pub fn with_turn(w: Row, turn: u64) -> Row
     ensures { λ r. ⌜ decoded r ≡ withTurn turn (decoded w) ⌝ }
+    ensures { λ r. ⌜ RowFramed w r ⌝ }
 {
     let mut row = w;
     row[READY_TURN] = turn;
@@ -263,6 +269,7 @@ pub fn with_turn(w: Row, turn: u64) -> Row
 
 pub fn with_links(w: Row, links: Links) -> Row
     ensures { λ r. ⌜ decoded r ≡ withLinks links (decoded w) ⌝ }
+    ensures { λ r. ⌜ RowFramed w r ⌝ }
 {
     let its_left = links.left;
     let its_right = links.right;
@@ -280,6 +287,7 @@ pub fn with_links(w: Row, links: Links) -> Row
 
 pub fn with_left(w: Row, link: Link) -> Row
     ensures { λ r. ⌜ decoded r ≡ withLeft link (decoded w) ⌝ }
+    ensures { λ r. ⌜ RowFramed w r ⌝ }
 {
     let words = words_of_link(link);
     let mut row = w;
@@ -290,6 +298,7 @@ pub fn with_left(w: Row, link: Link) -> Row
 
 pub fn with_right(w: Row, link: Link) -> Row
     ensures { λ r. ⌜ decoded r ≡ withRight link (decoded w) ⌝ }
+    ensures { λ r. ⌜ RowFramed w r ⌝ }
 {
     let words = words_of_link(link);
     let mut row = w;
@@ -300,6 +309,7 @@ pub fn with_right(w: Row, link: Link) -> Row
 
 pub fn with_height(w: Row, height: u8) -> Row
     ensures { λ r. ⌜ decoded r ≡ withHeight height (decoded w) ⌝ }
+    ensures { λ r. ⌜ RowFramed w r ⌝ }
 {
     let word = word_of_byte(height);
     let mut row = w;
@@ -309,6 +319,7 @@ pub fn with_height(w: Row, height: u8) -> Row
 
 pub fn with_queue_links(w: Row, links: QueueLinks) -> Row
     ensures { λ r. ⌜ decoded r ≡ withQueueLinks links (decoded w) ⌝ }
+    ensures { λ r. ⌜ RowFramed w r ⌝ }
 {
     let its_previous = links.previous;
     let its_next = links.next;

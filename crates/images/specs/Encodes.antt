@@ -8,6 +8,7 @@ use Rattle.refusal.specs.Cases.{choose, ifLess, ifEqual}
 use Rattle.policy_words.specs.PolicyWords.{policyTag, fifoPriority, bandWord, roleTag, weightWord, backendTag}
 use Rattle.policy_words.specs.PolicyWords.{budgetTag, budgetWord, budgetPeriod, budgetBurst}
 use Rattle.policy_words.specs.PolicyWords.{runtimeTag, runtimeFirst, runtimeSecond, runtimeThird, runtimeFourth}
+unfoldable pub use Rattle.codec.specs.Frame.{zeros, optionEncodes, runtimeEncodes, membershipEncodes}
 use Rattle.codec.specs.Codec.{word, leftTag, leftWord, rightTag, rightWord, heightWord}
 use Rattle.codec.specs.Codec.{previousTag, previousWord, nextTag, nextWord}
 use Rattle.codec.specs.Codec.{membershipTag, membershipFirst, membershipSecond, cpuWord}
@@ -25,32 +26,11 @@ secondSpare = 31
 abbrev pub both : Bool → Bool → Bool
 both a b = choose a b false
 
--- Three words that nothing uses.
-unfoldable pub zeros : ℕ → ℕ → ℕ → Bool
-zeros a b c = ifEqual a 0 (ifEqual b 0 (eqb c 0) false) false
-
--- Of a link and of an epoch: none has no number.
-unfoldable pub optionEncodes : ℕ → ℕ → Bool
-optionEncodes tag n = ifEqual tag 0 (eqb n 0) (eqb tag 1)
-
 unfoldable pub policyEncodes : ℕ → ℕ → Bool
 policyEncodes tag priority = ifEqual tag 0 (ltb priority 256) (ifLess tag 4 (eqb priority 0) false)
 
 unfoldable pub budgetEncodes : ℕ → ℕ → ℕ → ℕ → Bool
 budgetEncodes tag ns period burst = ifEqual tag 0 (zeros ns period burst) (eqb tag 1)
-
-unfoldable pub runtimeEncodes : ℕ → ℕ → ℕ → ℕ → ℕ → Bool
-runtimeEncodes tag first second third fourth =
-    ifEqual tag 1 (eqb fourth 0)
-    (ifEqual tag 2 (optionEncodes first second)
-    (ifLess tag 4 (both (zeros first second third) (eqb fourth 0)) false))
-
-unfoldable pub membershipEncodes : ℕ → ℕ → ℕ → Bool
-membershipEncodes tag first second =
-    ifEqual tag 1 (ifLess first 256 (ltb second 256) false)
-    (ifEqual tag 2 (ifLess first 256 (eqb second 0) false)
-    (ifEqual tag 3 (eqb second 0)
-    (ifLess tag 5 (zeros first second 0) false)))
 
 -- Words 0 to 10 of a thread's row, but for the quantum, which is any.
 unfoldable pub parametersEncode : List ℕ → Bool

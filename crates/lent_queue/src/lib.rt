@@ -7,6 +7,7 @@ ghost use lib.ListN.{getD, length, set};
 ghost use Rattle.thread.specs.Membership.{emptyQueue};
 ghost use Rattle.rows.specs.Table.{table, out};
 ghost use Rattle.rows.specs.Unmoved.{Spared};
+ghost use Rattle.rows.specs.Frame.{Framed};
 ghost use Rattle.queue_work.specs.Work.{workOf, Untouched};
 ghost use Rattle.queue.specs.Queue as calls;
 ghost use Rattle.queue.specs.Plan as plans;
@@ -317,6 +318,7 @@ fn insert_by(
         ≡ plans.insertBy front (table (now (t .entry))) (queueOf (now (q .entry))) id plan ⌝ }
     ensures { λ r. ⌜ Spared (verdictAnswer r) (now (q .entry)) (now (q .exit)) ⌝ }
     ensures { λ r. ⌜ Spared (verdictAnswer r) (now (t .entry)) (now (t .exit)) ⌝ }
+    ensures { λ r. ⌜ Framed (now (t .entry)) (now (t .exit)) ⌝ }
 {
     let membership = plan.membership;
     let parts = parts_of(q, membership, plan.index);
@@ -339,6 +341,7 @@ fn remove_by(q: &mut QueueRows, t: &mut [Row], path: &mut Path, id: u64, plan: P
         ≡ plans.removeBy (table (now (t .entry))) (queueOf (now (q .entry))) id plan ⌝ }
     ensures { λ r. ⌜ Spared (verdictAnswer r) (now (q .entry)) (now (q .exit)) ⌝ }
     ensures { λ r. ⌜ Spared (verdictAnswer r) (now (t .entry)) (now (t .exit)) ⌝ }
+    ensures { λ r. ⌜ Framed (now (t .entry)) (now (t .exit)) ⌝ }
 {
     let membership = plan.membership;
     let parts = parts_of(q, membership, plan.index);
@@ -360,6 +363,7 @@ fn remove_filed(
         ≡ plans.removeFiled (table (now (t .entry))) (queueOf (now (q .entry))) id cpu filed ⌝ }
     ensures { λ r. ⌜ Spared (verdictAnswer r) (now (q .entry)) (now (q .exit)) ⌝ }
     ensures { λ r. ⌜ Spared (verdictAnswer r) (now (t .entry)) (now (t .exit)) ⌝ }
+    ensures { λ r. ⌜ Framed (now (t .entry)) (now (t .exit)) ⌝ }
 {
     let root = root_at(q, filed.index);
     let beside = partner(filed.index);
@@ -415,6 +419,7 @@ pub fn enqueue_lent(
     ensures { λ r. ⌜ Spared (verdictAnswer r) (now (t .entry)) (now (t .exit)) ⌝ }
     ensures { λ r. ⌜ (queueOf (now (q .entry)) .halted ≡ true → now (q .exit) ≡ now (q .entry)) ⌝ }
     ensures { λ r. ⌜ (queueOf (now (q .entry)) .halted ≡ true → now (t .exit) ≡ now (t .entry)) ⌝ }
+    ensures { λ r. ⌜ Framed (now (t .entry)) (now (t .exit)) ⌝ }
 {
     let halted = is_halted(q);
     let planned = insertion_plan(t, halted, id.0, cpu);
@@ -438,6 +443,7 @@ pub fn remove_lent(
     ensures { λ r. ⌜ Spared (verdictAnswer r) (now (t .entry)) (now (t .exit)) ⌝ }
     ensures { λ r. ⌜ (queueOf (now (q .entry)) .halted ≡ true → now (q .exit) ≡ now (q .entry)) ⌝ }
     ensures { λ r. ⌜ (queueOf (now (q .entry)) .halted ≡ true → now (t .exit) ≡ now (t .entry)) ⌝ }
+    ensures { λ r. ⌜ Framed (now (t .entry)) (now (t .exit)) ⌝ }
 {
     let halted = is_halted(q);
     let judgement = judge(t, halted, id.0);

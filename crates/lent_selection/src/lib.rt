@@ -3,6 +3,7 @@
 ghost use mathlib.Core.Path.{_≡_};
 ghost use lib.ListN.{length};
 ghost use Rattle.rows.specs.Table.{table, out};
+ghost use Rattle.rows.specs.Frame.{Framed};
 ghost use Rattle.refusal.specs.Answer.{numberOf};
 ghost use Rattle.queue.specs.Answers.{verdictAnswer};
 ghost use Rattle.lent_queue.specs.LentQueue.{queueRows, queueOf};
@@ -80,6 +81,7 @@ fn renew_roots(q: &mut [QueueRow], t: &mut [Row], path: &mut Path, reading: u64)
     requires { ⌜ length (now q) ≡ queueRows ⌝ }
     ensures { λ r. ⌜ out (leaves (verdictAnswer r) (queueOf (now (q .exit)))) (table (now (t .exit)))
         ≡ renewedRoots (table (now (t .entry))) (queueOf (now (q .entry))) reading ⌝ }
+    ensures { λ r. ⌜ Framed (now (t .entry)) (now (t .exit)) ⌝ }
 {
     let start = ROOT_ROWS;
     let end = MARKS_ROW;
@@ -97,6 +99,7 @@ fn renew_lent(
 ) -> Verdict
     ensures { λ r. ⌜ out (leaves (verdictAnswer r) (queueOf (now (q .exit)))) (table (now (t .exit)))
         ≡ renewedQueue (table (now (t .entry))) (queueOf (now (q .entry))) reading epoch ⌝ }
+    ensures { λ r. ⌜ Framed (now (t .entry)) (now (t .exit)) ⌝ }
 {
     let budget_epoch = epoch_at(q);
     if is_epoch(budget_epoch, epoch) {
@@ -126,6 +129,7 @@ fn peek_roots(
     requires { ⌜ length (now q) ≡ queueRows ⌝ }
     ensures { λ r. ⌜ out (lookedOf r) (table (now (t .exit)))
         ≡ lookedAt (table (now (t .entry))) (queueOf (now (q .entry)) .indices) cpu reading window current ⌝ }
+    ensures { λ r. ⌜ Framed (now (t .entry)) (now (t .exit)) ⌝ }
 {
     let start = ROOT_ROWS;
     let end = MARKS_ROW;
@@ -146,6 +150,7 @@ fn peek_running(
     ensures { λ r. ⌜ out (peek.peeked (peekAnswer (r .answer)) (r .window) (queueOf (now (q .exit))))
         (table (now (t .exit))) ≡ runningQueue (table (now (t .entry)))
         (queueOf (now (q .entry))) cpu reading window current ⌝ }
+    ensures { λ r. ⌜ Framed (now (t .entry)) (now (t .exit)) ⌝ }
 {
     let config = window.config;
     let epoch = epoch_of(reading, config.period_ns);
@@ -174,6 +179,7 @@ pub fn peek_lent(
         (queueOf (now (q .entry))) cpu reading window current ⌝ }
     ensures { λ r. ⌜ (Early (now (t .entry)) window (queueOf (now (q .entry))) → now (q .exit) ≡ now (q .entry)) ⌝ }
     ensures { λ r. ⌜ (Early (now (t .entry)) window (queueOf (now (q .entry))) → now (t .exit) ≡ now (t .entry)) ⌝ }
+    ensures { λ r. ⌜ Framed (now (t .entry)) (now (t .exit)) ⌝ }
 {
     let config = window.config;
     if MAX_RECORDS < t.len() {

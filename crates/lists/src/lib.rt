@@ -8,8 +8,10 @@ ghost use Rattle.refusal.specs.Cases.{choose};
 ghost use Rattle.thread.specs.Membership.{isUnqueued};
 ghost use Rattle.thread.specs.Records.{withQueueLinks};
 ghost use Rattle.codec.specs.Codec.{decoded};
+ghost use Rattle.codec.specs.Frame.{RowFramed};
 ghost use Rattle.rows.specs.Table.{table, out};
 ghost use Rattle.rows.specs.Unmoved.{Unmoved};
+ghost use Rattle.rows.specs.Frame.{Framed};
 ghost use Rattle.lists.specs.Checks.{assignedTo, headAgrees, tailAgrees, endsAgree, preflightInsert};
 ghost use Rattle.lists.specs.Checks.{previousValid, nextValid, validateNeighbors};
 ghost use Rattle.lists.specs.Lists.{withNext, withPrevious, setNext, setPrevious, commitInsert, commitRemove};
@@ -174,6 +176,7 @@ fn preflight_insert(
 // Of a record's list links one alone: two words are stored, and none has to be read.
 fn with_next(w: Row, next: Link) -> Row
     ensures { λ r. ⌜ decoded r ≡ withQueueLinks (withNext (decoded w .«queue_links») next) (decoded w) ⌝ }
+    ensures { λ r. ⌜ RowFramed w r ⌝ }
 {
     let words = words_of_link(next);
     let mut row = w;
@@ -184,6 +187,7 @@ fn with_next(w: Row, next: Link) -> Row
 
 fn with_previous(w: Row, previous: Link) -> Row
     ensures { λ r. ⌜ decoded r ≡ withQueueLinks (withPrevious (decoded w .«queue_links») previous) (decoded w) ⌝ }
+    ensures { λ r. ⌜ RowFramed w r ⌝ }
 {
     let words = words_of_link(previous);
     let mut row = w;
@@ -195,6 +199,7 @@ fn with_previous(w: Row, previous: Link) -> Row
 // The record's next is stored, its other links as they are at this moment.
 fn set_next(t: &mut [Row], i: u64, next: Link)
     ensures { λ r. ⌜ table (now (t .exit)) ≡ setNext (table (now (t .entry))) i next ⌝ }
+    ensures { λ r. ⌜ Framed (now (t .entry)) (now (t .exit)) ⌝ }
 {
     let k = i as usize;
     if k < t.len() {
@@ -206,6 +211,7 @@ fn set_next(t: &mut [Row], i: u64, next: Link)
 // The record's previous is stored, its other links as they are at this moment.
 fn set_previous(t: &mut [Row], i: u64, previous: Link)
     ensures { λ r. ⌜ table (now (t .exit)) ≡ setPrevious (table (now (t .entry))) i previous ⌝ }
+    ensures { λ r. ⌜ Framed (now (t .entry)) (now (t .exit)) ⌝ }
 {
     let k = i as usize;
     if k < t.len() {
@@ -216,12 +222,14 @@ fn set_previous(t: &mut [Row], i: u64, previous: Link)
 
 fn commit_insert(t: &mut [Row], id: u64, links: QueueLinks)
     ensures { λ r. ⌜ table (now (t .exit)) ≡ commitInsert (table (now (t .entry))) id links ⌝ }
+    ensures { λ r. ⌜ Framed (now (t .entry)) (now (t .exit)) ⌝ }
 {
     set_queue_links(t, id, links);
 }
 
 fn commit_remove(t: &mut [Row], id: u64)
     ensures { λ r. ⌜ table (now (t .exit)) ≡ commitRemove (table (now (t .entry))) id ⌝ }
+    ensures { λ r. ⌜ Framed (now (t .entry)) (now (t .exit)) ⌝ }
 {
     set_queue_links(t, id, QueueLinks::EMPTY);
 }
@@ -235,6 +243,7 @@ fn append(
     len: u64,
 ) -> ThreadQueue
     ensures { λ r. ⌜ out r (table (now (t .exit))) ≡ append (table (now (t .entry))) queue id membership len ⌝ }
+    ensures { λ r. ⌜ Framed (now (t .entry)) (now (t .exit)) ⌝ }
 {
     let next = Link::None;
     let head = queue.head;
@@ -284,6 +293,7 @@ fn prepend(
     len: u64,
 ) -> ThreadQueue
     ensures { λ r. ⌜ out r (table (now (t .exit))) ≡ prepend (table (now (t .entry))) queue id membership len ⌝ }
+    ensures { λ r. ⌜ Framed (now (t .entry)) (now (t .exit)) ⌝ }
 {
     let previous = Link::None;
     let old_head = queue.head;
@@ -336,6 +346,7 @@ fn place(
     ensures { λ r. ⌜ out r (table (now (t .exit)))
         ≡ choose front (prepend (table (now (t .entry))) queue id membership len)
         (append (table (now (t .entry))) queue id membership len) ⌝ }
+    ensures { λ r. ⌜ Framed (now (t .entry)) (now (t .exit)) ⌝ }
 {
     if front {
         return prepend(t, queue, id, membership, len);
@@ -356,6 +367,7 @@ pub fn push_at(
         ≡ choose front (pushFront (table (now (t .entry))) queue id membership)
         (push (table (now (t .entry))) queue id membership) ⌝ }
     ensures { λ r. ⌜ Unmoved (listed r) (now (t .entry)) (now (t .exit)) ⌝ }
+    ensures { λ r. ⌜ Framed (now (t .entry)) (now (t .exit)) ⌝ }
 {
     let preflight = preflight_insert(t, queue, id, membership);
     match preflight {
@@ -368,6 +380,7 @@ pub fn push_at(
 pub fn push(t: &mut [Row], queue: ThreadQueue, id: u64, membership: QueueMembership) -> Listed
     ensures { λ r. ⌜ out (listed r) (table (now (t .exit))) ≡ pushCall (table (now (t .entry))) queue id membership ⌝ }
     ensures { λ r. ⌜ Unmoved (listed r) (now (t .entry)) (now (t .exit)) ⌝ }
+    ensures { λ r. ⌜ Framed (now (t .entry)) (now (t .exit)) ⌝ }
 {
     let permission = asked(t, id);
     match permission {
@@ -381,6 +394,7 @@ pub fn push_front(t: &mut [Row], queue: ThreadQueue, id: u64, membership: QueueM
     ensures { λ r. ⌜ out (listed r) (table (now (t .exit)))
         ≡ pushFrontCall (table (now (t .entry))) queue id membership ⌝ }
     ensures { λ r. ⌜ Unmoved (listed r) (now (t .entry)) (now (t .exit)) ⌝ }
+    ensures { λ r. ⌜ Framed (now (t .entry)) (now (t .exit)) ⌝ }
 {
     let permission = asked(t, id);
     match permission {
@@ -436,6 +450,7 @@ fn validate_neighbors(t: &[Row], queue: ThreadQueue, links: QueueLinks, id: u64)
 
 fn update_previous_link(t: &mut [Row], queue: ThreadQueue, links: QueueLinks) -> ThreadQueue
     ensures { λ r. ⌜ out r (table (now (t .exit))) ≡ updatePreviousLink (table (now (t .entry))) queue links ⌝ }
+    ensures { λ r. ⌜ Framed (now (t .entry)) (now (t .exit)) ⌝ }
 {
     let link = links.previous;
     let next = links.next;
@@ -455,6 +470,7 @@ fn update_previous_link(t: &mut [Row], queue: ThreadQueue, links: QueueLinks) ->
 
 fn update_next_link(t: &mut [Row], queue: ThreadQueue, links: QueueLinks) -> ThreadQueue
     ensures { λ r. ⌜ out r (table (now (t .exit))) ≡ updateNextLink (table (now (t .entry))) queue links ⌝ }
+    ensures { λ r. ⌜ Framed (now (t .entry)) (now (t .exit)) ⌝ }
 {
     let link = links.next;
     let previous = links.previous;
@@ -475,6 +491,7 @@ fn update_next_link(t: &mut [Row], queue: ThreadQueue, links: QueueLinks) -> Thr
 // The stores of `remove`, after its checks.
 fn unlink(t: &mut [Row], queue: ThreadQueue, links: QueueLinks, id: u64, len: u64) -> ThreadQueue
     ensures { λ r. ⌜ out r (table (now (t .exit))) ≡ unlink (table (now (t .entry))) queue links id len ⌝ }
+    ensures { λ r. ⌜ Framed (now (t .entry)) (now (t .exit)) ⌝ }
 {
     let without_previous = update_previous_link(t, queue, links);
     let without_both = update_next_link(t, without_previous, links);
@@ -493,6 +510,7 @@ pub fn remove_from(
 ) -> Listed
     ensures { λ r. ⌜ out (listed r) (table (now (t .exit))) ≡ remove (table (now (t .entry))) queue id membership ⌝ }
     ensures { λ r. ⌜ Unmoved (listed r) (now (t .entry)) (now (t .exit)) ⌝ }
+    ensures { λ r. ⌜ Framed (now (t .entry)) (now (t .exit)) ⌝ }
 {
     let QueueLinksRead::Got(links) = queue_links_at(t, id) else {
         return Listed::Refused(Refusal::Damaged);
@@ -515,6 +533,7 @@ pub fn remove(t: &mut [Row], queue: ThreadQueue, id: u64, membership: QueueMembe
     ensures { λ r. ⌜ out (listed r) (table (now (t .exit)))
         ≡ removeCall (table (now (t .entry))) queue id membership ⌝ }
     ensures { λ r. ⌜ Unmoved (listed r) (now (t .entry)) (now (t .exit)) ⌝ }
+    ensures { λ r. ⌜ Framed (now (t .entry)) (now (t .exit)) ⌝ }
 {
     let permission = asked(t, id);
     match permission {

@@ -1,9 +1,11 @@
 // Scheduling parameters, a policy's runtime and times as words. Nothing here is partial: all words stand for some
 // value.
 ghost use mathlib.Core.Path.{_≡_};
-ghost use Prim.Native.Nat.{_%_};
+ghost use mathlib.Core.Bool.{true};
+ghost use Prim.Native.Nat.{_%_, _<_};
 ghost use Rattle.policy_words.specs.PolicyWords.{word, policyFrom, roleFrom, backendFrom, budgetFrom, epochFrom};
 ghost use Rattle.policy_words.specs.PolicyWords.{runtimeFrom, deadlineOf, parametersOf, runtimeOf};
+ghost use Rattle.policy_words.specs.Encodes.{optionEncodes, runtimeEncodes};
 use algorithms::FairRuntime;
 use algorithms::PolicyRuntime;
 use algorithms::Wide;
@@ -210,6 +212,7 @@ pub fn runtime_of(w: Row) -> PolicyRuntime
 
 pub fn word_of_byte(x: u8) -> u64
     ensures { λ w. ⌜ w % 256 ≡ x ⌝ }
+    ensures { λ w. ⌜ w < 256 ⌝ }
 {
     x as u64
 }
@@ -261,6 +264,7 @@ pub fn words_of_budget(budget: BudgetOption) -> [u64; 4]
 
 pub fn words_of_epoch(epoch: Epoch) -> [u64; 2]
     ensures { λ w. ⌜ epochFrom (word w 0) (word w 1) ≡ epoch ⌝ }
+    ensures { λ w. ⌜ optionEncodes (word w 0) (word w 1) ≡ true ⌝ }
 {
     match epoch {
         Epoch::None => [0, 0],
@@ -270,6 +274,7 @@ pub fn words_of_epoch(epoch: Epoch) -> [u64; 2]
 
 pub fn words_of_runtime(runtime: PolicyRuntime) -> PolicyRuntimeWords
     ensures { λ w. ⌜ runtimeFrom (word w 0) (word w 1) (word w 2) (word w 3) (word w 4) ≡ runtime ⌝ }
+    ensures { λ w. ⌜ runtimeEncodes (word w 0) (word w 1) (word w 2) (word w 3) (word w 4) ≡ true ⌝ }
 {
     match runtime {
         PolicyRuntime::Fifo => [0, 0, 0, 0, 0],

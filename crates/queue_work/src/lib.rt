@@ -1,6 +1,7 @@
 // The work of enqueue and remove on the parts of a queue that a call touches; the table is lent.
 ghost use mathlib.Core.Path.{_≡_};
 ghost use Rattle.rows.specs.Table.{table, out};
+ghost use Rattle.rows.specs.Frame.{Framed};
 ghost use Rattle.queue_work.specs.Work as work;
 use codec::Row;
 use lists::Listed;
@@ -127,6 +128,7 @@ fn insert_into_tree(t: &mut [Row], path: &mut Path, parts: Parts, id: u64, budge
     ensures { λ r. ⌜ out (work.workOf r) (table (now (t .exit)))
         ≡ work.treeInserted budgeted (table (now (t .entry))) parts id ⌝ }
     ensures { λ r. ⌜ work.Stores (work.workOf r) ⌝ }
+    ensures { λ r. ⌜ Framed (now (t .entry)) (now (t .exit)) ⌝ }
 {
     let list = parts.list;
     let realtime_len = parts.realtime_len;
@@ -154,6 +156,7 @@ fn remove_from_tree(t: &mut [Row], path: &mut Path, parts: Parts, id: u64, budge
     ensures { λ r. ⌜ out (work.workOf r) (table (now (t .exit)))
         ≡ work.treeRemoved budgeted (table (now (t .entry))) parts id ⌝ }
     ensures { λ r. ⌜ work.Stores (work.workOf r) ⌝ }
+    ensures { λ r. ⌜ Framed (now (t .entry)) (now (t .exit)) ⌝ }
 {
     let list = parts.list;
     let realtime_len = parts.realtime_len;
@@ -190,6 +193,7 @@ pub fn insert_work(
     ensures { λ r. ⌜ out (work.workOf r) (table (now (t .exit)))
         ≡ work.insertWork front fifo budgeted (table (now (t .entry))) parts id membership ⌝ }
     ensures { λ r. ⌜ work.Untouched (work.workOf r) (now (t .entry)) (now (t .exit)) ⌝ }
+    ensures { λ r. ⌜ Framed (now (t .entry)) (now (t .exit)) ⌝ }
 {
     let queue = parts.list;
     let root = parts.root;
@@ -231,6 +235,7 @@ pub fn remove_work(
     ensures { λ r. ⌜ out (work.workOf r) (table (now (t .exit)))
         ≡ work.removeWork fifo budgeted (table (now (t .entry))) parts id membership ⌝ }
     ensures { λ r. ⌜ work.Untouched (work.workOf r) (now (t .entry)) (now (t .exit)) ⌝ }
+    ensures { λ r. ⌜ Framed (now (t .entry)) (now (t .exit)) ⌝ }
 {
     let queue = parts.list;
     let root = parts.root;

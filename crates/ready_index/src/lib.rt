@@ -12,6 +12,7 @@ ghost use Rattle.rows.specs.Asked.{answering};
 ghost use Rattle.rows.specs.Table.{table, out};
 ghost use Rattle.rotations.specs.Answers.{turnedAnswer};
 ghost use Rattle.ready_index.specs.Answers.{leastAnswer, containedAnswer, rootedAnswer};
+ghost use Rattle.rows.specs.Frame.{Framed};
 ghost use Rattle.ready_index.specs.Index as index;
 ghost use Rattle.ready_index.specs.Path.{stepOf, stack, walkOf, walkSteps, lastSought, searchOf, searchSteps};
 ghost use Rattle.ready_index.specs.Path.{successorOf, successorSteps};
@@ -268,6 +269,7 @@ fn walk(t: &[Row], path: &mut [PathStep], key: TreeKey, root: Link) -> Walked
 fn rebuild_step(t: &mut [Row], step: [u64; 2], sub: Link) -> Turned
     ensures { λ r. ⌜ out (turnedAnswer r) (table (now (t .exit)))
         ≡ answering turnedAnswer (index.rebuildStep (table (now (t .entry))) (stepOf step) sub) ⌝ }
+    ensures { λ r. ⌜ Framed (now (t .entry)) (now (t .exit)) ⌝ }
 {
     let parent = step[0];
     let LinksRead::Got(links) = links_at(t, parent) else {
@@ -306,6 +308,7 @@ fn rebuild(t: &mut [Row], path: &[PathStep], start: usize, steps: usize, subtree
     requires { ⌜ start + steps ≤ length (now path) ⌝ }
     ensures { λ r. ⌜ out r (table (now (t .exit))) ≡ index.rebuild (stack (now (path .entry)) start steps)
         (table (now (t .entry))) subtree ⌝ }
+    ensures { λ r. ⌜ Framed (now (t .entry)) (now (t .exit)) ⌝ }
 {
     let mut len = steps;
     let mut sub = subtree;
@@ -325,6 +328,7 @@ fn rebuild(t: &mut [Row], path: &[PathStep], start: usize, steps: usize, subtree
 fn insert_at(t: &mut [Row], path: &mut [PathStep], key: TreeKey, root: Link, id: u64) -> Rooted
     ensures { λ r. ⌜ out r (table (now (t .exit))) ≡ index.insertAt (table (now (t .entry)))
         (length (now (path .entry))) key root id ⌝ }
+    ensures { λ r. ⌜ Framed (now (t .entry)) (now (t .exit)) ⌝ }
 {
     let Walked::Bottom(steps) = walk(t, path, key, root) else {
         return Rooted::Damaged;
@@ -340,6 +344,7 @@ fn insert_at(t: &mut [Row], path: &mut [PathStep], key: TreeKey, root: Link, id:
 pub fn insert_under(t: &mut [Row], path: &mut Path, root: Link, id: u64) -> Rooted
     ensures { λ r. ⌜ out (rootedAnswer r) (table (now (t .exit)))
         ≡ answering rootedAnswer (index.insert (table (now (t .entry))) root id) ⌝ }
+    ensures { λ r. ⌜ Framed (now (t .entry)) (now (t .exit)) ⌝ }
 {
     let KeyRead::Got(key) = key_at(t, id) else {
         return Rooted::Damaged;
@@ -461,6 +466,7 @@ fn successor(t: &[Row], path: &mut [PathStep], start: usize, node: u64) -> Succe
 // These links stored at a record, which is then balanced.
 fn store_balanced(t: &mut [Row], i: u64, links: Links) -> Rooted
     ensures { λ r. ⌜ out r (table (now (t .exit))) ≡ index.storeBalanced (table (now (t .entry))) i links ⌝ }
+    ensures { λ r. ⌜ Framed (now (t .entry)) (now (t .exit)) ⌝ }
 {
     let Change::Made = set_links(t, i, links) else {
         return Rooted::Damaged;
@@ -484,6 +490,7 @@ fn replace_by_successor(
     ensures { λ r. ⌜ out r (table (now (t .exit))) ≡ index.replaceBySuccessor (table (now (t .entry)))
         (length (now (path .entry)) - steps) left right ⌝ }
     ensures { λ r. ⌜ stack (now (path .exit)) 0 steps ≡ stack (now (path .entry)) 0 steps ⌝ }
+    ensures { λ r. ⌜ Framed (now (t .entry)) (now (t .exit)) ⌝ }
 {
     let Succeeded::Next {
         steps: more,
@@ -513,6 +520,7 @@ fn replace(t: &mut [Row], path: &mut [PathStep], steps: usize, left: Link, right
     ensures { λ r. ⌜ out r (table (now (t .exit)))
         ≡ index.replace (table (now (t .entry))) (length (now (path .entry)) - steps) left right ⌝ }
     ensures { λ r. ⌜ stack (now (path .exit)) 0 steps ≡ stack (now (path .entry)) 0 steps ⌝ }
+    ensures { λ r. ⌜ Framed (now (t .entry)) (now (t .exit)) ⌝ }
 {
     let Link::Some(a) = left else {
         return Rooted::Root(right);
@@ -528,6 +536,7 @@ fn rebuild_removed(t: &mut [Row], path: &[PathStep], steps: usize, sub: Link, id
     requires { ⌜ steps ≤ length (now path) ⌝ }
     ensures { λ r. ⌜ out r (table (now (t .exit))) ≡ index.rebuildRemoved (table (now (t .entry)))
         (stack (now (path .entry)) 0 steps) sub id ⌝ }
+    ensures { λ r. ⌜ Framed (now (t .entry)) (now (t .exit)) ⌝ }
 {
     let Rooted::Root(top) = rebuild(t, path, 0, steps, sub) else {
         return Rooted::Damaged;
@@ -544,6 +553,7 @@ fn remove_found(t: &mut [Row], path: &mut [PathStep], steps: usize, links: Links
     requires { ⌜ steps ≤ length (now path) ⌝ }
     ensures { λ r. ⌜ out r (table (now (t .exit))) ≡ index.removeFound (table (now (t .entry)))
         (stack (now (path .entry)) 0 steps) links (length (now (path .entry)) - steps) id ⌝ }
+    ensures { λ r. ⌜ Framed (now (t .entry)) (now (t .exit)) ⌝ }
 {
     let left = links.left;
     let right = links.right;
@@ -557,6 +567,7 @@ fn remove_found(t: &mut [Row], path: &mut [PathStep], steps: usize, links: Links
 fn remove_at(t: &mut [Row], path: &mut [PathStep], key: TreeKey, root: Link, id: u64) -> Rooted
     ensures { λ r. ⌜ out r (table (now (t .exit))) ≡ index.removeAt (table (now (t .entry)))
         (length (now (path .entry))) key root id ⌝ }
+    ensures { λ r. ⌜ Framed (now (t .entry)) (now (t .exit)) ⌝ }
 {
     let Searched::Found { steps, links } = search(t, path, key, id, root) else {
         return Rooted::Damaged;
@@ -568,6 +579,7 @@ fn remove_at(t: &mut [Row], path: &mut [PathStep], key: TreeKey, root: Link, id:
 pub fn remove_under(t: &mut [Row], path: &mut Path, root: Link, id: u64) -> Rooted
     ensures { λ r. ⌜ out (rootedAnswer r) (table (now (t .exit)))
         ≡ answering rootedAnswer (index.remove (table (now (t .entry))) root id) ⌝ }
+    ensures { λ r. ⌜ Framed (now (t .entry)) (now (t .exit)) ⌝ }
 {
     let KeyRead::Got(key) = key_at(t, id) else {
         return Rooted::Damaged;

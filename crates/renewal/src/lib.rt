@@ -11,6 +11,7 @@ ghost use mathlib.Core.List.{[]};
 ghost use Rattle.algorithms.specs.Answers.{runtimeAnswer};
 ghost use Rattle.codec.specs.Codec.{decoded};
 ghost use Rattle.rows.specs.Table.{table, out};
+ghost use Rattle.rows.specs.Frame.{Framed};
 ghost use Rattle.queue.specs.Answers.{verdictAnswer};
 ghost use Rattle.renewal.specs.Renewal as renewal;
 ghost use Rattle.renewal.specs.Steps as steps;
@@ -90,6 +91,7 @@ pub fn head_of(t: &[Row], root: Link) -> HeadRead
 fn store_refreshed(t: &mut [Row], id: u64, refreshed: RuntimeAnswer) -> Verdict
     ensures { λ r. ⌜ out (verdictAnswer r) (table (now (t .exit))) ≡ steps.refreshedStored (table (now (t .entry))) id
         (runtimeAnswer refreshed) ⌝ }
+    ensures { λ r. ⌜ Framed (now (t .entry)) (now (t .exit)) ⌝ }
 {
     match refreshed {
         RuntimeAnswer::Refused(_) => Verdict::Refused(Refusal::BadRecord),
@@ -104,6 +106,7 @@ fn store_refreshed(t: &mut [Row], id: u64, refreshed: RuntimeAnswer) -> Verdict
 fn refresh_budget(t: &mut [Row], id: u64, reading: u64) -> Verdict
     ensures { λ r. ⌜ out (verdictAnswer r) (table (now (t .exit)))
         ≡ steps.budgetRefreshed (table (now (t .entry))) id reading ⌝ }
+    ensures { λ r. ⌜ Framed (now (t .entry)) (now (t .exit)) ⌝ }
 {
     let k = id as usize;
     if k < t.len() {
@@ -120,6 +123,7 @@ fn refresh_budget(t: &mut [Row], id: u64, reading: u64) -> Verdict
 pub fn refresh_row(t: &mut [Row], id: u64, row: Row, reading: u64) -> Verdict
     ensures { λ r. ⌜ out (verdictAnswer r) (table (now (t .exit))) ≡ steps.rowRefreshed (table (now (t .entry))) id
         (decoded row) reading ⌝ }
+    ensures { λ r. ⌜ Framed (now (t .entry)) (now (t .exit)) ⌝ }
 {
     if is_bad_row(row) {
         return Verdict::Refused(Refusal::BadRecord);
@@ -136,6 +140,7 @@ fn refresh_at(t: &mut [Row], id: u64, reading: u64) -> Verdict
     requires { ⌜ id < length (now t) ⌝ }
     ensures { λ r. ⌜ out (verdictAnswer r) (table (now (t .exit))) ≡ steps.rowRefreshed (table (now (t .entry))) id
         (decoded (getD (now (t .entry)) id [])) reading ⌝ }
+    ensures { λ r. ⌜ Framed (now (t .entry)) (now (t .exit)) ⌝ }
 {
     let k = id as usize;
     let tag = t[k][RUNTIME_TAG];
@@ -161,6 +166,7 @@ fn refresh_at(t: &mut [Row], id: u64, reading: u64) -> Verdict
 fn refresh_runtime(t: &mut [Row], id: u64, reading: u64) -> Verdict
     ensures { λ r. ⌜ out (verdictAnswer r) (table (now (t .exit)))
         ≡ steps.runtimeRefreshed (table (now (t .entry))) id reading ⌝ }
+    ensures { λ r. ⌜ Framed (now (t .entry)) (now (t .exit)) ⌝ }
 {
     let k = id as usize;
     if k < t.len() {
@@ -173,6 +179,7 @@ fn refresh_runtime(t: &mut [Row], id: u64, reading: u64) -> Verdict
 fn refile(t: &mut [Row], path: &mut Path, trees: BudgetTrees, id: u64, reading: u64) -> Moved
     ensures { λ r. ⌜ out (moveAnswer r) (table (now (t .exit)))
         ≡ steps.refiled (table (now (t .entry))) trees id reading ⌝ }
+    ensures { λ r. ⌜ Framed (now (t .entry)) (now (t .exit)) ⌝ }
 {
     let exhausted = trees.exhausted;
     let old = trees.ready;
@@ -196,6 +203,7 @@ fn refile(t: &mut [Row], path: &mut Path, trees: BudgetTrees, id: u64, reading: 
 fn move_one(t: &mut [Row], path: &mut Path, trees: BudgetTrees, id: u64, reading: u64) -> Moved
     ensures { λ r. ⌜ out (moveAnswer r) (table (now (t .exit)))
         ≡ renewal.moveOne (table (now (t .entry))) trees id reading ⌝ }
+    ensures { λ r. ⌜ Framed (now (t .entry)) (now (t .exit)) ⌝ }
 {
     let old = trees.exhausted;
     let ready = trees.ready;
@@ -227,6 +235,7 @@ fn next_move(
     requires { ⌜ 0 < moves ⌝ }
     ensures { λ r. ⌜ out (nextAnswer r) (table (now (t .exit)))
         ≡ steps.nextMove moves (table (now (t .entry))) exhausted ready reading ⌝ }
+    ensures { λ r. ⌜ Framed (now (t .entry)) (now (t .exit)) ⌝ }
 {
     let HeadRead::Head(head) = head_of(t, exhausted) else {
         return NextMove::Refused(
@@ -283,6 +292,7 @@ fn move_all(
 ) -> Moved
     ensures { λ r. ⌜ out (moveAnswer r) (table (now (t .exit)))
         ≡ renewal.moveAll moves (table (now (t .entry))) «old_exhausted» «old_ready» reading ⌝ }
+    ensures { λ r. ⌜ Framed (now (t .entry)) (now (t .exit)) ⌝ }
 {
     let mut exhausted = old_exhausted;
     let mut ready = old_ready;
@@ -332,6 +342,7 @@ fn renew_role(
     requires { ⌜ role < 3 ⌝ }
     ensures { λ r. ⌜ out (leaves (roleAnswer r) (rootsOf (now (roots .exit)))) (table (now (t .exit)))
         ≡ steps.roleRenewed role moves (table (now (t .entry))) (rootsOf (now (roots .entry))) reading ⌝ }
+    ensures { λ r. ⌜ Framed (now (t .entry)) (now (t .exit)) ⌝ }
 {
     let exhausted = root_at(roots, EXHAUSTED + role);
     if exhausted.is_none() {
@@ -355,6 +366,7 @@ pub fn renew_roles(t: &mut [Row], path: &mut Path, roots: &mut [QueueRow], readi
     ensures { λ r. ⌜ out (leaves (verdictAnswer r) (rootsOf (now (roots .exit)))) (table (now (t .exit)))
         ≡ renewal.renewRoles 3 (length (table (now (t .entry)))) (table (now (t .entry)))
         (rootsOf (now (roots .entry))) reading ⌝ }
+    ensures { λ r. ⌜ Framed (now (t .entry)) (now (t .exit)) ⌝ }
 {
     let mut moves = t.len() as u64;
     let mut left: usize = 3;

@@ -6,6 +6,7 @@ ghost use Rattle.rows.specs.Answers.{changeAnswer};
 ghost use Rattle.rows.specs.Asked.{answering};
 ghost use Rattle.rows.specs.Table.{table, out};
 ghost use Rattle.rotations.specs.Answers.{turnedAnswer};
+ghost use Rattle.rows.specs.Frame.{Framed};
 ghost use Rattle.rotations.specs.Balance as spec;
 ghost use Rattle.rotations.specs.InPlace.{isEven, heightStored, balanceBy};
 use avl::Lean;
@@ -54,6 +55,7 @@ fn larger(a: u8, b: u8) -> u8
 fn update(t: &mut [Row], i: u64, links: Links) -> Change
     ensures { λ r. ⌜ out (changeAnswer r) (table (now (t .exit)))
         ≡ answering changeAnswer (spec.update (table (now (t .entry))) i links) ⌝ }
+    ensures { λ r. ⌜ Framed (now (t .entry)) (now (t .exit)) ⌝ }
 {
     let left = links.left;
     let right = links.right;
@@ -80,6 +82,7 @@ fn update(t: &mut [Row], i: u64, links: Links) -> Change
 
 fn rotate_left(t: &mut [Row], i: u64) -> Turned
     ensures { λ r. ⌜ out r (table (now (t .exit))) ≡ spec.rotateLeft (table (now (t .entry))) i ⌝ }
+    ensures { λ r. ⌜ Framed (now (t .entry)) (now (t .exit)) ⌝ }
 {
     let LinksRead::Got(links) = links_at(t, i) else {
         return Turned::Damaged;
@@ -121,6 +124,7 @@ fn rotate_left(t: &mut [Row], i: u64) -> Turned
 
 fn rotate_right(t: &mut [Row], i: u64) -> Turned
     ensures { λ r. ⌜ out r (table (now (t .exit))) ≡ spec.rotateRight (table (now (t .entry))) i ⌝ }
+    ensures { λ r. ⌜ Framed (now (t .entry)) (now (t .exit)) ⌝ }
 {
     let LinksRead::Got(links) = links_at(t, i) else {
         return Turned::Damaged;
@@ -163,6 +167,7 @@ fn rotate_right(t: &mut [Row], i: u64) -> Turned
 // The right child is rotated outward, and then the old copy of the links is written back with it.
 fn double_left(t: &mut [Row], i: u64, links: Links, right: u64) -> Turned
     ensures { λ r. ⌜ out r (table (now (t .exit))) ≡ spec.doubleLeft (table (now (t .entry))) i links right ⌝ }
+    ensures { λ r. ⌜ Framed (now (t .entry)) (now (t .exit)) ⌝ }
 {
     let kept = links.left;
     let Turned::Root(top) = rotate_right(t, right) else {
@@ -185,6 +190,7 @@ fn double_left(t: &mut [Row], i: u64, links: Links, right: u64) -> Turned
 // The left child is rotated outward, and then the old copy of the links is written back with it.
 fn double_right(t: &mut [Row], i: u64, links: Links, left: u64) -> Turned
     ensures { λ r. ⌜ out r (table (now (t .exit))) ≡ spec.doubleRight (table (now (t .entry))) i links left ⌝ }
+    ensures { λ r. ⌜ Framed (now (t .entry)) (now (t .exit)) ⌝ }
 {
     let kept = links.right;
     let Turned::Root(top) = rotate_left(t, left) else {
@@ -207,6 +213,7 @@ fn double_right(t: &mut [Row], i: u64, links: Links, left: u64) -> Turned
 // The left side is too high: its inner side is brought outward first where that is the higher.
 fn balance_left(t: &mut [Row], i: u64, links: Links) -> Turned
     ensures { λ r. ⌜ out r (table (now (t .exit))) ≡ spec.balanceLeft (table (now (t .entry))) i links ⌝ }
+    ensures { λ r. ⌜ Framed (now (t .entry)) (now (t .exit)) ⌝ }
 {
     let left_link = links.left;
     let Link::Some(left) = left_link else {
@@ -232,6 +239,7 @@ fn balance_left(t: &mut [Row], i: u64, links: Links) -> Turned
 // The right side is too high.
 fn balance_right(t: &mut [Row], i: u64, links: Links) -> Turned
     ensures { λ r. ⌜ out r (table (now (t .exit))) ≡ spec.balanceRight (table (now (t .entry))) i links ⌝ }
+    ensures { λ r. ⌜ Framed (now (t .entry)) (now (t .exit)) ⌝ }
 {
     let right_link = links.right;
     let Link::Some(right) = right_link else {
@@ -264,6 +272,7 @@ fn lean(left: u8, right: u8) -> Lean
 pub fn balance(t: &mut [Row], i: u64) -> Turned
     ensures { λ r. ⌜ out (turnedAnswer r) (table (now (t .exit)))
         ≡ answering turnedAnswer (spec.balance (table (now (t .entry))) i) ⌝ }
+    ensures { λ r. ⌜ Framed (now (t .entry)) (now (t .exit)) ⌝ }
 {
     let LinksRead::Got(links) = links_at(t, i) else {
         return Turned::Damaged;
@@ -306,6 +315,7 @@ fn is_even(left: u8, right: u8) -> bool
 // The height above sides of these heights, stored at a node that stays where it is.
 fn store_height(t: &mut [Row], i: u64, left: u8, right: u8) -> Turned
     ensures { λ r. ⌜ out r (table (now (t .exit))) ≡ heightStored (table (now (t .entry))) i left right ⌝ }
+    ensures { λ r. ⌜ Framed (now (t .entry)) (now (t .exit)) ⌝ }
 {
     let m = larger(left, right);
     if m < 255 {
@@ -322,6 +332,7 @@ fn store_height(t: &mut [Row], i: u64, left: u8, right: u8) -> Turned
 pub fn rebalance(t: &mut [Row], i: u64, left: Link, right: Link) -> Turned
     ensures { λ r. ⌜ out (turnedAnswer r) (table (now (t .exit)))
         ≡ answering turnedAnswer (balanceBy (table (now (t .entry))) i left right) ⌝ }
+    ensures { λ r. ⌜ Framed (now (t .entry)) (now (t .exit)) ⌝ }
 {
     let HeightRead::Got(a) = height(t, left) else {
         return Turned::Damaged;

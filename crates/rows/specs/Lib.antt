@@ -16,3 +16,5 @@ pub mod TableLaws
 pub mod AskedLaws
 -- What a refusal leaves, word for word.
 pub mod Unmoved
+-- What any call leaves of the rows' words.
+pub mod Frame

@@ -5,6 +5,7 @@ ghost use Rattle.refusal.specs.Answer.{value, refused};
 ghost use Rattle.rows.specs.Answers.{linksAnswer, keyAnswer, queueLinksAnswer, changeAnswer, permissionAnswer};
 ghost use Rattle.rows.specs.Asked.{asked, answering};
 ghost use Rattle.rows.specs.Table.{table, out, linksAt, keyAt, queueLinksAt, setLinks, setLeft, setRight};
+ghost use Rattle.rows.specs.Frame.{Framed};
 ghost use Rattle.rows.specs.Table.{setHeight, setQueueLinks, setRuntime, setTurn};
 use algorithms::PolicyRuntime;
 use codec::Row;
@@ -115,6 +116,7 @@ pub fn queue_links_at(t: &[Row], i: u64) -> QueueLinksRead
 pub fn set_links(t: &mut [Row], i: u64, links: Links) -> Change
     ensures { λ r. ⌜ out (changeAnswer r) (table (now (t .exit)))
         ≡ answering changeAnswer (setLinks (table (now (t .entry))) i links) ⌝ }
+    ensures { λ r. ⌜ Framed (now (t .entry)) (now (t .exit)) ⌝ }
 {
     let k = i as usize;
     if k < t.len() {
@@ -130,6 +132,7 @@ pub fn set_links(t: &mut [Row], i: u64, links: Links) -> Change
 pub fn set_left(t: &mut [Row], i: u64, link: Link) -> Change
     ensures { λ r. ⌜ out (changeAnswer r) (table (now (t .exit)))
         ≡ answering changeAnswer (setLeft (table (now (t .entry))) i link) ⌝ }
+    ensures { λ r. ⌜ Framed (now (t .entry)) (now (t .exit)) ⌝ }
 {
     let k = i as usize;
     if k < t.len() {
@@ -144,6 +147,7 @@ pub fn set_left(t: &mut [Row], i: u64, link: Link) -> Change
 pub fn set_right(t: &mut [Row], i: u64, link: Link) -> Change
     ensures { λ r. ⌜ out (changeAnswer r) (table (now (t .exit)))
         ≡ answering changeAnswer (setRight (table (now (t .entry))) i link) ⌝ }
+    ensures { λ r. ⌜ Framed (now (t .entry)) (now (t .exit)) ⌝ }
 {
     let k = i as usize;
     if k < t.len() {
@@ -158,6 +162,7 @@ pub fn set_right(t: &mut [Row], i: u64, link: Link) -> Change
 pub fn set_height(t: &mut [Row], i: u64, height: u8) -> Change
     ensures { λ r. ⌜ out (changeAnswer r) (table (now (t .exit)))
         ≡ answering changeAnswer (setHeight (table (now (t .entry))) i height) ⌝ }
+    ensures { λ r. ⌜ Framed (now (t .entry)) (now (t .exit)) ⌝ }
 {
     let k = i as usize;
     if k < t.len() {
@@ -172,6 +177,7 @@ pub fn set_height(t: &mut [Row], i: u64, height: u8) -> Change
 pub fn set_queue_links(t: &mut [Row], i: u64, links: QueueLinks) -> Change
     ensures { λ r. ⌜ out (changeAnswer r) (table (now (t .exit)))
         ≡ answering changeAnswer (setQueueLinks (table (now (t .entry))) i links) ⌝ }
+    ensures { λ r. ⌜ Framed (now (t .entry)) (now (t .exit)) ⌝ }
 {
     let k = i as usize;
     if k < t.len() {
@@ -186,6 +192,7 @@ pub fn set_queue_links(t: &mut [Row], i: u64, links: QueueLinks) -> Change
 pub fn set_runtime(t: &mut [Row], i: u64, runtime: PolicyRuntime) -> Change
     ensures { λ r. ⌜ out (changeAnswer r) (table (now (t .exit)))
         ≡ answering changeAnswer (setRuntime (table (now (t .entry))) i runtime) ⌝ }
+    ensures { λ r. ⌜ Framed (now (t .entry)) (now (t .exit)) ⌝ }
 {
     let k = i as usize;
     if k < t.len() {
@@ -200,6 +207,7 @@ pub fn set_runtime(t: &mut [Row], i: u64, runtime: PolicyRuntime) -> Change
 pub fn set_turn(t: &mut [Row], i: u64, turn: u64) -> Change
     ensures { λ r. ⌜ out (changeAnswer r) (table (now (t .exit)))
         ≡ answering changeAnswer (setTurn (table (now (t .entry))) i turn) ⌝ }
+    ensures { λ r. ⌜ Framed (now (t .entry)) (now (t .exit)) ⌝ }
 {
     let k = i as usize;
     if k < t.len() {

@@ -7,6 +7,7 @@ ghost use mathlib.Core.List.{[]};
 ghost use Rattle.thread.specs.Membership.{isReadyOn};
 ghost use Rattle.codec.specs.Codec.{decoded};
 ghost use Rattle.rows.specs.Table.{table, out};
+ghost use Rattle.rows.specs.Frame.{Framed};
 ghost use Rattle.queue.specs.Answers.{verdictAnswer};
 ghost use Rattle.selection.specs.Heads as choice;
 ghost use Rattle.selection.specs.Steps as steps;
@@ -73,6 +74,7 @@ fn is_ready_row(w: Row, cpu: CpuIndex) -> bool
 fn head_at(t: &mut [Row], id: u64, cpu: CpuIndex, reading: u64) -> Verdict
     ensures { λ r. ⌜ out (verdictAnswer r) (table (now (t .exit)))
         ≡ steps.headRefreshed (table (now (t .entry))) id cpu reading ⌝ }
+    ensures { λ r. ⌜ Framed (now (t .entry)) (now (t .exit)) ⌝ }
 {
     let k = id as usize;
     if k < t.len() {
@@ -128,6 +130,7 @@ pub fn gather_heads(
         ≡ numbers.gatherNumbers treeCount (table (now (t .entry))) (rootsOf (now (roots .entry))) cpu reading
         [] current ⌝ }
     ensures { λ r. ⌜ r .count ≤ treeCount ⌝ }
+    ensures { λ r. ⌜ Framed (now (t .entry)) (now (t .exit)) ⌝ }
 {
     let mut found = current;
     let mut count: usize = 0;

@@ -4,6 +4,7 @@ ghost use Prim.Native.Nat.{_≤_};
 ghost use mathlib.Core.Path.{_≡_};
 ghost use lib.ListN.{length, take};
 ghost use Rattle.rows.specs.Table.{table, out};
+ghost use Rattle.rows.specs.Frame.{Framed};
 ghost use Rattle.selection.specs.Steps as steps;
 ghost use Rattle.selection.specs.HeadNumbers as numbers;
 ghost use Rattle.renewal.specs.RootRows.{rootsOf};
@@ -72,6 +73,7 @@ pub fn peek_heads(
 ) -> WindowPeek
     ensures { λ r. ⌜ out (lookedOf r) (table (now (t .exit))) ≡ steps.lookedAt (table (now (t .entry)))
         (rootsOf (now (roots .entry))) cpu reading window current ⌝ }
+    ensures { λ r. ⌜ Framed (now (t .entry)) (now (t .exit)) ⌝ }
 {
     let asked = of_current(current);
     let mut heads: [u64; TREES] = [0; TREES];

@@ -1,5 +1,6 @@
 -- The stores are at the words of this part alone, and the row has 32 words, so that each is made.
 use Rattle.codec.specs.RowLaws.{height-stored}
+use Rattle.codec.specs.FrameLaws.{height-framed}
 use borrow.Author.Needs.{needs}
 use Rattle.codec.proofs.with_height.Statement.{statement}
 use Rattle.codec.proofs.with_height.Tie as tie
@@ -10,4 +11,4 @@ with-height-spec =
     (tie.spec
     (λ c κs. search needs)
     (λ c. search needs)
-    (λ c. search height-stored depth 8))
+    (λ c. (search height-stored depth 8, search height-framed depth 8)))

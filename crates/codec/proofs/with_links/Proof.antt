@@ -1,5 +1,6 @@
 -- The stores are at the words of this part alone, and the row has 32 words, so that each is made.
 use Rattle.codec.specs.RowLaws.{links-stored}
+use Rattle.codec.specs.FrameLaws.{links-framed}
 use borrow.Author.Needs.{needs}
 use Rattle.codec.proofs.with_links.Statement.{statement}
 use Rattle.codec.proofs.with_links.Tie as tie
@@ -20,4 +21,4 @@ with-links-spec =
     (λ c. search needs)
     (λ c. search needs)
     (λ c. search needs)
-    (λ c. search links-stored depth 8))
+    (λ c. (search links-stored depth 8, search links-framed depth 8)))

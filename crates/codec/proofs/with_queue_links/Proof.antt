@@ -1,5 +1,6 @@
 -- The stores are at the words of this part alone, and the row has 32 words, so that each is made.
 use Rattle.codec.specs.RowLaws.{queue-links-stored}
+use Rattle.codec.specs.FrameLaws.{queue-links-framed}
 use borrow.Author.Needs.{needs}
 use Rattle.codec.proofs.with_queue_links.Statement.{statement}
 use Rattle.codec.proofs.with_queue_links.Tie as tie
@@ -25,4 +26,4 @@ with-queue-links-spec =
     (λ c. search needs)
     (λ c. search needs)
     (λ c. search needs)
-    (λ c. search queue-links-stored depth 8))
+    (λ c. (search queue-links-stored depth 8, search queue-links-framed depth 8)))

@@ -1,5 +1,6 @@
--- The words of each variant stand for it.
+-- The words of each variant stand for it, and are its encoding.
 use Rattle.codec.specs.PartLaws.{parts}
+use Rattle.codec.specs.FrameLaws.{encodings}
 use borrow.Author.Needs.{needs}
 use Rattle.codec.proofs.words_of_link.Statement.{statement}
 use Rattle.codec.proofs.words_of_link.Tie as tie
@@ -10,5 +11,5 @@ words-of-link-spec =
     (tie.spec
     (λ c. search needs)
     (λ c. search needs)
-    (λ c. search parts depth 8)
-    (λ c. search parts depth 8))
+    (λ c. (search parts depth 8, search encodings depth 8))
+    (λ c. (search parts depth 8, search encodings depth 8)))

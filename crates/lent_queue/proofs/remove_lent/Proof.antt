@@ -3,6 +3,7 @@ use Rattle.lent_queue.specs.LentLaws.{lending}
 use Rattle.queue.specs.PlanLaws.{bounds}
 use Rattle.rows.specs.Unmoved.{unmoving}
 use Rattle.lent_queue.specs.SparedLaws.{sparing}
+use Rattle.rows.specs.Frame.{framing}
 use borrow.Author.Needs.{needs}
 use Rattle.lent_queue.proofs.remove_lent.Statement.{statement}
 use Rattle.lent_queue.proofs.remove_lent.Tie as tie
@@ -19,10 +20,16 @@ remove-lent-spec =
     (λ c. search needs)
     (λ c. (
       search (lending, bounds) depth 8,
-      (search unmoving, (search unmoving, (search (unmoving, sparing), search (unmoving, sparing)))),
+      (
+        search unmoving,
+        (search unmoving, (search (unmoving, sparing), (search (unmoving, sparing), search framing depth 8))),
+      ),
     ))
     (λ c. search needs)
     (λ c. (
       search (lending, bounds) depth 8,
-      (search unmoving, (search unmoving, (search (unmoving, sparing), search (unmoving, sparing)))),
+      (
+        search unmoving,
+        (search unmoving, (search (unmoving, sparing), (search (unmoving, sparing), search framing depth 8))),
+      ),
     )))

@@ -1,5 +1,6 @@
 -- The rows of the roots, then their heads.
 use Rattle.lent_selection.specs.LentLaws.{peeks}
+use Rattle.rows.specs.Frame.{framing}
 use borrow.Author.Needs.{needs}
 use Rattle.lent_selection.proofs.peek_roots.Statement.{statement}
 use Rattle.lent_selection.proofs.peek_roots.Tie as tie
@@ -14,4 +15,4 @@ peek-roots-spec =
     (λ c. search needs)
     (λ c κs. search needs)
     (λ c. search needs)
-    (λ c. search peeks depth 8))
+    (λ c. (search peeks depth 8, search framing depth 8)))

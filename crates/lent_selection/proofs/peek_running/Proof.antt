@@ -4,6 +4,7 @@ use Rattle.lists.specs.ListsLaws.{listings}
 use Rattle.renewal.specs.RenewalLaws.{steps}
 use Rattle.lent_selection.specs.LentParts.{runningQueue}
 use Rattle.lent_selection.specs.LentLaws.{peeks}
+use Rattle.rows.specs.Frame.{framing}
 use borrow.Author.Needs.{needs}
 use Rattle.lent_selection.proofs.peek_running.Statement.{statement}
 use Rattle.lent_selection.proofs.peek_running.Tie as tie
@@ -19,6 +20,6 @@ peek-running-spec =
     (λ c. search needs)
     (λ c κs. search needs)
     (λ c. search needs)
-    (λ c. search (cases, listings, steps, peeks) depth 8)
+    (λ c. (search (cases, listings, steps, peeks) depth 8, search framing depth 8))
     (λ c. search needs)
-    (λ c. search (cases, listings, steps, peeks) depth 8))
+    (λ c. (search (cases, listings, steps, peeks) depth 8, search framing depth 8)))

@@ -3,6 +3,7 @@ use Rattle.refusal.specs.Cases.{cases}
 use Rattle.thread.specs.MembershipLaws.{memberships}
 use Rattle.lists.specs.ListsLaws.{listings}
 use Rattle.lists.specs.Lists.{append}
+use Rattle.rows.specs.Frame.{framing}
 use borrow.Author.Needs.{needs}
 use Rattle.lists.proofs.append.Statement.{statement}
 use Rattle.lists.proofs.append.Tie as tie
@@ -18,6 +19,6 @@ append-spec =
     (λ c κs. search needs)
     (λ c κs. search needs)
     (λ c. search needs)
-    (λ c. search (cases, memberships, listings) depth 8)
+    (λ c. (search (cases, memberships, listings) depth 8, search framing depth 8))
     (λ c. search needs)
-    (λ c. search (cases, memberships, listings) depth 8))
+    (λ c. (search (cases, memberships, listings) depth 8, search framing depth 8)))

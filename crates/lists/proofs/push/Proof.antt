@@ -2,6 +2,7 @@
 use Rattle.rows.specs.AskedLaws.{granted, turned-away}
 use Rattle.refusal.specs.Cases.{choose}
 use Rattle.lists.specs.Calls.{pushCall}
+use Rattle.rows.specs.Frame.{framing}
 use borrow.Author.Needs.{needs}
 use Rattle.lists.proofs.push.Statement.{statement}
 use Rattle.lists.proofs.push.Tie as tie
@@ -16,6 +17,6 @@ push-spec =
     (λ c κs. search needs)
     (λ c. search needs)
     (λ c. search needs)
-    (λ c. search (granted, turned-away) depth 8)
+    (λ c. search (granted, turned-away, framing) depth 8)
     (λ c. search needs)
-    (λ c. search (granted, turned-away) depth 8))
+    (λ c. search (granted, turned-away, framing) depth 8))

@@ -1,5 +1,6 @@
 -- The checks, which are those of both ends, and the stores where they allow it.
 use Rattle.lists.specs.ListsLaws.{listings, either-end}
+use Rattle.rows.specs.Frame.{framing}
 use borrow.Author.Needs.{needs}
 use Rattle.lists.proofs.push_at.Statement.{statement}
 use Rattle.lists.proofs.push_at.Tie as tie
@@ -13,6 +14,6 @@ push-at-spec =
     (λ c κs. search needs)
     (λ c. search needs)
     (λ c. search needs)
-    (λ c. search (either-end, listings) depth 8)
+    (λ c. search (either-end, listings, framing) depth 8)
     (λ c. search needs)
-    (λ c. search (either-end, listings) depth 8))
+    (λ c. search (either-end, listings, framing) depth 8))

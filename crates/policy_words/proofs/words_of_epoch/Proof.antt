@@ -1,5 +1,6 @@
--- The words of each variant stand for it.
+-- The words of each variant stand for it, and are its encoding.
 use Rattle.policy_words.specs.PartLaws.{parts}
+use Rattle.policy_words.specs.EncodeLaws.{encodings}
 use borrow.Author.Needs.{needs}
 use Rattle.policy_words.proofs.words_of_epoch.Statement.{statement}
 use Rattle.policy_words.proofs.words_of_epoch.Tie as tie
@@ -10,5 +11,5 @@ words-of-epoch-spec =
     (tie.spec
     (λ c. search needs)
     (λ c. search needs)
-    (λ c. search parts depth 8)
-    (λ c. search parts depth 8))
+    (λ c. (search parts depth 8, search encodings depth 8))
+    (λ c. (search parts depth 8, search encodings depth 8)))

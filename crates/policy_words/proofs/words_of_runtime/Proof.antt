@@ -1,5 +1,6 @@
--- The words of each variant stand for it.
+-- The words of each variant stand for it, and are its encoding.
 use Rattle.policy_words.specs.PartLaws.{parts}
+use Rattle.policy_words.specs.EncodeLaws.{encodings}
 use borrow.Author.Needs.{needs}
 use Rattle.policy_words.proofs.words_of_runtime.Statement.{statement}
 use Rattle.policy_words.proofs.words_of_runtime.Tie as tie
@@ -15,7 +16,7 @@ words-of-runtime-spec =
     (λ c. search needs)
     (λ c. search needs)
     (λ c. search needs)
-    (λ c. search parts depth 8)
-    (λ c. search parts depth 8)
-    (λ c. search parts depth 8)
-    (λ c. search parts depth 8))
+    (λ c. (search parts depth 8, search encodings depth 8))
+    (λ c. (search parts depth 8, search encodings depth 8))
+    (λ c. (search parts depth 8, search encodings depth 8))
+    (λ c. (search parts depth 8, search encodings depth 8)))

@@ -1,6 +1,7 @@
 -- The tree, then the count, on the table that the tree left.
 use Rattle.ready_index.specs.AnswersLaws.{rootings}
 use Rattle.queue_work.specs.WorkLaws.{works, storing}
+use Rattle.rows.specs.Frame.{framing}
 use borrow.Author.Needs.{needs}
 use Rattle.queue_work.proofs.remove_from_tree.Statement.{statement}
 use Rattle.queue_work.proofs.remove_from_tree.Tie as tie
@@ -13,7 +14,7 @@ remove-from-tree-spec =
     (λ c. search needs)
     (λ c. search needs)
     (λ c. search needs)
-    (λ c. (search (rootings, works) depth 8, search storing))
+    (λ c. (search (rootings, works) depth 8, (search storing, search framing depth 8)))
     (λ c κs. search needs)
     (λ c. search needs)
-    (λ c. (search (rootings, works) depth 8, search storing)))
+    (λ c. (search (rootings, works) depth 8, (search storing, search framing depth 8))))

@@ -2,6 +2,7 @@
 use Rattle.ready_index.specs.CasesLaws.{made-anew}
 use Rattle.ready_index.specs.LoopLaws.{walk-within}
 use Rattle.ready_index.specs.WaysLaws.{ways}
+use Rattle.rows.specs.Frame.{framing}
 use borrow.Author.Needs.{needs}
 use Rattle.ready_index.proofs.insert_at.Statement.{statement}
 use Rattle.ready_index.proofs.insert_at.Tie as tie
@@ -15,15 +16,15 @@ insert-at-spec =
     (λ c. search needs)
     (λ c. search needs)
     (λ c. search needs)
-    (λ c. search ways depth 8)
+    (λ c. (search ways depth 8, search framing depth 8))
     (λ c κs. search needs)
     (λ c. search needs)
     (λ c. search needs)
     (λ c. search needs)
     (λ c. search needs)
-    (λ c. search ways depth 8)
+    (λ c. (search ways depth 8, search framing depth 8))
     (λ c κs. search walk-within)
     (λ c κs. search needs)
     (λ c. search needs)
     (λ c. search needs)
-    (λ c. search (ways, made-anew) depth 8))
+    (λ c. (search (ways, made-anew) depth 8, search framing depth 8)))

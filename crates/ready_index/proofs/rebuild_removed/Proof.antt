@@ -1,5 +1,6 @@
 -- The calls stand in the order of the definition.
 use Rattle.ready_index.specs.CasesLaws.{answers}
+use Rattle.rows.specs.Frame.{framing}
 use borrow.Author.Needs.{needs}
 use Rattle.ready_index.proofs.rebuild_removed.Statement.{statement}
 use Rattle.ready_index.proofs.rebuild_removed.Tie as tie
@@ -12,12 +13,12 @@ rebuild-removed-spec =
     (λ c. search needs)
     (λ c. search needs)
     (λ c. search needs)
-    (λ c. search answers depth 8)
+    (λ c. (search answers depth 8, search framing depth 8))
     (λ c κs. search needs)
     (λ c. search needs)
     (λ c. search needs)
     (λ c. search needs)
-    (λ c. search answers depth 8)
+    (λ c. (search answers depth 8, search framing depth 8))
     (λ c κs. search needs)
     (λ c. search needs)
-    (λ c. search answers depth 8))
+    (λ c. (search answers depth 8, search framing depth 8)))

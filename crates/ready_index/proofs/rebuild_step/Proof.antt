@@ -2,6 +2,7 @@
 use Rattle.rotations.specs.AnswersLaws.{turn-told}
 use Rattle.ready_index.specs.CasesLaws.{answers}
 use Rattle.ready_index.specs.InPlaceLaws.{step-up}
+use Rattle.rows.specs.Frame.{framing}
 use borrow.Author.Needs.{needs}
 use Rattle.ready_index.proofs.rebuild_step.Statement.{statement}
 use Rattle.ready_index.proofs.rebuild_step.Tie as tie
@@ -15,21 +16,21 @@ rebuild-step-spec =
     (λ c. search needs)
     (λ c. search needs)
     (λ c. search needs)
-    (λ c. search (turn-told, answers, step-up) depth 9)
+    (λ c. (search (turn-told, answers, step-up) depth 9, search framing depth 8))
     (λ c. search needs)
     (λ c κs. search needs)
     (λ c. search needs)
     (λ c. search needs)
     (λ c. search needs)
-    (λ c. search (turn-told, answers, step-up) depth 9)
+    (λ c. (search (turn-told, answers, step-up) depth 9, search framing depth 8))
     (λ c κs. search needs)
     (λ c. search needs)
-    (λ c. search (turn-told, answers, step-up) depth 9)
+    (λ c. (search (turn-told, answers, step-up) depth 9, search framing depth 8))
     (λ c κs. search needs)
     (λ c. search needs)
     (λ c. search needs)
     (λ c. search needs)
-    (λ c. search (turn-told, answers, step-up) depth 9)
+    (λ c. (search (turn-told, answers, step-up) depth 9, search framing depth 8))
     (λ c κs. search needs)
     (λ c. search needs)
-    (λ c. search (turn-told, answers, step-up) depth 9))
+    (λ c. (search (turn-told, answers, step-up) depth 9, search framing depth 8)))

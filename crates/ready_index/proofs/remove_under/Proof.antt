@@ -3,6 +3,7 @@ use Rattle.ready_index.specs.AnswersLaws.{rooted-told}
 use Rattle.ready_index.specs.CasesLaws.{answers}
 use Rattle.ready_index.specs.Index.{remove}
 use Rattle.ready_index.specs.WaysLaws.{remove-lent}
+use Rattle.rows.specs.Frame.{framing}
 use borrow.Author.Needs.{needs}
 use Rattle.ready_index.proofs.remove_under.Statement.{statement}
 use Rattle.ready_index.proofs.remove_under.Tie as tie
@@ -16,7 +17,7 @@ remove-under-spec =
     (λ c. search needs)
     (λ c. search needs)
     (λ c. search needs)
-    (λ c. search (rooted-told, answers) depth 9)
+    (λ c. (search (rooted-told, answers) depth 9, search framing depth 8))
     (λ c κs. search needs)
     (λ c. search needs)
-    (λ c. search (rooted-told, answers, remove-lent) depth 9))
+    (λ c. (search (rooted-told, answers, remove-lent) depth 9, search framing depth 8)))

@@ -1,6 +1,7 @@
 -- The moves that are left give what all of them give; their number falls.
 use mathlib.Core.Path.{_≡_, refl}
 use lib.ListN.{length}
+use Rattle.rows.specs.Frame.{Framed, framing}
 use borrow.Author.Needs.{needs}
 use Rattle.rows.specs.Table.{table}
 use Rattle.ready_index.specs.LoopLaws.{whole, setting-out, arrived}
@@ -12,7 +13,7 @@ use Rattle.renewal.proofs.move_all.Tie as tie
 abbrev Inv-loop : tie.InvT-loop
 Inv-loop t₀ path₀ moves reading exhausted₀ ready₀ left₀ t path exhausted ready left =
     (length t ≡ length t₀) × (moveAll left (table t) exhausted ready reading
-    ≡ whole (moveAll moves (table t₀) exhausted₀ ready₀ reading))
+    ≡ whole (moveAll moves (table t₀) exhausted₀ ready₀ reading)) × Framed t₀ t
 
 abbrev μ-loop : tie.MeasureT-loop
 μ-loop t₀ path₀ moves reading exhausted₀ ready₀ left₀ t path exhausted ready left = left
@@ -23,18 +24,18 @@ move-all-spec =
     (tie.spec
     Inv-loop
     μ-loop
-    (λ c. (refl, search setting-out))
+    (λ c. (refl, search setting-out, search framing))
     (λ c κs. search needs)
     (λ c. search needs)
     (λ c. search needs)
-    (λ c. arrived _ (search moving depth 8))
+    (λ c. (arrived _ (search moving depth 8), search framing depth 8))
     (λ c. search needs)
     (λ c. search needs)
     (λ c. search needs)
-    (λ c. (search needs, search moving depth 8))
+    (λ c. (search needs, search moving depth 8, search framing depth 8))
     (λ c. search needs)
     (λ c. search needs)
-    (λ c. arrived _ (search moving depth 8))
+    (λ c. (arrived _ (search moving depth 8), search framing depth 8))
     (λ c κs. search needs)
     (λ c. search needs)
-    (λ c. arrived _ (search moving depth 8)))
+    (λ c. (arrived _ (search moving depth 8), search framing depth 8)))

@@ -2,6 +2,7 @@
 use Rattle.lists.specs.ListsLaws.{listings}
 use Rattle.ready_index.specs.AnswersLaws.{rootings}
 use Rattle.renewal.specs.RenewalLaws.{renewing}
+use Rattle.rows.specs.Frame.{framing}
 use borrow.Author.Needs.{needs}
 use Rattle.renewal.proofs.refile.Statement.{statement}
 use Rattle.renewal.proofs.refile.Tie as tie
@@ -17,8 +18,8 @@ refile-spec =
     (λ c. search needs)
     (λ c. search needs)
     (λ c. search needs)
-    (λ c. search (listings, rootings, renewing) depth 8)
+    (λ c. (search (listings, rootings, renewing) depth 8, search framing depth 8))
     (λ c. search needs)
-    (λ c. search (listings, rootings, renewing) depth 8)
+    (λ c. (search (listings, rootings, renewing) depth 8, search framing depth 8))
     (λ c. search needs)
-    (λ c. search (listings, rootings, renewing) depth 8))
+    (λ c. (search (listings, rootings, renewing) depth 8, search framing depth 8)))

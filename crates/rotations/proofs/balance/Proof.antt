@@ -2,6 +2,7 @@
 use Rattle.rotations.specs.CasesLaws.{by-lean}
 use Rattle.rotations.specs.Balance.{balance}
 use Rattle.rotations.specs.AnswersLaws.{turn-told}
+use Rattle.rows.specs.Frame.{framing}
 use borrow.Author.Needs.{needs}
 use Rattle.rotations.proofs.balance.Statement.{statement}
 use Rattle.rotations.proofs.balance.Tie as tie
@@ -15,17 +16,17 @@ balance-spec =
     (λ c. search needs)
     (λ c. search needs)
     (λ c. search needs)
-    (λ c. search (turn-told, by-lean) depth 9)
+    (λ c. (search (turn-told, by-lean) depth 9, search framing depth 8))
     (λ c κs. search needs)
     (λ c. search needs)
     (λ c. search needs)
     (λ c. search needs)
-    (λ c. search (turn-told, by-lean) depth 9)
+    (λ c. (search (turn-told, by-lean) depth 9, search framing depth 8))
     (λ c κs. search needs)
     (λ c. search needs)
     (λ c. search needs)
     (λ c. search needs)
-    (λ c. search (turn-told, by-lean) depth 9)
+    (λ c. (search (turn-told, by-lean) depth 9, search framing depth 8))
     (λ c κs. search needs)
     (λ c. search needs)
     (λ c κs. search needs)
@@ -36,10 +37,10 @@ balance-spec =
     (λ c. search needs)
     (λ c. search needs)
     (λ c. search needs)
-    (λ c. search (turn-told, by-lean) depth 9)
+    (λ c. (search (turn-told, by-lean) depth 9, search framing depth 8))
     (λ c. search needs)
-    (λ c. search (turn-told, by-lean) depth 9)
+    (λ c. (search (turn-told, by-lean) depth 9, search framing depth 8))
     (λ c. search needs)
-    (λ c. search (turn-told, by-lean) depth 9)
+    (λ c. (search (turn-told, by-lean) depth 9, search framing depth 8))
     (λ c. search needs)
-    (λ c. search (turn-told, by-lean) depth 9))
+    (λ c. (search (turn-told, by-lean) depth 9, search framing depth 8)))

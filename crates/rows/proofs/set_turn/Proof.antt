@@ -1,6 +1,7 @@
 -- Inside the table one row is replaced by itself with one part changed, outside nothing is.
 use Rattle.rows.specs.AnswersLaws.{change-told}
 use Rattle.rows.specs.RowTableLaws.{set-turn-inside, set-turn-outside}
+use Rattle.rows.specs.Frame.{framing}
 use borrow.Author.Needs.{needs}
 use Rattle.rows.proofs.set_turn.Statement.{statement}
 use Rattle.rows.proofs.set_turn.Tie as tie
@@ -15,5 +16,5 @@ set-turn-spec =
     (λ c. search needs)
     (λ c. search needs)
     (λ c. search needs)
-    (λ c. search (change-told, set-turn-inside, set-turn-outside) depth 8)
-    (λ c. search (change-told, set-turn-inside, set-turn-outside) depth 8))
+    (λ c. (search (change-told, set-turn-inside, set-turn-outside) depth 8, search framing depth 8))
+    (λ c. (search (change-told, set-turn-inside, set-turn-outside) depth 8, search framing depth 8)))

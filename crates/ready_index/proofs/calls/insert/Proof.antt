@@ -2,6 +2,7 @@
 use Rattle.rows.specs.AskedLaws.{granted, turned-away}
 use Rattle.ready_index.specs.CallsLaws.{rooted-handed}
 use Rattle.ready_index.specs.Calls.{insertCall}
+use Rattle.rows.specs.Frame.{framing}
 use borrow.Author.Needs.{needs}
 use Rattle.ready_index.proofs.calls.insert.Statement.{statement}
 use Rattle.ready_index.proofs.calls.insert.Tie as tie
@@ -17,6 +18,6 @@ insert-spec =
     (λ c κs. search needs)
     (λ c. search needs)
     (λ c. search needs)
-    (λ c. search (granted, turned-away, rooted-handed) depth 8)
+    (λ c. (search (granted, turned-away, rooted-handed) depth 8, search framing depth 8))
     (λ c. search needs)
-    (λ c. search (granted, turned-away, rooted-handed) depth 8))
+    (λ c. (search (granted, turned-away, rooted-handed) depth 8, search framing depth 8)))

@@ -2,6 +2,7 @@
 use Rattle.refusal.specs.Cases.{cases}
 use Rattle.lists.specs.ListsLaws.{row-inside, row-outside}
 use Rattle.selection.specs.Steps.{headRefreshed}
+use Rattle.rows.specs.Frame.{framing}
 use borrow.Author.Needs.{needs}
 use Rattle.selection.proofs.choosing.head_at.Statement.{statement}
 use Rattle.selection.proofs.choosing.head_at.Tie as tie
@@ -14,8 +15,8 @@ head-at-spec =
     (λ c. search needs)
     (λ c. search needs)
     (λ c κs. search needs)
-    (λ c. search (cases, row-inside, row-outside) depth 8)
+    (λ c. (search (cases, row-inside, row-outside) depth 8, search framing depth 8))
     (λ c κs. search needs)
     (λ c. search needs)
-    (λ c. search (cases, row-inside, row-outside) depth 8)
-    (λ c. search (cases, row-inside, row-outside) depth 8))
+    (λ c. (search (cases, row-inside, row-outside) depth 8, search framing depth 8))
+    (λ c. (search (cases, row-inside, row-outside) depth 8, search framing depth 8)))
