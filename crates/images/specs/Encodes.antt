@@ -8,6 +8,7 @@ use Rattle.refusal.specs.Cases.{choose, ifLess, ifEqual}
 use Rattle.policy_words.specs.PolicyWords.{policyTag, fifoPriority, bandWord, roleTag, weightWord, backendTag}
 use Rattle.policy_words.specs.PolicyWords.{budgetTag, budgetWord, budgetPeriod, budgetBurst}
 use Rattle.policy_words.specs.PolicyWords.{runtimeTag, runtimeFirst, runtimeSecond, runtimeThird, runtimeFourth}
+pub use Rattle.policy_words.specs.Encodes.{both}
 unfoldable pub use Rattle.codec.specs.Frame.{zeros, optionEncodes, runtimeEncodes, membershipEncodes}
 use Rattle.codec.specs.Codec.{word, leftTag, leftWord, rightTag, rightWord, heightWord}
 use Rattle.codec.specs.Codec.{previousTag, previousWord, nextTag, nextWord}
@@ -21,10 +22,6 @@ firstSpare = 30
 
 abbrev pub secondSpare : ℕ
 secondSpare = 31
-
--- Both, the second asked only where the first holds.
-abbrev pub both : Bool → Bool → Bool
-both a b = choose a b false
 
 unfoldable pub policyEncodes : ℕ → ℕ → Bool
 policyEncodes tag priority = ifEqual tag 0 (ltb priority 256) (ifLess tag 4 (eqb priority 0) false)
