@@ -4,6 +4,7 @@ ghost use mathlib.Core.Path.{_≡_};
 ghost use Rattle.codec.specs.Codec.{linkFrom, membershipFrom};
 ghost use Rattle.rows.specs.Asked.{answering};
 ghost use Rattle.rows.specs.Table.{table, out};
+ghost use Rattle.rows.specs.Frame.{Framed};
 ghost use Rattle.lists.specs.Answers.{listed};
 ghost use Rattle.lists.specs.Calls as lists;
 ghost use Rattle.ready_index.specs.Answers.{treeLeast, treeContains, treeRoot};
@@ -118,6 +119,7 @@ pub extern "C" fn rows_list_push(
     ensures { λ r. ⌜ out r (table (now (t .exit)))
         ≡ answering listWords (lists.pushCall (table (now (t .entry)))
         (listFrom «head_some» head «tail_some» tail len) id (membershipFrom tag first second)) ⌝ }
+    ensures { λ r. ⌜ Framed (now (t .entry)) (now (t .exit)) ⌝ }
 {
     let list = list_of(head_some, head, tail_some, tail, len);
     let membership = membership_from(tag, first, second);
@@ -141,6 +143,7 @@ pub extern "C" fn rows_list_push_front(
     ensures { λ r. ⌜ out r (table (now (t .exit)))
         ≡ answering listWords (lists.pushFrontCall (table (now (t .entry)))
         (listFrom «head_some» head «tail_some» tail len) id (membershipFrom tag first second)) ⌝ }
+    ensures { λ r. ⌜ Framed (now (t .entry)) (now (t .exit)) ⌝ }
 {
     let list = list_of(head_some, head, tail_some, tail, len);
     let membership = membership_from(tag, first, second);
@@ -164,6 +167,7 @@ pub extern "C" fn rows_list_remove(
     ensures { λ r. ⌜ out r (table (now (t .exit)))
         ≡ answering listWords (lists.removeCall (table (now (t .entry)))
         (listFrom «head_some» head «tail_some» tail len) id (membershipFrom tag first second)) ⌝ }
+    ensures { λ r. ⌜ Framed (now (t .entry)) (now (t .exit)) ⌝ }
 {
     let list = list_of(head_some, head, tail_some, tail, len);
     let membership = membership_from(tag, first, second);
@@ -252,6 +256,7 @@ pub extern "C" fn rows_index_insert(
 ) -> IndexAnswer
     ensures { λ r. ⌜ out r (table (now (t .exit)))
         ≡ answering indexWords (index.insertCall (table (now (t .entry))) (linkFrom some number) id) ⌝ }
+    ensures { λ r. ⌜ Framed (now (t .entry)) (now (t .exit)) ⌝ }
 {
     let root = link_from(some, number);
     root_words(insert(t, path, root, id))
@@ -268,6 +273,7 @@ pub extern "C" fn rows_index_remove(
 ) -> IndexAnswer
     ensures { λ r. ⌜ out r (table (now (t .exit)))
         ≡ answering indexWords (index.removeCall (table (now (t .entry))) (linkFrom some number) id) ⌝ }
+    ensures { λ r. ⌜ Framed (now (t .entry)) (now (t .exit)) ⌝ }
 {
     let root = link_from(some, number);
     root_words(ready_index::remove(t, path, root, id))

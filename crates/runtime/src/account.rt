@@ -12,6 +12,7 @@ ghost use Rattle.thread.specs.Judgement.{isBadRecord};
 ghost use Rattle.thread.specs.Records.{withRuntime};
 ghost use Rattle.policy_words.specs.PolicyWords.{word, runtimeTag};
 ghost use Rattle.codec.specs.Codec.{decoded};
+ghost use Rattle.codec.specs.Frame.{RowFramed};
 ghost use Rattle.window_words.specs.WindowWords as words;
 ghost use Rattle.rows.specs.Table.{table, out};
 ghost use Rattle.arbitration.specs.Answers.{verdictOf, windowStep};
@@ -21,6 +22,7 @@ ghost use Rattle.runtime.specs.Account.{expired};
 ghost use Rattle.runtime.specs.Rows.{wholeBurst, chargedRow, accountedRow, accountAt, finishedRow, candidateRow};
 ghost use Rattle.runtime.specs.Rows.{refreshedRow, candidateAt};
 ghost use Rattle.rows.specs.Unmoved.{Unmoved};
+ghost use Rattle.rows.specs.Frame.{Framed};
 ghost use Rattle.runtime.specs.Answers.{expiredAnswer};
 use crate::ExpiredAnswer;
 use crate::judging::budget_parameters;
@@ -68,6 +70,7 @@ fn charge_at(t: &mut [Row], id: u64, start: u64, end: u64)
     ensures { λ r. ⌜ table (now (t .exit))
         ≡ chargedRow (table (now (t .entry))) id (getD (now (t .entry)) id []) start end ⌝ }
     ensures { λ r. ⌜ (end < start → now (t .exit) ≡ now (t .entry)) ⌝ }
+    ensures { λ r. ⌜ Framed (now (t .entry)) (now (t .exit)) ⌝ }
 {
     let k = id as usize;
     if t[k][RUNTIME_TAG] == 2 {
@@ -93,6 +96,7 @@ fn account_row(
     ensures { λ r. ⌜ out (windowStep r) (table (now (t .exit))) ≡ accountedRow (table (now (t .entry))) id
         (getD (now (t .entry)) id []) window mode start end ⌝ }
     ensures { λ r. ⌜ Unmoved (verdictOf (r .answer)) (now (t .entry)) (now (t .exit)) ⌝ }
+    ensures { λ r. ⌜ Framed (now (t .entry)) (now (t .exit)) ⌝ }
 {
     let k = id as usize;
     let row = t[k];
@@ -114,6 +118,7 @@ fn account_at(
     ensures { λ r. ⌜ out (windowStep r) (table (now (t .exit)))
         ≡ accountAt (table (now (t .entry))) id window mode start end ⌝ }
     ensures { λ r. ⌜ Unmoved (verdictOf (r .answer)) (now (t .entry)) (now (t .exit)) ⌝ }
+    ensures { λ r. ⌜ Framed (now (t .entry)) (now (t .exit)) ⌝ }
 {
     let k = id as usize;
     if k < t.len() {
@@ -143,6 +148,7 @@ pub fn account_current(
     ensures { λ r. ⌜ out (windowStep r) (table (now (t .exit))) ≡ accountCurrent (table (now (t .entry)))
         (id .0) window mode start end ⌝ }
     ensures { λ r. ⌜ Unmoved (verdictOf (r .answer)) (now (t .entry)) (now (t .exit)) ⌝ }
+    ensures { λ r. ⌜ Framed (now (t .entry)) (now (t .exit)) ⌝ }
 {
     let config = window.config;
     if MAX_RECORDS < t.len() {
@@ -164,6 +170,7 @@ pub fn account_current(
 fn with_burst(w: Row) -> Row
     requires { ⌜ word w runtimeTag ≡ 2 ⌝ }
     ensures { λ r. ⌜ decoded r ≡ withRuntime (Budget (wholeBurst w)) (decoded w) ⌝ }
+    ensures { λ r. ⌜ RowFramed w r ⌝ }
 {
     let mut row = w;
     row[RUNTIME_FOURTH] = w[BUDGET_BURST];
@@ -175,6 +182,7 @@ fn finish_at(t: &mut [Row], id: u64)
     requires { ⌜ id < length (now t) ⌝ }
     requires { ⌜ isBadRecord (decoded (getD (now t) id [])) ≡ false ⌝ }
     ensures { λ r. ⌜ table (now (t .exit)) ≡ finishedRow (table (now (t .entry))) id (getD (now (t .entry)) id []) ⌝ }
+    ensures { λ r. ⌜ Framed (now (t .entry)) (now (t .exit)) ⌝ }
 {
     let k = id as usize;
     if t[k][RUNTIME_TAG] == 2 {
@@ -187,6 +195,7 @@ fn finish_at(t: &mut [Row], id: u64)
 pub fn finish_turn(t: &mut [Row], id: ThreadId) -> Verdict
     ensures { λ r. ⌜ out (verdictOf r) (table (now (t .exit))) ≡ finishTurn (table (now (t .entry))) (id .0) ⌝ }
     ensures { λ r. ⌜ Unmoved (verdictOf r) (now (t .entry)) (now (t .exit)) ⌝ }
+    ensures { λ r. ⌜ Framed (now (t .entry)) (now (t .exit)) ⌝ }
 {
     let k = id.0 as usize;
     if MAX_RECORDS < t.len() {
@@ -245,6 +254,7 @@ pub fn refresh_at(t: &mut [Row], id: u64, reading: u64) -> bool
     requires { ⌜ id < length (now t) ⌝ }
     ensures { λ r. ⌜ out r (table (now (t .exit))) ≡ refreshedRow (table (now (t .entry))) id
         (getD (now (t .entry)) id []) reading ⌝ }
+    ensures { λ r. ⌜ Framed (now (t .entry)) (now (t .exit)) ⌝ }
 {
     let k = id as usize;
     if t[k][RUNTIME_TAG] == 2 {
@@ -276,6 +286,7 @@ fn candidate_at(t: &mut [Row], id: u64, running: bool, reading: u64, current: &m
     ensures { λ r. ⌜ Unmoved (verdictOf r) (now (t .entry)) (now (t .exit)) ⌝ }
     ensures { λ r. ⌜ Unmoved (verdictOf r) (now (current .entry)) (now (current .exit)) ⌝ }
     ensures { λ r. ⌜ (running ≡ false → now (current .exit) ≡ now (current .entry)) ⌝ }
+    ensures { λ r. ⌜ Framed (now (t .entry)) (now (t .exit)) ⌝ }
 {
     let k = id as usize;
     if k < t.len() {
@@ -308,6 +319,7 @@ pub fn current_candidate(
     ensures { λ r. ⌜ Unmoved (verdictOf r) (now (t .entry)) (now (t .exit)) ⌝ }
     ensures { λ r. ⌜ Unmoved (verdictOf r) (now (current .entry)) (now (current .exit)) ⌝ }
     ensures { λ r. ⌜ (running ≡ false → now (current .exit) ≡ now (current .entry)) ⌝ }
+    ensures { λ r. ⌜ Framed (now (t .entry)) (now (t .exit)) ⌝ }
 {
     if MAX_RECORDS < t.len() {
         return Verdict::Refused(Refusal::BadTable);

@@ -13,6 +13,7 @@ ghost use Rattle.runtime.specs.Deadline.{refreshDeadline};
 ghost use Rattle.runtime.specs.Rows.{sliceEnd, refreshedEnd, budgetEnd, ownEnd, earlierOf, dueRow, keylessDue};
 ghost use Rattle.runtime.specs.Rows.{deadlineAt};
 ghost use Rattle.rows.specs.Unmoved.{Unmoved};
+ghost use Rattle.rows.specs.Frame.{Framed};
 use crate::judging::budget_parameters;
 use crate::judging::budget_runtime;
 use crate::judging::is_bad_at;
@@ -56,6 +57,7 @@ fn slice_end(row: Row, reading: u64, competition: bool, ready: bool) -> Deadline
 // A budget's own deadline, for which it is refreshed.
 fn refreshed_end(t: &mut [Row], id: u64, row: Row, reading: u64, mode: DispatchMode) -> Deadline
     ensures { λ r. ⌜ out r (table (now (t .exit))) ≡ refreshedEnd (table (now (t .entry))) id row reading mode ⌝ }
+    ensures { λ r. ⌜ Framed (now (t .entry)) (now (t .exit)) ⌝ }
 {
     let runtime = budget_runtime(row);
     let parameters = budget_parameters(row);
@@ -82,6 +84,7 @@ fn budget_end(
 ) -> Deadline
     ensures { λ r. ⌜ out r (table (now (t .exit)))
         ≡ budgetEnd (table (now (t .entry))) id row reading mode competition «budget_peer» ⌝ }
+    ensures { λ r. ⌜ Framed (now (t .entry)) (now (t .exit)) ⌝ }
 {
     if !competition {
         return Deadline::None;
@@ -104,6 +107,7 @@ fn own_end(
     requires { ⌜ id < length (now t) ⌝ }
     ensures { λ r. ⌜ out r (table (now (t .exit)))
         ≡ ownEnd (table (now (t .entry))) id (getD (now (t .entry)) id []) reading mode contention ⌝ }
+    ensures { λ r. ⌜ Framed (now (t .entry)) (now (t .exit)) ⌝ }
 {
     let k = id as usize;
     if t[k][RUNTIME_TAG] == 2 {
@@ -151,6 +155,7 @@ fn due_with(
     ensures { λ r. ⌜ out (windowDeadline r) (table (now (t .exit)))
         ≡ dueRow (table (now (t .entry))) id (getD (now (t .entry)) id []) reading mode window contention ⌝ }
     ensures { λ r. ⌜ Unmoved (deadlineAnswer (r .answer)) (now (t .entry)) (now (t .exit)) ⌝ }
+    ensures { λ r. ⌜ Framed (now (t .entry)) (now (t .exit)) ⌝ }
 {
     let demand = contention.demand;
     let own = own_end(t, id, reading, mode, contention);
@@ -187,6 +192,7 @@ fn due_at(
     ensures { λ r. ⌜ out (windowDeadline r) (table (now (t .exit)))
         ≡ deadlineAt (table (now (t .entry))) id reading mode window contention ⌝ }
     ensures { λ r. ⌜ Unmoved (deadlineAnswer (r .answer)) (now (t .entry)) (now (t .exit)) ⌝ }
+    ensures { λ r. ⌜ Framed (now (t .entry)) (now (t .exit)) ⌝ }
 {
     let k = id as usize;
     if k < t.len() {
@@ -223,6 +229,7 @@ pub fn refresh_deadline(
     ensures { λ r. ⌜ out (windowDeadline r) (table (now (t .exit))) ≡ refreshDeadline (table (now (t .entry)))
         (id .0) reading mode window contention ⌝ }
     ensures { λ r. ⌜ Unmoved (deadlineAnswer (r .answer)) (now (t .entry)) (now (t .exit)) ⌝ }
+    ensures { λ r. ⌜ Framed (now (t .entry)) (now (t .exit)) ⌝ }
 {
     let config = window.config;
     if MAX_RECORDS < t.len() {

@@ -11,6 +11,7 @@ ghost use Rattle.budget.specs.Answers.{budgetAnswer};
 ghost use Rattle.queue.specs.RowJudgement.{budgetRuntime, budgetParameters};
 ghost use Rattle.runtime.specs.Rows.{badBudget, budgetStored};
 ghost use Rattle.rows.specs.Unmoved.{Unmoved};
+ghost use Rattle.rows.specs.Frame.{Framed};
 use algorithms::PolicyRuntime;
 use budget::BudgetAnswer;
 use budget::BudgetRuntime;
@@ -95,6 +96,7 @@ pub fn budget_parameters(w: Row) -> BudgetParameters
 pub fn store_budget(t: &mut [Row], id: u64, answer: BudgetAnswer)
     ensures { λ r. ⌜ table (now (t .exit)) ≡ budgetStored (table (now (t .entry))) id (budgetAnswer answer) ⌝ }
     ensures { λ r. ⌜ Unmoved (budgetAnswer answer) (now (t .entry)) (now (t .exit)) ⌝ }
+    ensures { λ r. ⌜ Framed (now (t .entry)) (now (t .exit)) ⌝ }
 {
     match answer {
         BudgetAnswer::Refused(_) => {}

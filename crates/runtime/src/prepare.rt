@@ -8,6 +8,7 @@ ghost use Rattle.runtime.specs.Prepare.{prepareEnqueue};
 ghost use Rattle.runtime.specs.Rows.{preparedRow, rowPrepared};
 ghost use Rattle.arbitration.specs.Answers.{verdictOf};
 ghost use Rattle.rows.specs.Unmoved.{Unmoved};
+ghost use Rattle.rows.specs.Frame.{Framed};
 ghost use Rattle.runtime.specs.Answers.{preparedAnswer};
 use crate::Prepared;
 use crate::account::refresh_at;
@@ -32,6 +33,7 @@ fn store_prepared(t: &mut [Row], id: u64, reading: u64, turn: u64)
     requires { ⌜ id < length (now t) ⌝ }
     ensures { λ r. ⌜ table (now (t .exit)) ≡ preparedRow (table (now (t .entry))) id
         (getD (now (t .entry)) id []) reading turn ⌝ }
+    ensures { λ r. ⌜ Framed (now (t .entry)) (now (t .exit)) ⌝ }
 {
     refresh_at(t, id, reading);
     set_turn(t, id, turn);
@@ -43,6 +45,7 @@ fn prepare_row(t: &mut [Row], id: u64, front: bool, reading: u64, turns: Turns) 
     ensures { λ r. ⌜ out (preparedAnswer r) (table (now (t .exit))) ≡ rowPrepared (table (now (t .entry))) id
         (getD (now (t .entry)) id []) front reading turns ⌝ }
     ensures { λ r. ⌜ Unmoved (verdictOf (r .answer)) (now (t .entry)) (now (t .exit)) ⌝ }
+    ensures { λ r. ⌜ Framed (now (t .entry)) (now (t .exit)) ⌝ }
 {
     let k = id as usize;
     let row = t[k];
@@ -84,6 +87,7 @@ pub fn prepare_enqueue(
     ensures { λ r. ⌜ out (preparedAnswer r) (table (now (t .exit))) ≡ prepareEnqueue (table (now (t .entry)))
         (id .0) front reading turns ⌝ }
     ensures { λ r. ⌜ Unmoved (verdictOf (r .answer)) (now (t .entry)) (now (t .exit)) ⌝ }
+    ensures { λ r. ⌜ Framed (now (t .entry)) (now (t .exit)) ⌝ }
 {
     let k = id.0 as usize;
     if MAX_RECORDS < t.len() {

@@ -1,5 +1,6 @@
 -- One law for each way through the judgement.
 use Rattle.runtime.specs.RuntimeLaws.{ways}
+use Rattle.rows.specs.Frame.{framing}
 use borrow.Author.Needs.{needs}
 use Rattle.runtime.proofs.account.account_at.Statement.{statement}
 use Rattle.runtime.proofs.account.account_at.Tie as tie
@@ -10,8 +11,8 @@ account-at-spec =
     (tie.spec
     (λ c κs. search needs)
     (λ c. search needs)
-    (λ c. search ways depth 8)
+    (λ c. (search ways depth 8, (search ways depth 8, search framing depth 8)))
     (λ c κs. search needs)
     (λ c. search needs)
-    (λ c. search ways depth 8)
-    (λ c. search ways depth 8))
+    (λ c. (search ways depth 8, (search ways depth 8, search framing depth 8)))
+    (λ c. (search ways depth 8, (search ways depth 8, search framing depth 8))))
