@@ -3,6 +3,7 @@ ghost use mathlib.Core.Path.{_≡_};
 ghost use mathlib.Core.Bool.{false};
 ghost use Rattle.codec.specs.Codec.{parametersOf};
 ghost use Rattle.rows.specs.Table.{table};
+ghost use Rattle.rows.specs.Frame.{Framed};
 ghost use Rattle.arbitration.specs.Answers.{verdictOf};
 ghost use Rattle.policy_words.specs.PolicyWords.{deadlineOf};
 ghost use Rattle.window_words.specs.WindowWords.{flagFrom, modeFrom, windowOf, demandOf, candidateOf, keyOptionOf};
@@ -74,6 +75,7 @@ pub extern "C" fn board_prepare(
         (prepareEnqueue (table (now (t .entry))) id (flagFrom front) «now_ns» (turnsOf (now (turns .entry)))) ⌝ }
     ensures { λ r. ⌜ Stays r (now (t .entry)) (now (t .exit)) ⌝ }
     ensures { λ r. ⌜ Stays r (now (turns .entry)) (now (turns .exit)) ⌝ }
+    ensures { λ r. ⌜ Framed (now (t .entry)) (now (t .exit)) ⌝ }
 {
     let before = turns_of(*turns);
     let prepared = prepare_enqueue(t, ThreadId(id), flag_from(front), now_ns, before);
@@ -103,6 +105,7 @@ pub extern "C" fn board_account(
         (accountCurrent (table (now (t .entry))) id (windowOf (now (window .entry))) (modeFrom mode) start end) ⌝ }
     ensures { λ r. ⌜ Stays r (now (t .entry)) (now (t .exit)) ⌝ }
     ensures { λ r. ⌜ Stays r (now (window .entry)) (now (window .exit)) ⌝ }
+    ensures { λ r. ⌜ Framed (now (t .entry)) (now (t .exit)) ⌝ }
 {
     let before = window_of(*window);
     let its_mode = mode_from(mode);
@@ -133,6 +136,7 @@ pub extern "C" fn board_candidate(
     ensures { λ r. ⌜ Stays r (now (t .entry)) (now (t .exit)) ⌝ }
     ensures { λ r. ⌜ Stays r (now (current .entry)) (now (current .exit)) ⌝ }
     ensures { λ r. ⌜ (flagFrom running ≡ false → now (current .exit) ≡ now (current .entry)) ⌝ }
+    ensures { λ r. ⌜ Framed (now (t .entry)) (now (t .exit)) ⌝ }
 {
     number_of(current_candidate(t, ThreadId(id), flag_from(running), now_ns, current))
 }
@@ -167,6 +171,7 @@ pub extern "C" fn board_expired(t: &[Row], id: u64, answer: &mut FlagWord) -> u6
 pub extern "C" fn board_finish(t: &mut [Row], id: u64) -> u64
     ensures { λ r. ⌜ left r (table (now (t .exit))) ≡ finishLeft (finishTurn (table (now (t .entry))) id) ⌝ }
     ensures { λ r. ⌜ Stays r (now (t .entry)) (now (t .exit)) ⌝ }
+    ensures { λ r. ⌜ Framed (now (t .entry)) (now (t .exit)) ⌝ }
 {
     number_of(finish_turn(t, ThreadId(id)))
 }
@@ -218,6 +223,7 @@ fn arm(
     ensures { λ r. ⌜ Stays r (now (t .entry)) (now (t .exit)) ⌝ }
     ensures { λ r. ⌜ Stays r (now (window .entry)) (now (window .exit)) ⌝ }
     ensures { λ r. ⌜ Stays r (now (answer .entry)) (now (answer .exit)) ⌝ }
+    ensures { λ r. ⌜ Framed (now (t .entry)) (now (t .exit)) ⌝ }
 {
     let before = window_of(*window);
     let step = refresh_deadline(t, ThreadId(id), now_ns, mode, before, others);
@@ -256,6 +262,7 @@ pub extern "C" fn board_deadline(
     ensures { λ r. ⌜ Stays r (now (t .entry)) (now (t .exit)) ⌝ }
     ensures { λ r. ⌜ Stays r (now (window .entry)) (now (window .exit)) ⌝ }
     ensures { λ r. ⌜ Stays r (now (answer .entry)) (now (answer .exit)) ⌝ }
+    ensures { λ r. ⌜ Framed (now (t .entry)) (now (t .exit)) ⌝ }
 {
     let mode = mode_of(key_option_of(*key));
     let others = contention_of(competition, budget_peer, ready, *demand);

@@ -7,6 +7,7 @@ ghost use Rattle.lent_selection.specs.Early.{Early};
 ghost use Rattle.board_words.specs.BoardWords.{selectionFrom};
 ghost use Rattle.board.specs.Board.{left, Stays, answered, Selects};
 ghost use Rattle.board.specs.Progress.{windowLeft};
+ghost use Rattle.rows.specs.Frame.{Framed};
 use arbitration::CpuWindow;
 use board_words::SelectionWords;
 use board_words::current_of;
@@ -68,6 +69,7 @@ pub extern "C" fn board_select(
         → now (q .exit) ≡ now (q .entry)) ⌝ }
     ensures { λ r. ⌜ (Early (now (t .entry)) (windowOf (now (window .entry))) (queueOf (now (q .entry)))
         → now (t .exit) ≡ now (t .entry)) ⌝ }
+    ensures { λ r. ⌜ Framed (now (t .entry)) (now (t .exit)) ⌝ }
 {
     // In this order, and with the answer stored first, the compiler holds fewer words over the walk.
     let its_current = current_of(running, *current);

@@ -7,6 +7,7 @@ mod tree_roots;
 ghost use mathlib.Core.Bool.{true, false};
 ghost use mathlib.Core.Path.{_≡_};
 ghost use Rattle.rows.specs.Table.{table, out};
+ghost use Rattle.rows.specs.Frame.{Framed};
 ghost use Rattle.queue.specs.Queue as calls;
 ghost use Rattle.lent_queue.specs.LentQueue.{haltedFrom, queueOf};
 ghost use Rattle.selection.specs.Peek.{peekNext};
@@ -137,6 +138,7 @@ fn insert(
 ) -> QueueStep
     ensures { λ r. ⌜ out (stepOf r) (table (now (t .exit))) ≡ calls.enqueueCall front (table (now (t .entry)))
         (valueOf queue) (id .0) cpu ⌝ }
+    ensures { λ r. ⌜ Framed (now (t .entry)) (now (t .exit)) ⌝ }
 {
     let mut q: QueueRows = [[0; QUEUE_ROW_WORDS]; QUEUE_ROWS];
     store(&mut q, queue);
@@ -191,6 +193,7 @@ impl CpuRunQueue {
     pub fn enqueue(self, t: &mut [Row], path: &mut Path, id: ThreadId, cpu: CpuIndex) -> QueueStep
         ensures { λ r. ⌜ out (stepOf r) (table (now (t .exit))) ≡ calls.enqueueCall false (table (now (t .entry)))
             (valueOf self) (id .0) cpu ⌝ }
+        ensures { λ r. ⌜ Framed (now (t .entry)) (now (t .exit)) ⌝ }
     {
         insert(self, t, path, id, cpu, false)
     }
@@ -205,6 +208,7 @@ impl CpuRunQueue {
     ) -> QueueStep
         ensures { λ r. ⌜ out (stepOf r) (table (now (t .exit))) ≡ calls.enqueueCall true (table (now (t .entry)))
             (valueOf self) (id .0) cpu ⌝ }
+        ensures { λ r. ⌜ Framed (now (t .entry)) (now (t .exit)) ⌝ }
     {
         insert(self, t, path, id, cpu, true)
     }
@@ -213,6 +217,7 @@ impl CpuRunQueue {
     pub fn remove(self, t: &mut [Row], path: &mut Path, id: ThreadId, cpu: CpuIndex) -> QueueStep
         ensures { λ r. ⌜ out (stepOf r) (table (now (t .exit))) ≡ calls.removeCall (table (now (t .entry)))
             (valueOf self) (id .0) cpu ⌝ }
+        ensures { λ r. ⌜ Framed (now (t .entry)) (now (t .exit)) ⌝ }
     {
         let mut q: QueueRows = [[0; QUEUE_ROW_WORDS]; QUEUE_ROWS];
         store(&mut q, self);
@@ -237,6 +242,7 @@ impl CpuRunQueue {
     ) -> SelectionStep
         ensures { λ r. ⌜ out (selectionOf r) (table (now (t .exit)))
             ≡ peekNext (table (now (t .entry))) (valueOf self) cpu reading window current ⌝ }
+        ensures { λ r. ⌜ Framed (now (t .entry)) (now (t .exit)) ⌝ }
     {
         let mut q: QueueRows = [[0; QUEUE_ROW_WORDS]; QUEUE_ROWS];
         store(&mut q, self);

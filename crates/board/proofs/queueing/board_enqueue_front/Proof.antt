@@ -1,6 +1,7 @@
 -- The call answers by its own contract, and the answer goes into a number.
 use Rattle.board.specs.BoardLaws.{board-laws}
 use Rattle.board.specs.KeepingLaws.{keeping}
+use Rattle.rows.specs.Frame.{framing}
 use borrow.Author.Needs.{needs}
 use Rattle.board.proofs.queueing.board_enqueue_front.Statement.{statement}
 use Rattle.board.proofs.queueing.board_enqueue_front.Tie as tie
@@ -12,4 +13,7 @@ board-enqueue-front-spec =
     (λ c κs. search needs)
     (λ c κs. search needs)
     (λ c. search needs)
-    (λ c. (search board-laws depth 8, (search keeping, (search keeping, (search keeping, search keeping))))))
+    (λ c. (
+      search board-laws depth 8,
+      (search keeping, (search keeping, (search keeping, (search keeping, search framing depth 8)))),
+    )))

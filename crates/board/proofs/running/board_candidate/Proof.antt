@@ -1,6 +1,7 @@
 -- The call answers by its own contract, and the answer goes into a number.
 use Rattle.board.specs.BoardLaws.{board-laws}
 use Rattle.board.specs.KeepingLaws.{keeping, flag-keeps}
+use Rattle.rows.specs.Frame.{framing}
 use borrow.Author.Needs.{needs}
 use Rattle.board.proofs.running.board_candidate.Statement.{statement}
 use Rattle.board.proofs.running.board_candidate.Tie as tie
@@ -17,6 +18,12 @@ board-candidate-spec =
       search board-laws depth 8,
       (
         search keeping,
-        (search keeping, flag-keeps (c .before .before .current-candidate .ensures .1 .1 .1) (search needs)),
+        (
+          search keeping,
+          (
+            flag-keeps (c .before .before .current-candidate .ensures .1 .1 .1 .0) (search needs),
+            search framing depth 8,
+          ),
+        ),
       ),
     )))

@@ -1,6 +1,7 @@
 -- The call answers by its own contract, and the answer goes into a number.
 use Rattle.board.specs.BoardLaws.{board-laws}
 use Rattle.board.specs.KeepingLaws.{keeping}
+use Rattle.rows.specs.Frame.{framing}
 use borrow.Author.Needs.{needs}
 use Rattle.board.proofs.running.board_finish.Statement.{statement}
 use Rattle.board.proofs.running.board_finish.Tie as tie
@@ -12,4 +13,4 @@ board-finish-spec =
     (λ c κs. search needs)
     (λ c κs. search needs)
     (λ c. search needs)
-    (λ c. (search board-laws depth 8, search keeping)))
+    (λ c. (search board-laws depth 8, (search keeping, search framing depth 8))))

@@ -1,6 +1,7 @@
 -- The words stand for the arguments, the call answers by its own contract, and what it left is stored.
 use Rattle.board.specs.BoardLaws.{board-laws}
 use Rattle.board.specs.KeepingLaws.{keeping}
+use Rattle.rows.specs.Frame.{framing}
 use borrow.Author.Needs.{needs}
 use Rattle.board.proofs.running.board_prepare.Statement.{statement}
 use Rattle.board.proofs.running.board_prepare.Tie as tie
@@ -17,6 +18,6 @@ board-prepare-spec =
     (λ c. search needs)
     (λ c κs. search needs)
     (λ c. search needs)
-    (λ c. (search board-laws depth 8, (search keeping, search keeping)))
+    (λ c. (search board-laws depth 8, (search keeping, (search keeping, search framing depth 8))))
     (λ c. search needs)
-    (λ c. (search board-laws depth 8, (search keeping, search keeping))))
+    (λ c. (search board-laws depth 8, (search keeping, (search keeping, search framing depth 8)))))

@@ -1,6 +1,7 @@
 -- The call on what the words stand for, and what it left stored.
 use Rattle.board.specs.BoardLaws.{board-laws}
 use Rattle.board.specs.KeepingLaws.{keeping, early-keeps}
+use Rattle.rows.specs.Frame.{framing}
 use borrow.Author.Needs.{needs}
 use Rattle.board.proofs.selecting.board_select.Statement.{statement}
 use Rattle.board.proofs.selecting.board_select.Tie as tie
@@ -22,7 +23,10 @@ board-select-spec =
           search keeping,
           (
             early-keeps (c .before .before .before .before .before .peek-lent .ensures .1 .0) (search needs),
-            early-keeps (c .before .before .before .before .before .peek-lent .ensures .1 .1) (search needs),
+            (
+              early-keeps (c .before .before .before .before .before .peek-lent .ensures .1 .1 .0) (search needs),
+              search framing depth 8,
+            ),
           ),
         ),
       ),

@@ -1,5 +1,6 @@
 -- The rows that the value was stored to, and read from.
 use Rattle.run_queue.specs.ValueLaws.{calls}
+use Rattle.rows.specs.Frame.{framing}
 use borrow.Author.Needs.{needs}
 use Rattle.run_queue.proofs.CpuRunQueue.peek_next.Statement.{statement}
 use Rattle.run_queue.proofs.CpuRunQueue.peek_next.Tie as tie
@@ -12,4 +13,4 @@ peek-next-spec =
     (λ c κs. search needs)
     (λ c κs. search needs)
     (λ c. search needs)
-    (λ c. search calls depth 8))
+    (λ c. (search calls depth 8, search framing depth 8)))
