@@ -11,7 +11,7 @@ use borrow.Author.Tests.{eqb-true, ltb-true}
 use Rattle.refusal.specs.Cases.{never, choose, ifLess, ifEqual}
 use Rattle.thread.specs.declared.ThreadRecord.{ThreadRecord}
 use Rattle.policy_words.specs.PolicyWords.{runtimeTag, runtimeFirst, runtimeSecond, runtimeThird, runtimeFourth}
-use Rattle.policy_words.specs.PolicyWords.{runtimeOf}
+use Rattle.policy_words.specs.PolicyWords.{policyTag, runtimeOf}
 use Rattle.policy_words.specs.Encodes.{both, zeros, optionEncodes, runtimeEncodes}
 use Rattle.codec.specs.Codec.{word, rowWords, cpuWord, decoded, linksOf, queueLinksOf, readyTurn, leftTag, leftWord}
 use Rattle.codec.specs.Codec.{rightTag, rightWord, heightWord, previousTag, previousWord, nextTag, nextWord}
@@ -30,8 +30,16 @@ use Rattle.sound_rows.specs.Encoding.{partsEncode}
 abbrev pub allWords : List ℕ → List ℕ
 allWords w = wordsFrom w 0 rowWords
 
--- The spare words are as they were.
-pub spare-kept : {w v : List ℕ} → RowFramed w v → (word v 30 ≡ word w 30) × (word v 31 ≡ word w 31)
+-- In every row, whether it encodes or not: the words of the parameters, the processor's and the spare ones are as they
+-- were.
+pub parameters-kept : {w v : List ℕ} → RowFramed w v → wordsFrom v policyTag 11 ≡ wordsFrom w policyTag 11
+parameters-kept f = ap (λ (l : List ℕ). wordsFrom l 0 11) (f .beside)
+
+pub processor-kept : {w v : List ℕ} → RowFramed w v → word v cpuWord ≡ word w cpuWord
+processor-kept f = ap (λ (l : List ℕ). word l 11) (f .beside)
+
+pub spare-kept : {w v : List ℕ} → RowFramed w v
+    → (word v firstSpare ≡ word w firstSpare) × (word v secondSpare ≡ word w secondSpare)
 spare-kept f = (ap (λ (l : List ℕ). word l 12) (f .beside), ap (λ (l : List ℕ). word l 13) (f .beside))
 
 -- A row's test by its parts.
