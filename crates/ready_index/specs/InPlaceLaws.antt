@@ -14,10 +14,12 @@ use Rattle.rows.specs.declared.LinksRead.the-variants as links
 use Rattle.rows.specs.declared.Change.{Change}
 use Rattle.rows.specs.declared.Change.the-variants as change
 use Rattle.rows.specs.Table.{Out, out, after, linksAt, setLinks, setLeft, setRight}
-use Rattle.rows.specs.TableCases.{onLinks, onMade}
+use Rattle.rows.specs.TableCases.{onLinks, onMade, made, not-made}
 use Rattle.rows.specs.TableLaws.{links-got-within, links-set-links-same, set-left-links, set-right-links}
 use Rattle.rows.specs.Answers.{linksAnswer}
 use Rattle.rows.specs.AnswersLaws.{same-links}
+use Rattle.rows.specs.Asked.{answering}
+use Rattle.rotations.specs.Answers.{turnedAnswer}
 use Rattle.rotations.specs.AnswersLaws.{same-turn}
 use Rattle.rotations.specs.declared.Turned.{Turned}
 use Rattle.rotations.specs.declared.Turned.the-variants as turned
@@ -70,4 +72,10 @@ module _ {y : Out Turned} {x : LinksRead} (t : List ThreadRecord) (step : List �
       (rw (set-right-links t (getD step 0 0) (sym (read-as t (getD step 0 0) e) ∙ m) sub) at h)
       ∙ climbed t (stepOf step) sub (sym (read-as t (getD step 0 0) e) ∙ m) (rw (ne-eqb (getD step 1 0) 0 p))
 
-pub ruleset step-up = (up-from-nowhere, up-from-left, up-from-right, same-turn)
+-- What balancing gave, handed on.
+pub handed-up : {r : Turned} {s : List ThreadRecord} (t : List ThreadRecord) (i : ℕ) (left right : Link)
+    → out (turnedAnswer r) s ≡ answering turnedAnswer (balanceBy t i left right) → out r s ≡ balanceBy t i left right
+handed-up {r} {s} t i left right e = same-turn r s (balanceBy t i left right) e
+
+-- Few laws, so that a search for what is not so comes to its end.
+pub ruleset step-up = (up-from-nowhere, up-from-left, up-from-right, made, not-made, handed-up)

@@ -1,6 +1,5 @@
 -- One link is stored, and the node is balanced by the links that it then has.
 use Rattle.rotations.specs.AnswersLaws.{turn-told}
-use Rattle.ready_index.specs.CasesLaws.{answers}
 use Rattle.ready_index.specs.InPlaceLaws.{step-up}
 use Rattle.rows.specs.Frame.{framing}
 use borrow.Author.Needs.{needs}
@@ -16,21 +15,21 @@ rebuild-step-spec =
     (λ c. search needs)
     (λ c. search needs)
     (λ c. search needs)
-    (λ c. (search (turn-told, answers, step-up) depth 9, search framing depth 8))
+    (λ c. (search (turn-told, step-up) depth 8, search framing depth 8))
     (λ c. search needs)
     (λ c κs. search needs)
     (λ c. search needs)
     (λ c. search needs)
     (λ c. search needs)
-    (λ c. (search (turn-told, answers, step-up) depth 9, search framing depth 8))
+    (λ c. (search (turn-told, step-up) depth 8, search framing depth 8))
     (λ c κs. search needs)
     (λ c. search needs)
-    (λ c. (search (turn-told, answers, step-up) depth 9, search framing depth 8))
+    (λ c. (search (turn-told, step-up) depth 8, search framing depth 8))
     (λ c κs. search needs)
     (λ c. search needs)
     (λ c. search needs)
     (λ c. search needs)
-    (λ c. (search (turn-told, answers, step-up) depth 9, search framing depth 8))
+    (λ c. (search (turn-told, step-up) depth 8, search framing depth 8))
     (λ c κs. search needs)
     (λ c. search needs)
-    (λ c. (search (turn-told, answers, step-up) depth 9, search framing depth 8)))
+    (λ c. (search (turn-told, step-up) depth 8, search framing depth 8)))
