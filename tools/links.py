@@ -4,7 +4,8 @@ a definition, a theorem or a function.
 
 Such a link is [`NAME`](../crates/CRATE/FILE#L12): line 12 of that file is where NAME is defined. Without --check the
 numbers are set anew; with it nothing is written, each link that is not true is printed, and the exit status is 0 where
-all are."""
+all are. A definition that a rule of docs/SPECIFICATION.md links to says so: the comment above it ends with the rule's
+number, (SPECIFICATION 8.2); where it does not, that is printed too."""
 import glob
 import os
 import re
@@ -33,6 +34,24 @@ def defined_at(name, lines):
     return None
 
 
+def silent_about_rules():
+    """The definitions that a rule links to and whose comment does not name it, each with the rule."""
+    with open('docs/SPECIFICATION.md') as text:
+        paragraphs = text.read().split('\n\n')
+    found = []
+    for paragraph in paragraphs:
+        rule = re.match(r'(\d+\.\d+) ', paragraph)
+        for name, path, line in LINK.findall(paragraph) if rule else []:
+            with open(os.path.normpath(os.path.join('docs', path))) as source:
+                above = source.read().split('\n')[: int(line or 1) - 1]
+            while above and above[-1].strip().startswith('#['):
+                above.pop()
+            named = re.search(r'SPECIFICATION ([\d., ]*)', above[-1]) if above else None
+            if not named or rule.group(1) not in re.findall(r'\d+\.\d+', named.group(1)):
+                found.append(f'{path}#L{line}: the comment above {name} does not name rule {rule.group(1)}')
+    return found
+
+
 def main():
     check, wrong, count = '--check' in sys.argv[1:], 0, 0
     for page in ['README.md', *sorted(glob.glob('docs/*.md'))]:
@@ -58,6 +77,9 @@ def main():
         if not check and after != before:
             with open(page, 'w') as text:
                 text.write(after)
+    for silent in silent_about_rules():
+        wrong += 1
+        print(silent)
     print(f'links: {count} links, {wrong} not true')
     sys.exit(1 if wrong else 0)
 

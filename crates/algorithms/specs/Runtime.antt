@@ -66,7 +66,7 @@ unfoldable pub sameKind : PolicyRuntime → SchedulingPolicy → Bool
 sameKind r p = eqb (runtimeKind r) (policyKind p)
 
 -- One execution interval closed: only a budget is charged. Policy and runtime of two kinds, or a budget that is
--- missing, are a BadRecord.
+-- missing, are a BadRecord (SPECIFICATION 2.7).
 unfoldable pub accounted : PolicyRuntime → SchedulingParameters → ℕ → ℕ → Answer PolicyRuntime
 accounted r p start end =
     choose (sameKind r (p .policy))
@@ -109,7 +109,7 @@ nextDeadline r now p competition borrow =
     (value (r, deadline.None)))
     (value (r, deadline.None))
 
--- A turn that ends opens a budget's burst again; every other runtime is as it was.
+-- A turn that ends opens a budget's burst again; every other runtime is as it was (SPECIFICATION 2.7).
 unfoldable pub turnFinished : PolicyRuntime → SchedulingParameters → Answer PolicyRuntime
 turnFinished r p =
     onRuntime r (value r) (λ fair. value r)

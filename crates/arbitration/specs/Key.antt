@@ -27,7 +27,7 @@ unfoldable pub exhaustedOf : Candidate → Bool
 exhaustedOf c = onPolicy (c .parameters .policy) (λ priority. false) false (not (c .«budget_available»)) false
 
 -- An exhausted thread has no key while any FIFO or Fair thread, or a Budget thread with time left, asks for the
--- processor.
+-- processor (SPECIFICATION 4.2).
 unfoldable pub shutOut : Bool → Demand → Bool
 shutOut exhausted d = choose exhausted (choose (d .fair) true (d .«eligible_budget»)) false
 
@@ -46,6 +46,7 @@ favoured w p =
     (choose (w .config .«prefer_fair») (onPolicy (p .policy) (λ priority. false) true false false) false))
 
 -- The algorithm's rank, and its key: the priority for FIFO, the pass for Stride, otherwise the turn. None for Idle.
+-- (SPECIFICATION 4.4).
 unfoldable pub algorithmOf : Candidate → AlgorithmOption
 algorithmOf c =
     onPolicy (c .parameters .policy)
@@ -65,7 +66,7 @@ onAlgorithm (algorithm.Some x) a f = f x
 unfoldable pub ordinaryRank : SchedulingPolicy → ArbitrationOrder → ℕ
 ordinaryRank p o = onPolicy p (λ priority. o .«fair_rank») (o .«fair_rank») (o .«budget_rank») (o .«fair_rank»)
 
--- Urgency, rank and mode, of a window that is refreshed to now.
+-- Urgency, rank and mode, of a window that is refreshed to now (SPECIFICATION 4.3).
 unfoldable pub tierOf : CpuWindow → ℕ → SchedulingParameters → Bool → Demand → Tier
 tierOf w now p exhausted d =
     choose (strictFifo p) (record { urgency = 0; rank = 0; mode = mode.StrictFifo })
@@ -77,7 +78,7 @@ tierOf w now p exhausted d =
     (λ rank. record { urgency = 2; rank = rank; mode = mode.Ordinary }))))))
 
 -- The key and mode of a candidate, of a window that is refreshed to now; none for Idle, for a budget of another period,
--- and for an exhausted thread that is shut out.
+-- and for an exhausted thread that is shut out (SPECIFICATION 4.2).
 unfoldable pub keyOf : CpuWindow → ℕ → Candidate → Demand → KeyOption
 keyOf w now c d =
     choose (acceptsBudget (w .config) (c .parameters))

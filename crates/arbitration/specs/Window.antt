@@ -18,7 +18,7 @@ use Rattle.arbitration.specs.declared.DispatchMode.{DispatchMode}
 use Rattle.arbitration.specs.declared.DispatchMode.the-variants as mode
 use Rattle.window_config.specs.Config.{soundConfig}
 
--- A new window: no epoch, allowance and floor whole; or BadConfig.
+-- A new window: no epoch, allowance and floor whole; or BadConfig (SPECIFICATION 3.1).
 unfoldable pub newWindow : ArbitrationConfig → Answer CpuWindow
 newWindow c =
     choose (soundConfig c)
@@ -30,7 +30,7 @@ newWindow c =
     }))
     (refused badConfig)
 
--- Allowance and floor are whole again when the epoch rises; otherwise nothing changes.
+-- Allowance and floor are whole again when the epoch rises; otherwise nothing changes (SPECIFICATION 3.2).
 unfoldable pub refreshed : CpuWindow → ℕ → CpuWindow
 refreshed w now =
     given (now / w .config .«period_ns»)
@@ -62,7 +62,7 @@ unfoldable pub usesAllowance : DispatchMode → SchedulingRole → Bool
 usesAllowance m r = onMode m (isPriority r) true (isPriority r) (isPriority r) (isPriority r)
 
 -- Only the part of the interval in the period that holds its end is charged: to the allowance, and for a protected
--- thread to the floor.
+-- thread to the floor (SPECIFICATION 3.3).
 unfoldable pub charged : CpuWindow → ℕ → ℕ → SchedulingParameters → DispatchMode → CpuWindow
 charged w start end p m =
     record {
@@ -77,7 +77,7 @@ charged w start end p m =
     }
 
 -- Of a refreshed window: the latest start that still gives waiting protected threads their floor, or now where that is
--- past.
+-- past (SPECIFICATION 3.4).
 unfoldable pub protectionDeadline : CpuWindow → ℕ → Bool → Deadline
 protectionDeadline w now waiting =
     choose waiting
@@ -86,7 +86,7 @@ protectionDeadline w now waiting =
     (λ end. given (end - w .«protected_remaining_ns») (λ latest. given (max latest now) deadline.Some))))
     deadline.None
 
--- Due: the protection deadline is now.
+-- Due: the protection deadline is now (SPECIFICATION 3.4).
 unfoldable pub dueAt : CpuWindow → ℕ → Bool → Bool
 dueAt w now waiting = onDeadline (protectionDeadline w now waiting) false (λ t. eqb t now)
 
@@ -95,7 +95,7 @@ unfoldable pub atRenewal : Demand → Deadline → Deadline
 atRenewal d end = choose (d .«any_budget») end (choose (d .«window_sensitive») end deadline.None)
 
 -- Of a refreshed window with competition: the earliest of the period's end, what the mode has left, and the protection
--- deadline.
+-- deadline (SPECIFICATION 10.6).
 unfoldable pub nextDeadline : CpuWindow → ℕ → DispatchMode → Demand → Deadline
 nextDeadline w now m d =
     given (periodEnd now (w .config .«period_ns»))

@@ -34,11 +34,12 @@ abbrev pub numbered : {A : Type 0} → Answer A → ℕ
 numbered (value a) = 0
 numbered (refused n) = n
 
--- A refused call leaves the words as they were, every one.
+-- A refused call leaves the words as they were, every one (SPECIFICATION 11.2).
 abbrev pub Stays : {B : Type 0} → ℕ → B → B → Type 0
 Stays n before after = n ≢ 0 → after ≡ before
 
 -- So does one that is refused with another number than Halted: a first Halted leaves the source's stores up to there.
+-- (SPECIFICATION 11.2).
 abbrev pub Spares : {B : Type 0} → ℕ → B → B → Type 0
 Spares n before after = n ≢ 0 → n ≢ queueHalted → after ≡ before
 

@@ -16,7 +16,7 @@ use Rattle.budget.specs.declared.BudgetRuntime.{BudgetRuntime}
 unfoldable pub judged : {A : Type 0} → BudgetParameters → Answer A → Answer A
 judged p answer = choose (soundBudget p) answer (refused badBudget)
 
--- A new runtime: no epoch, budget and burst whole.
+-- A new runtime: no epoch, budget and burst whole (SPECIFICATION 2.3).
 unfoldable pub made : BudgetParameters → Answer BudgetRuntime
 unfolding judged
 made p =
@@ -26,7 +26,7 @@ made p =
       «burst_remaining_ns» = p .«burst_ns»;
     }))
 
--- Refilled only when the epoch rises; otherwise the lesser of what remains and the budget.
+-- Refilled only when the epoch rises; otherwise the lesser of what remains and the budget (SPECIFICATION 2.4).
 unfoldable pub refreshed : BudgetRuntime → ℕ → BudgetParameters → BudgetRuntime
 refreshed r now p =
     given (now / p .«period_ns»)
@@ -44,6 +44,7 @@ unfolding judged
 refreshedJudged r now p = judged p (given (refreshed r now p) value)
 
 -- The budget is charged only from the start of the period that holds the end, the burst the whole interval.
+-- (SPECIFICATION 2.5).
 unfoldable pub charged : BudgetRuntime → ℕ → ℕ → BudgetParameters → BudgetRuntime
 charged r start end p =
     record {
@@ -52,7 +53,7 @@ charged r start end p =
       «burst_remaining_ns» = (refreshed r end p) .«burst_remaining_ns» - (end - start);
     }
 
--- BackInTime where the end lies before the start.
+-- BackInTime where the end lies before the start (SPECIFICATION 2.5).
 unfoldable pub accountedInterval : BudgetRuntime → ℕ → ℕ → BudgetParameters → Answer BudgetRuntime
 unfolding judged
 accountedInterval r start end p = judged p (ifLess end start (refused backInTime) (given (charged r start end p) value))
@@ -81,7 +82,7 @@ unfolding judged
 deadlineJudged r now p borrow =
     judged p (given (refreshed r now p) (λ fresh. given (deadlineAfter fresh now p borrow) (λ due. value (fresh, due))))
 
--- A turn that ends opens the burst again.
+-- A turn that ends opens the burst again (SPECIFICATION 2.6).
 unfoldable pub turnFinished : BudgetRuntime → BudgetParameters → Answer BudgetRuntime
 unfolding judged
 turnFinished r p =

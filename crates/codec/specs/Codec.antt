@@ -97,7 +97,7 @@ queueLinksOf w =
       membership = membershipFrom (word w membershipTag) (word w membershipFirst) (word w membershipSecond);
     }
 
--- The record of a row; the turn is word 16, the processor word 29.
+-- The record of a row; the turn is word 16, the processor word 29 (SPECIFICATION 5.5).
 unfoldable pub decoded : List ℕ → ThreadRecord
 decoded w =
     record {

@@ -74,7 +74,7 @@ pub data Part (encodes : List ℕ → Bool) (was now : List ℕ) : Type 0 where
   kept : now ≡ was → Part encodes was now
   stored : encodes now ≡ true → Part encodes was now
 
--- v is what became of w.
+-- v is what became of w (SPECIFICATION 11.3).
 pub record RowFramed (w v : List ℕ) : Type 0 where
   pub beside : besideWords v ≡ besideWords w
   pub runtime : Part aRuntime (runtimeWords w) (runtimeWords v)

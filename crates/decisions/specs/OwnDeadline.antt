@@ -64,6 +64,7 @@ budgetDeadline now b p m x =
     (given (budgetExpiry now (b .«remaining_ns») q) (λ due. value (runtime.Budget b, due)))
     (turnDeadline now (runtime.Budget b) p m x))
 
+-- SPECIFICATION 10.6.
 unfoldable pub ownDeadline : ℕ → PolicyRuntime → SchedulingParameters → DispatchMode → Contention
     → Answer (PolicyRuntime × Deadline)
 ownDeadline now r p m x =

@@ -76,7 +76,7 @@ switchesAmong a b p expired yielding tail =
 unfoldable pub switchesBelow : SchedulingParameters → Bool → Bool
 switchesBelow p yielding = onPolicy (p .policy) (λ priority. false) yielding yielding true
 
--- The ready key a against the current one's b: a higher band always switches.
+-- The ready key a against the current one's b: a higher band always switches (SPECIFICATION 10.5).
 unfoldable pub switches : DispatchKey → DispatchKey → SchedulingParameters → Bool → Bool → Bool → Bool
 switches a b p expired yielding tail =
     onOrdering (compareBands a b) true (switchesAmong a b p expired yielding tail) (switchesBelow p yielding)
@@ -90,6 +90,7 @@ shouldSwitch r k p expired yielding tail =
 unfoldable pub goesToFront : Bool → Bool → Bool
 goesToFront expired yielding = choose expired false (not yielding)
 
+-- SPECIFICATION 10.5.
 unfoldable pub chooseReady : ReadyKey → KeyOption → SchedulingParameters → Bool → Bool → Bool → Choice
 chooseReady r k p expired yielding tail =
     given (shouldSwitch r k p expired yielding tail)

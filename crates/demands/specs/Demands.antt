@@ -42,6 +42,7 @@ noDemand =
     }
 
 -- What one candidate asks for. Idle asks for nothing; a Budget thread with no time left is owed no protection.
+-- (SPECIFICATION 4.1).
 unfoldable pub demandOf : Candidate → Demand
 demandOf c =
     onPolicy (c .parameters .policy)
@@ -71,7 +72,7 @@ demandOf c =
 unfoldable pub either : Bool → Bool → Bool
 either a b = choose a true b
 
--- What either of two demands asks for.
+-- What either of two demands asks for (SPECIFICATION 4.1).
 unfoldable pub joined : Demand → Demand → Demand
 joined a b =
     record {
@@ -85,7 +86,7 @@ joined a b =
 unfoldable pub addDemand : Demand → Candidate → Demand
 addDemand d c = given (demandOf c) (joined d)
 
--- Passes compare as wide numbers, the high half first.
+-- Passes compare as wide numbers, the high half first (SPECIFICATION 1.4).
 unfoldable pub comparePasses : Wide → Wide → Ordering
 comparePasses a b = compareParts (a .high ∷ a .low ∷ []) (b .high ∷ b .low ∷ [])
 
@@ -97,7 +98,7 @@ unfoldable pub onPass : {A : Type 0} → PassOption → A → (Wide → A) → A
 onPass pass.None a f = a
 onPass (pass.Some p) a f = f p
 
--- The lowest pass with one more candidate: only a Fair one counts.
+-- The lowest pass with one more candidate: only a Fair one counts (SPECIFICATION 9.3).
 unfoldable pub lowestPass : PassOption → Candidate → PassOption
 lowestPass lowest c =
     onPolicy (c .parameters .policy)

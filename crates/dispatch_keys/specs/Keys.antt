@@ -29,6 +29,6 @@ compareLocal a b = compareParts (localParts a) (localParts b)
 unfoldable pub compareWithinRank : DispatchKey → DispatchKey → Ordering
 compareWithinRank a b = compareParts (algorithmParts a) (algorithmParts b)
 
--- Dispatch keys compare as declared.
+-- Dispatch keys compare as declared (SPECIFICATION 4.5).
 unfoldable pub compareKeys : DispatchKey → DispatchKey → Ordering
 compareKeys a b = compareParts (keyParts a) (keyParts b)

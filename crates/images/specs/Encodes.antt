@@ -53,7 +53,7 @@ queueLinksEncode w =
     (both (optionEncodes (word w nextTag) (word w nextWord))
     (membershipEncodes (word w membershipTag) (word w membershipFirst) (word w membershipSecond)))
 
--- A thread's row; its turn is any.
+-- A thread's row; its turn is any (SPECIFICATION 5.6).
 unfoldable pub recordEncodes : List ℕ → Bool
 recordEncodes w =
     both (parametersEncode w)

@@ -46,6 +46,7 @@ abbrev pub storeRows : ℕ → ℕ → (List (List ℕ) → Bool) → ℕ → Li
 storeRows width count encodes number rows bytes =
     accepted (length bytes) (wordBytes * width * count) (encodes rows) number (bytesOfRows rows) bytes
 
+-- SPECIFICATION 5.6.
 unfoldable pub loadRecord : List ℕ → List ℕ → Left (List ℕ)
 loadRecord bytes row = loadWords rowWords recordEncodes badRecord bytes row
 
@@ -64,7 +65,7 @@ loadQueue bytes q = loadRows queueRowWords queueRows queueEncodes damaged bytes 
 unfoldable pub storeQueue : List (List ℕ) → List ℕ → Left (List ℕ)
 storeQueue q bytes = storeRows queueRowWords queueRows queueEncodes damaged q bytes
 
--- A table has 4,096 rows at most; the bytes are those of just its rows.
+-- A table has 4,096 rows at most; the bytes are those of just its rows (SPECIFICATION 5.6).
 unfoldable pub loadTable : List ℕ → List (List ℕ) → Left (List (List ℕ))
 loadTable bytes t =
     ifLess maxRecords (length t) (left badTable t) (loadRows rowWords (length t) tableEncodes badRecord bytes t)

@@ -75,6 +75,7 @@ rootFrom w = record { root = linkFrom (word w headTag) (word w headWord) }
 unfoldable pub haltedFrom : ℕ → Bool
 haltedFrom n = ifEqual n 0 false true
 
+-- SPECIFICATION 5.5.
 unfoldable pub queueOf : List (List ℕ) → CpuRunQueue
 queueOf rows =
     record {

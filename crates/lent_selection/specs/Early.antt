@@ -12,6 +12,7 @@ use Rattle.rows.specs.Table.{maxRecords}
 use Rattle.queue.specs.RunQueue.{CpuRunQueue}
 
 -- More than 4,096 records (BadTable), a window that is not sound (BadConfig), a queue that halted earlier (Halted).
+-- (SPECIFICATION 11.2).
 pub data Early (t : List (List ℕ)) (w : CpuWindow) (q : CpuRunQueue) : Type 0 where
   too-many : maxRecords < length t → Early t w q
   not-sound : soundConfig (w .config) ≡ false → Early t w q

@@ -10,7 +10,7 @@ use Rattle.rows.specs.Table.{Out}
 use Rattle.rows.specs.Asked.{asked, unchanged}
 use Rattle.lists.specs.Lists.{push, pushFront, remove}
 
--- The thread becomes the list's last.
+-- The thread becomes the list's last (SPECIFICATION 7.3).
 unfoldable pub pushCall : List ThreadRecord → ThreadQueue → ℕ → QueueMembership → Out (Answer ThreadQueue)
 pushCall t q id m = asked t id (unchanged t) (push t q id m)
 

@@ -42,7 +42,7 @@ endsAgree t q m =
     (λ tail. ifEqual (q .len) 0 false (choose (headAgrees t head m) (tailAgrees t tail m) false)))
 
 -- The length after the insertion: the thread is in no list, of the right processor, the length can rise, and the ends
--- agree (`preflight_insert`).
+-- agree (`preflight_insert`) (SPECIFICATION 7.1).
 unfoldable pub preflightInsert : List ThreadRecord → ThreadQueue → ℕ → QueueMembership → Answer ℕ
 preflightInsert t q id m =
     onRecord (recordAt t id) (refused damaged)
@@ -64,6 +64,6 @@ nextValid t q l id =
     onLink (l .next) (pointsTo (q .tail) id)
     (λ next. onQueueLinks (queueLinksAt t next) false (λ k. pointsTo (k .previous) id))
 
--- `validate_neighbors`.
+-- `validate_neighbors` (SPECIFICATION 7.1).
 unfoldable pub validateNeighbors : List ThreadRecord → ThreadQueue → QueueLinks → ℕ → Bool
 validateNeighbors t q l id = choose (previousValid t q l id) (nextValid t q l id) false

@@ -72,13 +72,13 @@ prepend t q id m n =
     (λ t₁. out (record { head = link.Some id; tail = q .tail; len = n })
     (commitInsert t₁ id (record { previous = link.None; next = link.Some head; membership = m }))))
 
--- The thread becomes the list's last.
+-- The thread becomes the list's last (SPECIFICATION 7.2).
 unfoldable pub push : List ThreadRecord → ThreadQueue → ℕ → QueueMembership → Out (Answer ThreadQueue)
 push t q id m =
     onAnswer (preflightInsert t q id m) (λ n. out (refused n) t)
     (λ n. onOut (append t q id m n) (λ s t₁. out (value s) t₁))
 
--- The thread becomes the list's first.
+-- The thread becomes the list's first (SPECIFICATION 7.2).
 unfoldable pub pushFront : List ThreadRecord → ThreadQueue → ℕ → QueueMembership → Out (Answer ThreadQueue)
 pushFront t q id m =
     onAnswer (preflightInsert t q id m) (λ n. out (refused n) t)
@@ -103,7 +103,7 @@ unlink t q l id n =
     (λ p t₁. onOut (updateNextLink t₁ p l)
     (λ s t₂. out (record { head = s .head; tail = s .tail; len = n }) (commitRemove t₂ id)))
 
--- The thread leaves the list.
+-- The thread leaves the list (SPECIFICATION 7.2).
 unfoldable pub remove : List ThreadRecord → ThreadQueue → ℕ → QueueMembership → Out (Answer ThreadQueue)
 remove t q id m =
     onQueueLinks (queueLinksAt t id) (out (refused damaged) t)

@@ -11,7 +11,7 @@ use Rattle.policy.specs.declared.BudgetMade.the-variants.{Made, Refused}
 abbrev pub maxPeriod : ℕ
 maxPeriod = 1000000000
 
--- Bad is a period of 0 or above 1,000,000,000, and a budget or burst of 0 or above the period.
+-- Bad is a period of 0 or above 1,000,000,000, and a budget or burst of 0 or above the period (SPECIFICATION 2.2).
 unfoldable pub soundBudget : BudgetParameters → Bool
 soundBudget p =
     ifEqual (p .«period_ns») 0 false
@@ -22,7 +22,7 @@ soundBudget p =
     (ifLess (p .«period_ns») (p .«burst_ns») false
     true)))))
 
--- The parameters, or BadBudget.
+-- The parameters, or BadBudget (SPECIFICATION 2.2).
 unfoldable pub newBudget : ℕ → ℕ → ℕ → Answer BudgetParameters
 newBudget budget period burst =
     let p : BudgetParameters = record { «budget_ns» = budget; «period_ns» = period; «burst_ns» = burst } in

@@ -34,6 +34,7 @@ pub enum SchedulingClass {
     Idle,
 }
 
+// SPECIFICATION 2.1.
 pub enum SchedulingPolicy {
     Fifo { priority: ThreadPriority },
     Fair,

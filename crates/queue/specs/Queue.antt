@@ -35,7 +35,7 @@ use Rattle.queue_work.specs.Work.{Work, done, turnedDown, halts, insertWork, re
 abbrev pub emptyRoot : Root
 emptyRoot = record { root = link.None }
 
--- A new queue: 256 empty lists, an empty fair list, twelve empty trees, no epoch, not halted.
+-- A new queue: 256 empty lists, an empty fair list, twelve empty trees, no epoch, not halted (SPECIFICATION 8.1).
 abbrev pub newQueue : CpuRunQueue
 newQueue =
     record {
@@ -87,7 +87,7 @@ withParts q m k p =
     (λ w. q)
     q
 
--- The mark of a queue that halted.
+-- The mark of a queue that halted (SPECIFICATION 8.4).
 abbrev pub marked : CpuRunQueue → CpuRunQueue
 marked q =
     record {
@@ -104,7 +104,7 @@ marked q =
 pub data Step (A : Type 0) : Type 0 where
   step : Answer A → CpuRunQueue → Step A
 
--- What a call's work makes of queue and table: Halted leaves the source's stores and the mark.
+-- What a call's work makes of queue and table: Halted leaves the source's stores and the mark (SPECIFICATION 8.4).
 unfoldable pub worked : CpuRunQueue → QueueMembership → ℕ → Out Work → Out (Step (Unit {0}))
 worked q m k (out (done p) t) = out (step (value tt) (withParts q m k p)) t
 worked q m k (out (turnedDown n) t) = out (step (refused n) q) t
@@ -135,7 +135,7 @@ judged t q id f =
     (λ k. f r k)))))
 
 -- `enqueue` (false) and `enqueue_front` (true): Already where it is in a list, BadState where it is assigned to another
--- processor.
+-- processor (SPECIFICATION 8.2).
 unfoldable pub enqueueCall : Bool → List ThreadRecord → CpuRunQueue → ℕ → CpuIndex → Out (Step (Unit {0}))
 enqueueCall front t q id c =
     judged t q id
@@ -186,7 +186,7 @@ removeFrom t q id c r k =
     (λ w. out (step (refused damaged) q) t)
     (out (step (refused damaged) q) t))
 
--- `remove`: from the tree that holds the thread, and from the list of its membership.
+-- `remove`: from the tree that holds the thread, and from the list of its membership (SPECIFICATION 8.3).
 unfoldable pub removeCall : List ThreadRecord → CpuRunQueue → ℕ → CpuIndex → Out (Step (Unit {0}))
 removeCall t q id c =
     judged t q id

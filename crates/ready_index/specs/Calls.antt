@@ -19,7 +19,7 @@ firstCall t root = askedTable t refused (leastAnswer (first t root))
 unfoldable pub containsCall : List ThreadRecord → Link → ℕ → Answer Bool
 containsCall t root id = asked t id refused (containedAnswer (contains t root id))
 
--- A thread put into the tree: its root afterwards (`Tree::insert`).
+-- A thread put into the tree: its root afterwards (`Tree::insert`) (SPECIFICATION 6.4).
 unfoldable pub insertCall : List ThreadRecord → Link → ℕ → Out (Answer Link)
 insertCall t root id = asked t id (unchanged t) (answering rootedAnswer (insert t root id))
 

@@ -40,7 +40,7 @@ unfoldable pub descend : ℕ → List ThreadRecord → ℕ → Least
 descend zero t i = least.Damaged
 descend (suc n) t i = onLinks (linksAt t i) least.Damaged (λ l. onLink (l .left) (least.Some i) (descend n t))
 
--- The least thread of the tree under a root (`Tree::first`).
+-- The least thread of the tree under a root (`Tree::first`) (SPECIFICATION 6.1).
 unfoldable pub first : List ThreadRecord → Link → Least
 first t root = onLink root least.None (λ i. descend maxPath t i)
 
@@ -62,7 +62,7 @@ lookFor (suc n) t key id at =
     (λ l. lookFor n t key id l)
     (λ l. lookFor n t key id l))
 
--- Whether the tree under a root holds a thread (`Tree::contains`).
+-- Whether the tree under a root holds a thread (`Tree::contains`) (SPECIFICATION 6.1).
 unfoldable pub contains : List ThreadRecord → Link → ℕ → Contained
 contains t root id = onKey (keyAt t id) contained.Damaged (λ key. lookFor maxPath t key id root)
 
@@ -112,7 +112,7 @@ insertAt t room key root id =
     (λ steps. onMade (setLinks t id emptyLinks) (out rooted.Damaged)
     (λ t₁. rebuild steps t₁ (link.Some id)))
 
--- A thread put into the tree under a root (`Tree::insert`).
+-- A thread put into the tree under a root (`Tree::insert`) (SPECIFICATION 6.2).
 unfoldable pub insert : List ThreadRecord → Link → ℕ → Out Rooted
 insert t root id = onKey (keyAt t id) (out rooted.Damaged t) (λ key. insertAt t maxPath key root id)
 
@@ -204,6 +204,6 @@ abbrev pub removeAt : List ThreadRecord → ℕ → TreeKey → Link → ℕ →
 removeAt t room key root id =
     onSearch (search room t key id root []) (out rooted.Damaged t) (λ steps l left. removeFound t steps l left id)
 
--- A thread taken out of the tree under a root (`Tree::remove`).
+-- A thread taken out of the tree under a root (`Tree::remove`) (SPECIFICATION 6.3).
 unfoldable pub remove : List ThreadRecord → Link → ℕ → Out Rooted
 remove t root id = onKey (keyAt t id) (out rooted.Damaged t) (λ key. removeAt t maxPath key root id)

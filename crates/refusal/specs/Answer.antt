@@ -43,6 +43,7 @@ badTable = 10
 abbrev pub badRecord : ℕ
 badRecord = 11
 
+-- SPECIFICATION 11.1.
 abbrev pub numberOf : Refusal → ℕ
 numberOf Damaged = damaged
 numberOf BadState = badState

@@ -50,7 +50,7 @@ abbrev pub budgetTrees : Link → Link → ℕ → BudgetTrees
 budgetTrees exhausted ready moves = record { exhausted = exhausted; ready = ready; moves = moves }
 
 -- One thread out of the exhausted tree, refreshed, and into the ready one. Any error in a tree's removal or insertion
--- is Halted.
+-- is Halted (SPECIFICATION 9.2).
 unfoldable pub moveOne : List ThreadRecord → BudgetTrees → ℕ → ℕ → Out (Leaves (Unit {0}) BudgetTrees)
 moveOne t trees id now =
     onRooted (index.remove t (trees .exhausted) id)
@@ -110,6 +110,7 @@ isHalt n = eqb n queueHalted
 
 -- At any change of epoch, also backward or from none, all three roles in as many moves as there are records; then the
 -- epoch is stored. A refusal leaves the roots as they were stored up to there, and the epoch as it was.
+-- (SPECIFICATION 9.2).
 unfoldable pub renew : List ThreadRecord → SelectionParts → ℕ → ℕ → Out (Leaves (Unit {0}) SelectionParts)
 renew t p now e =
     choose (isEpoch (p .«budget_epoch») e) (out (leaves (value tt) p) t)

@@ -98,7 +98,7 @@ balanceRight t i l =
     (doubleLeft t i l right)
     (rotateLeft t i)))))
 
--- A node balanced by the stored heights of its sides (`balance`).
+-- A node balanced by the stored heights of its sides (`balance`) (SPECIFICATION 6.2).
 unfoldable pub balance : List ThreadRecord → ℕ → Out Turned
 balance t i =
     onLinks (linksAt t i) (out turned.Damaged t)

@@ -7,7 +7,7 @@ use lib.ListN.{length, getD, set}
 use Rattle.codec.specs.Frame.{RowFramed}
 use Rattle.codec.specs.FrameLaws.{row-as-it-was, row-then}
 
--- s is what became of t.
+-- s is what became of t (SPECIFICATION 11.3).
 pub record Framed (t s : List (List ℕ)) : Type 0 where
   pub count : length s ≡ length t
   pub row : (j : ℕ) → RowFramed (getD t j []) (getD s j [])

@@ -37,6 +37,7 @@ unfoldable pub settled : List ThreadRecord → ℕ → CpuWindow → Answer Acco
 settled t id w (value a) = out (with (value tt) (a .window)) (after (setRuntime t id (a .runtime)))
 settled t id w (refused n) = out (with (refused n) w) t
 
+-- SPECIFICATION 10.3.
 unfoldable pub accountCurrent : List ThreadRecord → ℕ → CpuWindow → DispatchMode → ℕ → ℕ → Out (With (Unit {0}))
 accountCurrent t id w m start end = settled t id w (accounting t id w m start end)
 
@@ -44,6 +45,7 @@ accountCurrent t id w m start end = settled t id w (accounting t id w m start en
 unfoldable pub finishing : List ThreadRecord → ℕ → Answer PolicyRuntime
 finishing t id = andThen (judged t id) (λ r. turnFinished (r .runtime) (r .parameters))
 
+-- SPECIFICATION 10.4.
 unfoldable pub finishTurn : List ThreadRecord → ℕ → Out (Answer (Unit {0}))
 finishTurn t id = stored t id (finishing t id)
 
@@ -82,6 +84,7 @@ candidate t id running (value f) =
 candidate t id running (refused n) = out (refused n) t
 
 -- The current thread as selection and keys take it: refreshed to now where it is Running, else none.
+-- (SPECIFICATION 10.4).
 unfoldable pub currentCandidate : List ThreadRecord → ℕ → Bool → ℕ → Out (Answer (Option Candidate))
 currentCandidate t id running now = candidate t id running (refreshingAt t id now)
 
@@ -91,6 +94,6 @@ candidateStored before (out (value (some c)) t) = out (value tt, c) t
 candidateStored before (out (value none) t) = out (value tt, before) t
 candidateStored before (out (refused n) t) = out (refused n, before) t
 
--- `expired` of the record with this number.
+-- `expired` of the record with this number (SPECIFICATION 10.4).
 unfoldable pub expired : List ThreadRecord → ℕ → Answer Bool
 expired t id = andThen (judged t id) (λ r. given (spent (r .runtime)) value)

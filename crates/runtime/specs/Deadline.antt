@@ -45,5 +45,6 @@ unfoldable pub armed : List ThreadRecord → ℕ → CpuWindow → Answer Due �
 armed t id w (value d) = out (with (value (d .deadline)) (d .window)) (after (setRuntime t id (d .runtime)))
 armed t id w (refused n) = out (with (refused n) w) t
 
+-- SPECIFICATION 10.6.
 unfoldable pub refreshDeadline : List ThreadRecord → ℕ → ℕ → ModeOption → CpuWindow → Contention → Out (With Deadline)
 refreshDeadline t id now m w x = armed t id w (dueOf t id now m w x)

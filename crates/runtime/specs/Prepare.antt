@@ -40,5 +40,6 @@ unfoldable pub prepared : List ThreadRecord → ℕ → Turns → Answer Prepara
 prepared t id c (value p) = out (counted (value tt) (p .turns)) (storedPreparation t id p)
 prepared t id c (refused n) = out (counted (refused n) c) t
 
+-- SPECIFICATION 10.2.
 unfoldable pub prepareEnqueue : List ThreadRecord → ℕ → Bool → ℕ → Turns → Out Counted
 prepareEnqueue t id front now c = prepared t id c (preparation t id front now c)

@@ -33,7 +33,7 @@ use Rattle.demands.specs.Demands.{candidateOf, gathered}
 use Rattle.renewal.specs.Renewal.{headOf, refreshRecord, rootAt}
 use Rattle.queue.specs.RunQueue.{treeCount, lastTree}
 
--- A head: ready on this processor, else Damaged; then judged and refreshed.
+-- A head: ready on this processor, else Damaged; then judged and refreshed (SPECIFICATION 9.3).
 unfoldable pub headAt : List ThreadRecord → ℕ → CpuIndex → ℕ → Out (Answer Candidate)
 headAt t id c now =
     onRecord (recordAt t id) (out (refused damaged) t)
@@ -51,7 +51,7 @@ pub record Heads : Type 0 where
 abbrev pub noHeads : List Link
 noHeads = replicate treeCount link.None
 
--- The heads of the last so many trees. An empty tree is passed over.
+-- The heads of the last so many trees. An empty tree is passed over (SPECIFICATION 9.3).
 unfoldable pub gatherHeads : ℕ → List ThreadRecord → List Root → CpuIndex → ℕ → List Link → Gathered
     → Out (Answer Heads)
 gatherHeads zero t roots c now heads g = out (value (record { heads = heads; found = g })) t
@@ -98,6 +98,7 @@ pub record Chosen : Type 0 where
   pub window : CpuWindow
   pub ready : ReadyOption
 
+-- SPECIFICATION 9.4.
 unfoldable pub leastOf : ℕ → List ThreadRecord → List Link → ℕ → Demand → CpuWindow → ReadyOption → Chosen
 leastOf zero t heads now d w best = record { window = w; ready = best }
 leastOf (suc left) t heads now d w best =

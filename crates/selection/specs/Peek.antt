@@ -26,7 +26,7 @@ use Rattle.selection.specs.Heads.{Heads, noHeads, gatherHeads, leastOf}
 pub data Peeked (B : Type 0) : Type 0 where
   peeked : Answer Selection → CpuWindow → B → Peeked B
 
--- With the heads gathered: the least key. Where there is no head the window is not refreshed.
+-- With the heads gathered: the least key. Where there is no head the window is not refreshed (SPECIFICATION 9.4).
 unfoldable pub chosen : List ThreadRecord → SelectionParts → ℕ → CpuWindow → Heads → Out (Peeked SelectionParts)
 chosen t p now w h =
     given (leastOf treeCount t (h .heads) now (h .found .demand) w ready.None)
@@ -37,6 +37,7 @@ chosen t p now w h =
     })) (least .window) p) t)
 
 -- With a window that is sound and a queue that runs: the change of period, then the heads, then the least key.
+-- (SPECIFICATION 9.5).
 unfoldable pub peekRunning : List ThreadRecord → SelectionParts → CpuIndex → ℕ → CpuWindow → CandidateOption
     → Out (Peeked SelectionParts)
 peekRunning t p c now w current =
@@ -77,7 +78,7 @@ unfoldable pub restored : CpuRunQueue → Peeked SelectionParts → Peeked CpuRu
 restored q (peeked a w p) = peeked a w (withSelectionParts q p)
 
 -- `peek_next`: the queued thread with the least dispatch key, or none; the demand; the lowest fair pass; window and
--- queue as they are left.
+-- queue as they are left (SPECIFICATION 9.1).
 unfoldable pub peekNext : List ThreadRecord → CpuRunQueue → CpuIndex → ℕ → CpuWindow → CandidateOption
     → Out (Peeked CpuRunQueue)
 peekNext t q c now w current =

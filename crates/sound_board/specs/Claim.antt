@@ -57,7 +57,7 @@ abbrev pub PremisesOn : Board → ℕ → List ℕ → Type 0
 PremisesOn b now window = Premises (b .queued) (queueOf (b .queue)) (table (b .rows)) now (windowOf window)
 
 -- The selection is answered 0, and its answer's words have the demand of all queued threads and the current one, their
--- lowest fair pass, and of all queued threads the one with the least key under that demand.
+-- lowest fair pass, and of all queued threads the one with the least key under that demand (SPECIFICATION 13.2).
 pub record Answers (b : Board) (now running : ℕ) (window current : List ℕ) (n : ℕ) (answer : List ℕ) : Type 0 where
   pub is : n ≡ 0
   pub demand : selectionFrom answer .demand

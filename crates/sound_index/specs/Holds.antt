@@ -56,6 +56,7 @@ Rising t [] = Unit {0}
 Rising t (i ∷ l) = record { first : PrecedesAll t i l; rest : Rising t l }
 
 -- The table holds the tree: links and heights are the tree's, and its threads stand in the strict order of their keys.
+-- (SPECIFICATION 12.4).
 pub record Holds (t : List ThreadRecord) (x : Tree) : Type 0 where
   pub linked : Linked t x
   pub rising : Rising t (inOrder x)

@@ -50,7 +50,7 @@ queuedOf p queued t j = queued j && p (recordOf t j .parameters .policy)
 -- The twelve trees together and the lists together hold exactly the queued threads, each in one place and filed by its
 -- record; trees are in key order and balanced with right heights, lists are linked both ways, lengths and budget count
 -- are true, and the queue is not halted. The threads of one list are of one processor; those of different lists need
--- not be.
+-- not be (SPECIFICATION 12.3).
 pub record Sound (queued : ℕ → Bool) (q : CpuRunQueue) (t : List ThreadRecord) : Type 0 where
   pub cpus : ℕ → CpuIndex
   pub place : ℕ → ℕ

@@ -65,14 +65,14 @@ unfoldable pub keyNow : List ThreadRecord → CpuWindow → ℕ → Demand → �
 keyNow t w now d j = keyOf (refreshed w now) now (candidateNow t now j) d
 
 -- A queued budget thread is filed as having time left if it stands in such a tree, or in an exhausted one while the
--- queue's epoch is not e.
+-- queue's epoch is not e (SPECIFICATION 13.1).
 unfoldable pub filedReady : CpuRunQueue → List ThreadRecord → ℕ → ℕ → Bool
 filedReady q t e j =
     onContained (contains t (rootOf q (budgetReady + roleIndex (recordOf t j .parameters .role))) j) true
     (not (isEpoch (q .«budget_epoch») e)) (not (isEpoch (q .«budget_epoch») e))
 
 -- The premises on a selection: a sound window that admits every queued thread, one fair backend among them, and budget
--- threads filed by whether they have time left.
+-- threads filed by whether they have time left (SPECIFICATION 13.1).
 pub record Premises (queued : ℕ → Bool) (q : CpuRunQueue) (t : List ThreadRecord) (now : ℕ)
     (w : CpuWindow) : Type 0 where
   pub window : soundConfig (w .config) ≡ true
@@ -100,7 +100,7 @@ Names queued t w now d (ready.Some r) = record {
 
 -- A selection is answered, not refused: with the demand of all queued threads and the current one, their lowest fair
 -- pass, and of all queued threads the one with the least key under that demand. The window is refreshed to now, unless
--- nobody is queued.
+-- nobody is queued (SPECIFICATION 13.2).
 pub record Answered (queued : ℕ → Bool) (t : List ThreadRecord) (now : ℕ) (w : CpuWindow) (current : CandidateOption)
     (o : Out (Peeked CpuRunQueue)) : Type 0 where
   pub selection : Selection
@@ -122,7 +122,7 @@ pub data Call : Type 0 where
   selectAt : ℕ → CpuWindow → CandidateOption → Call
   changeTo : List ThreadRecord → Call
 
--- Queue, table, and who is queued: from its accepted enqueue to its accepted removal.
+-- Queue, table, and who is queued: from its accepted enqueue to its accepted removal (SPECIFICATION 12.1).
 pub record State : Type 0 where
   pub queue : CpuRunQueue
   pub table : List ThreadRecord

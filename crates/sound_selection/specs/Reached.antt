@@ -19,7 +19,7 @@ use Rattle.sound_queue.specs.Sound.{nobody, including, excluding, PriorityFits}
 -- From a new queue over any table of up to 4,096 records: accepted enqueues, removals and selections, each for any
 -- processor, a selection with any reading, window and current thread; between them changes of any kind to records that
 -- are not queued, and records added or dropped behind the queued ones. The set is of those whose enqueue was accepted
--- and who were not removed since.
+-- and who were not removed since (SPECIFICATION 12.2).
 pub data Reached : (ℕ → Bool) → CpuRunQueue → List ThreadRecord → Type 0 where
   new : (t : List ThreadRecord) → length t ≤ maxRecords → Reached nobody newQueue t
   enqueued : (cpu : CpuIndex) (queued : ℕ → Bool) (q r : CpuRunQueue) (t s : List ThreadRecord) (front : Bool) (i : ℕ)

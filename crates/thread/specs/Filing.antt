@@ -30,6 +30,7 @@ abbrev pub budgetExhausted : ℕ
 budgetExhausted = 9
 
 -- FIFO 0 to 2, Fair 3 to 5, Budget with time left 6 to 8, exhausted 9 to 11, each by role; none for Idle.
+-- (SPECIFICATION 5.3).
 unfoldable pub indexFor : SchedulingParameters → PolicyRuntime → IndexFor
 indexFor p r =
     given (roleIndex (p .role))

@@ -15,7 +15,7 @@ hasBudget b = onBudget b false (λ q. true)
 unfoldable pub isBadBudget : BudgetOption → Bool
 isBadBudget b = onBudget b true (λ q. choose (soundBudget q) false true)
 
--- "A record has a budget exactly when its policy is Budget, and a runtime of its policy's kind."
+-- "A record has a budget exactly when its policy is Budget, and a runtime of its policy's kind." (SPECIFICATION 5.2)
 unfoldable pub isBadRecord : ThreadRecord → Bool
 isBadRecord r =
     choose (sameKind (r .runtime) (r .parameters .policy))

@@ -31,6 +31,7 @@ algorithmKey p r turn =
 unfoldable pub treeKey : SchedulingParameters → PolicyRuntime → ℕ → ℕ → TreeKey
 treeKey p r turn number = record { algorithm = algorithmKey p r turn; band = p .band .0; turn = turn; id = number }
 
+-- SPECIFICATION 5.4.
 unfoldable pub readyIndexKey : ThreadRecord → ℕ → TreeKey
 readyIndexKey r number = treeKey (r .parameters) (r .runtime) (r .«ready_turn») number
 
@@ -38,6 +39,7 @@ readyIndexKey r number = treeKey (r .parameters) (r .runtime) (r .«ready_turn»
 unfoldable pub parts : TreeKey → List ℕ
 parts k = k .algorithm .high ∷ k .algorithm .low ∷ k .band ∷ k .turn ∷ k .id ∷ []
 
+-- SPECIFICATION 5.4.
 unfoldable pub compareTreeKeys : TreeKey → TreeKey → Ordering
 compareTreeKeys a b = compareParts (parts a) (parts b)
 

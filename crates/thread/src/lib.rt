@@ -111,6 +111,7 @@ impl ThreadQueue {
 }
 
 // What the scheduler keeps of a thread. After `ThreadScheduleState`; `cpu` is the processor it is assigned to.
+// (SPECIFICATION 5.1).
 pub struct ThreadRecord {
     pub parameters: SchedulingParameters,
     pub runtime: PolicyRuntime,

@@ -9,16 +9,16 @@ use Rattle.time.specs.declared.Deadline.{Deadline}
 use Rattle.time.specs.declared.Deadline.the-variants as deadline
 
 -- Whether an epoch is later than the one before; none is before every epoch (`is_none_or(|previous| epoch >
--- previous)`).
+-- previous)`) (SPECIFICATION 1.1).
 unfoldable pub rises : Epoch → ℕ → Bool
 rises epoch.None e = true
 rises (epoch.Some last) e = ltb last e
 
--- The start of the period that holds a reading.
+-- The start of the period that holds a reading (SPECIFICATION 1.1).
 unfoldable pub periodStart : ℕ → ℕ → ℕ
 periodStart now period = now - now % period
 
--- What an interval charges: only from the start of the period that holds its end.
+-- What an interval charges: only from the start of the period that holds its end (SPECIFICATION 1.3).
 unfoldable pub chargeOf : ℕ → ℕ → ℕ → ℕ
 chargeOf start end period = end - max start (periodStart end period)
 
@@ -26,11 +26,11 @@ chargeOf start end period = end - max start (periodStart end period)
 abbrev pub maxTime : ℕ
 maxTime = 18446744073709551615
 
--- The sum, or none where it does not fit a u64.
+-- The sum, or none where it does not fit a u64 (SPECIFICATION 1.2).
 unfoldable pub checkedAdd : ℕ → ℕ → Deadline
 checkedAdd a b = ifLess maxTime (a + b) deadline.None (deadline.Some (a + b))
 
--- The end of the period that holds a reading, or none where it does not fit.
+-- The end of the period that holds a reading, or none where it does not fit (SPECIFICATION 1.2).
 unfoldable pub periodEnd : ℕ → ℕ → Deadline
 periodEnd now period = checkedAdd (periodStart now period) period
 

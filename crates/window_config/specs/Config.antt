@@ -21,7 +21,7 @@ ranksRise o =
     false
 
 -- A period of 1 to 1,000,000,000, a floor above 0 and below the period, an allowance below what the floor leaves, ranks
--- that rise.
+-- that rise (SPECIFICATION 3.1).
 unfoldable pub soundConfig : ArbitrationConfig → Bool
 soundConfig c =
     ifEqual (c .«period_ns») 0 false
@@ -61,7 +61,7 @@ acceptsBudget c p = onBudget (p .budget) true (λ b. eqb (b .«period_ns») (c .
 unfoldable pub sameBackend : FairBackend → FairBackend → Bool
 sameBackend a b = onBackend a (onBackend b true false) (onBackend b false true)
 
--- Admitted: not Idle, a budget of the window's period, a fair thread of the one backend.
+-- Admitted: not Idle, a budget of the window's period, a fair thread of the one backend (SPECIFICATION 3.5).
 unfoldable pub admitted : ArbitrationConfig → SchedulingParameters → FairBackend → Bool
 admitted c p f =
     choose (acceptsBudget c p)

@@ -147,7 +147,7 @@ configOf w =
     }
 
 -- A window of 12 words: the configuration, the epoch's two words, what remains of the allowance, what remains of the
--- floor.
+-- floor (SPECIFICATION 5.5).
 unfoldable pub windowOf : List ℕ → CpuWindow
 windowOf w =
     record {
