@@ -4,3 +4,6 @@ pub mod LentQueue
 pub mod LentLaws
 -- That a refusal leaves every word.
 pub mod SparedLaws
+-- What calls leave of the words of the queue's rows, and its laws.
+pub mod Frame
+pub mod FrameLaws

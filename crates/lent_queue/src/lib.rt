@@ -5,6 +5,8 @@ ghost use mathlib.Core.Path.{_≡_};
 ghost use mathlib.Core.Bool.{true};
 ghost use lib.ListN.{getD, length, set};
 ghost use Rattle.thread.specs.Membership.{emptyQueue};
+ghost use Rattle.codec.specs.Codec.{word};
+ghost use Rattle.codec.specs.Frame.{optionEncodes};
 ghost use Rattle.rows.specs.Table.{table, out};
 ghost use Rattle.rows.specs.Unmoved.{Spared};
 ghost use Rattle.rows.specs.Frame.{Framed};
@@ -13,7 +15,8 @@ ghost use Rattle.queue.specs.Queue as calls;
 ghost use Rattle.queue.specs.Plan as plans;
 ghost use Rattle.queue.specs.Answers.{verdictAnswer};
 ghost use Rattle.lent_queue.specs.LentQueue.{treeCount, listFrom, queueOf, withRealtime, withFair, withRoot};
-ghost use Rattle.lent_queue.specs.LentQueue.{withCounts, withMarks};
+ghost use Rattle.lent_queue.specs.LentQueue.{withCounts, withMarks, marksRow, headTag, headWord, tailTag, tailWord};
+ghost use Rattle.lent_queue.specs.Frame.{QueueFramed};
 use codec::Row;
 use codec::link_from;
 use codec::words_of_link;
@@ -91,6 +94,8 @@ pub fn list_from(w: QueueRow) -> ThreadQueue
 
 pub fn words_of_list(list: ThreadQueue) -> QueueRow
     ensures { λ w. ⌜ listFrom w ≡ list ⌝ }
+    ensures { λ w. ⌜ optionEncodes (word w headTag) (word w headWord) ≡ true ⌝ }
+    ensures { λ w. ⌜ optionEncodes (word w tailTag) (word w tailWord) ≡ true ⌝ }
 {
     let its_head = list.head;
     let its_tail = list.tail;
@@ -126,6 +131,7 @@ pub fn fair_list(q: &QueueRows) -> ThreadQueue
 
 fn set_real_time(q: &mut QueueRows, priority: u8, list: ThreadQueue)
     ensures { λ r. ⌜ queueOf (now (q .exit)) ≡ withRealtime (queueOf (now (q .entry))) priority list ⌝ }
+    ensures { λ r. ⌜ QueueFramed (now (q .entry)) (now (q .exit)) ⌝ }
 {
     let at = priority as usize;
     let row = words_of_list(list);
@@ -141,6 +147,7 @@ fn store_row(q: &mut [QueueRow], at: usize, row: QueueRow)
 
 pub fn set_fair(q: &mut QueueRows, list: ThreadQueue)
     ensures { λ r. ⌜ queueOf (now (q .exit)) ≡ withFair (queueOf (now (q .entry))) list ⌝ }
+    ensures { λ r. ⌜ QueueFramed (now (q .entry)) (now (q .exit)) ⌝ }
 {
     let row = words_of_list(list);
     store_row(q, FAIR_ROW, row);
@@ -149,6 +156,7 @@ pub fn set_fair(q: &mut QueueRows, list: ThreadQueue)
 fn set_root(q: &mut QueueRows, index: u64, root: Link)
     requires { ⌜ index < treeCount ⌝ }
     ensures { λ r. ⌜ queueOf (now (q .exit)) ≡ withRoot (queueOf (now (q .entry))) index root ⌝ }
+    ensures { λ r. ⌜ QueueFramed (now (q .entry)) (now (q .exit)) ⌝ }
 {
     let at = ROOT_ROWS + index as usize;
     let row = q[at];
@@ -159,12 +167,14 @@ fn set_root(q: &mut QueueRows, index: u64, root: Link)
 // The row of counts, epoch and mark stored; that there is one is a matter of type.
 pub fn store_marks(q: &mut QueueRows, row: QueueRow)
     ensures { λ r. ⌜ queueOf (now (q .exit)) ≡ withMarks (queueOf (now (q .entry))) row ⌝ }
+    ensures { λ r. ⌜ now (q .exit) ≡ set (now (q .entry)) marksRow row ⌝ }
 {
     store_row(q, MARKS_ROW, row);
 }
 
 fn set_counts(q: &mut QueueRows, realtime_len: u64, budget_threads: u64)
     ensures { λ r. ⌜ queueOf (now (q .exit)) ≡ withCounts (queueOf (now (q .entry))) «realtime_len» «budget_threads» ⌝ }
+    ensures { λ r. ⌜ QueueFramed (now (q .entry)) (now (q .exit)) ⌝ }
 {
     let row = q[MARKS_ROW];
     store_marks(
@@ -181,6 +191,7 @@ fn set_counts(q: &mut QueueRows, realtime_len: u64, budget_threads: u64)
 
 fn set_mark(q: &mut QueueRows)
     ensures { λ r. ⌜ queueOf (now (q .exit)) ≡ calls.marked (queueOf (now (q .entry))) ⌝ }
+    ensures { λ r. ⌜ QueueFramed (now (q .entry)) (now (q .exit)) ⌝ }
 {
     let row = q[MARKS_ROW];
     store_marks(
@@ -247,6 +258,7 @@ fn store_real_time(q: &mut QueueRows, priority: u8, index: u64, parts: Parts)
     requires { ⌜ index < treeCount ⌝ }
     ensures { λ r. ⌜ queueOf (now (q .exit)) ≡ calls.stored (queueOf (now (q .entry))) index parts
         (set (queueOf (now (q .entry)) .realtime) priority (parts .list)) (queueOf (now (q .entry)) .fair) ⌝ }
+    ensures { λ r. ⌜ QueueFramed (now (q .entry)) (now (q .exit)) ⌝ }
 {
     let list = parts.list;
     let root = parts.root;
@@ -259,6 +271,7 @@ fn store_fair(q: &mut QueueRows, index: u64, parts: Parts)
     requires { ⌜ index < treeCount ⌝ }
     ensures { λ r. ⌜ queueOf (now (q .exit)) ≡ calls.stored (queueOf (now (q .entry))) index parts
         (queueOf (now (q .entry)) .realtime) (parts .list) ⌝ }
+    ensures { λ r. ⌜ QueueFramed (now (q .entry)) (now (q .exit)) ⌝ }
 {
     let list = parts.list;
     let root = parts.root;
@@ -271,6 +284,7 @@ fn store_fair(q: &mut QueueRows, index: u64, parts: Parts)
 fn store_parts(q: &mut QueueRows, membership: QueueMembership, index: u64, parts: Parts)
     requires { ⌜ index < treeCount ⌝ }
     ensures { λ r. ⌜ queueOf (now (q .exit)) ≡ calls.withParts (queueOf (now (q .entry))) membership index parts ⌝ }
+    ensures { λ r. ⌜ QueueFramed (now (q .entry)) (now (q .exit)) ⌝ }
 {
     match membership {
         QueueMembership::None => {}
@@ -291,6 +305,7 @@ fn settle(q: &mut QueueRows, membership: QueueMembership, index: u64, worked: Wo
     ensures { λ r. ⌜ calls.step (verdictAnswer r) (queueOf (now (q .exit)))
         ≡ plans.settled (queueOf (now (q .entry))) membership index (workOf worked) ⌝ }
     ensures { λ r. ⌜ Untouched (workOf worked) (now (q .entry)) (now (q .exit)) ⌝ }
+    ensures { λ r. ⌜ QueueFramed (now (q .entry)) (now (q .exit)) ⌝ }
 {
     match worked {
         Worked::Refused(refusal) => Verdict::Refused(refusal),
@@ -319,6 +334,7 @@ fn insert_by(
     ensures { λ r. ⌜ Spared (verdictAnswer r) (now (q .entry)) (now (q .exit)) ⌝ }
     ensures { λ r. ⌜ Spared (verdictAnswer r) (now (t .entry)) (now (t .exit)) ⌝ }
     ensures { λ r. ⌜ Framed (now (t .entry)) (now (t .exit)) ⌝ }
+    ensures { λ r. ⌜ QueueFramed (now (q .entry)) (now (q .exit)) ⌝ }
 {
     let membership = plan.membership;
     let parts = parts_of(q, membership, plan.index);
@@ -342,6 +358,7 @@ fn remove_by(q: &mut QueueRows, t: &mut [Row], path: &mut Path, id: u64, plan: P
     ensures { λ r. ⌜ Spared (verdictAnswer r) (now (q .entry)) (now (q .exit)) ⌝ }
     ensures { λ r. ⌜ Spared (verdictAnswer r) (now (t .entry)) (now (t .exit)) ⌝ }
     ensures { λ r. ⌜ Framed (now (t .entry)) (now (t .exit)) ⌝ }
+    ensures { λ r. ⌜ QueueFramed (now (q .entry)) (now (q .exit)) ⌝ }
 {
     let membership = plan.membership;
     let parts = parts_of(q, membership, plan.index);
@@ -364,6 +381,7 @@ fn remove_filed(
     ensures { λ r. ⌜ Spared (verdictAnswer r) (now (q .entry)) (now (q .exit)) ⌝ }
     ensures { λ r. ⌜ Spared (verdictAnswer r) (now (t .entry)) (now (t .exit)) ⌝ }
     ensures { λ r. ⌜ Framed (now (t .entry)) (now (t .exit)) ⌝ }
+    ensures { λ r. ⌜ QueueFramed (now (q .entry)) (now (q .exit)) ⌝ }
 {
     let root = root_at(q, filed.index);
     let beside = partner(filed.index);
@@ -420,6 +438,7 @@ pub fn enqueue_lent(
     ensures { λ r. ⌜ (queueOf (now (q .entry)) .halted ≡ true → now (q .exit) ≡ now (q .entry)) ⌝ }
     ensures { λ r. ⌜ (queueOf (now (q .entry)) .halted ≡ true → now (t .exit) ≡ now (t .entry)) ⌝ }
     ensures { λ r. ⌜ Framed (now (t .entry)) (now (t .exit)) ⌝ }
+    ensures { λ r. ⌜ QueueFramed (now (q .entry)) (now (q .exit)) ⌝ }
 {
     let halted = is_halted(q);
     let planned = insertion_plan(t, halted, id.0, cpu);
@@ -444,6 +463,7 @@ pub fn remove_lent(
     ensures { λ r. ⌜ (queueOf (now (q .entry)) .halted ≡ true → now (q .exit) ≡ now (q .entry)) ⌝ }
     ensures { λ r. ⌜ (queueOf (now (q .entry)) .halted ≡ true → now (t .exit) ≡ now (t .entry)) ⌝ }
     ensures { λ r. ⌜ Framed (now (t .entry)) (now (t .exit)) ⌝ }
+    ensures { λ r. ⌜ QueueFramed (now (q .entry)) (now (q .exit)) ⌝ }
 {
     let halted = is_halted(q);
     let judgement = judge(t, halted, id.0);

@@ -19,21 +19,22 @@ framed-as-it-was t = record { count = refl; row = λ j. row-as-it-was (getD t j 
 pub framed-then : {t s u : List (List ℕ)} → Framed t s → Framed s u → Framed t u
 framed-then p q = record { count = q .count ∙ p .count; row = λ j. row-then (p .row j) (q .row j) }
 
--- A row is replaced by what became of it; outside the table nothing is.
-replaced-count : (t : List (List ℕ)) (i : ℕ) (w : List ℕ) → length (set t i w) ≡ length t
+-- A row is replaced by what became of it; outside the table nothing is. The law of the rows holds of any relation in
+-- which a row stands to itself.
+pub replaced-count : (t : List (List ℕ)) (i : ℕ) (w : List ℕ) → length (set t i w) ≡ length t
 replaced-count [] i w = refl
 replaced-count (x ∷ t) zero w = refl
 replaced-count (x ∷ t) (suc i) w = ap suc (replaced-count t i w)
 
-replaced-row : (t : List (List ℕ)) (i : ℕ) (w : List ℕ) → RowFramed (getD t i []) w → (j : ℕ)
-    → RowFramed (getD t j []) (getD (set t i w) j [])
-replaced-row [] i w f j = row-as-it-was (getD [] j [])
-replaced-row (x ∷ t) zero w f zero = f
-replaced-row (x ∷ t) zero w f (suc j) = row-as-it-was (getD t j [])
-replaced-row (x ∷ t) (suc i) w f zero = row-as-it-was x
-replaced-row (x ∷ t) (suc i) w f (suc j) = replaced-row t i w f j
+pub replaced-by : (F : List ℕ → List ℕ → Type 0) → ((w : List ℕ) → F w w) → (t : List (List ℕ)) (i : ℕ) (w : List ℕ)
+    → F (getD t i []) w → (j : ℕ) → F (getD t j []) (getD (set t i w) j [])
+replaced-by F same [] i w f j = same (getD [] j [])
+replaced-by F same (x ∷ t) zero w f zero = f
+replaced-by F same (x ∷ t) zero w f (suc j) = same (getD t j [])
+replaced-by F same (x ∷ t) (suc i) w f zero = same x
+replaced-by F same (x ∷ t) (suc i) w f (suc j) = replaced-by F same t i w f j
 
 pub framed-row : (t : List (List ℕ)) (i : ℕ) (w : List ℕ) → RowFramed (getD t i []) w → Framed t (set t i w)
-framed-row t i w f = record { count = replaced-count t i w; row = replaced-row t i w f }
+framed-row t i w f = record { count = replaced-count t i w; row = replaced-by RowFramed row-as-it-was t i w f }
 
 pub ruleset framing = (framed-as-it-was, framed-then, framed-row)

@@ -151,7 +151,7 @@ pub fn damaged(tally: &mut Tally, random: &mut Random) {
             let id = random.below(count);
             let mut record = board.run.board.table.records[id as usize];
             damage_record(random, &mut record, id, count);
-            rows[id as usize] = tables::rows::row_of(&record);
+            rows[id as usize] = tables::bytes::rows_of(&[record])[0];
         }
     }
     board.run = History::of(Sides::of_words(words, rows));

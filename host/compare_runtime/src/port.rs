@@ -4,8 +4,7 @@ use kernel::oracle::{Candidate, Config, Demand, Key, Mode, Record, Turns, Window
 
 use crate::calls::*;
 use crate::words::*;
-use tables::bytes::rows_of;
-use tables::rows::record_of;
+use tables::bytes::{records_of, rows_of};
 use tables::windows::candidate_of;
 
 /// What a call gives, or the number of a refusal.
@@ -40,7 +39,7 @@ impl Rows {
     }
 
     pub fn records(&self) -> Vec<Record> {
-        self.0.iter().map(record_of).collect()
+        records_of(&self.0)
     }
 
     /// A call on rows that someone else keeps.

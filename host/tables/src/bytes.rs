@@ -1,7 +1,7 @@
 //! Tables between the oracle's records and the port's rows, as bytes that the port loads and stores; and which words
 //! encode, by writing again what they were read as.
 
-use core::cell::{Cell, RefCell};
+use core::cell::RefCell;
 
 use images::{QUEUE_BYTES, RECORD_BYTES, WINDOW_BYTES};
 use kernel::oracle::Record;
@@ -45,17 +45,6 @@ pub fn rows_of(records: &[Record]) -> Vec<Row> {
 thread_local! {
     /// Room for a table's bytes, which goes from check to check.
     static ROOM: RefCell<Vec<u8>> = const { RefCell::new(Vec::new()) };
-    /// How often a table was looked at.
-    static LOOKS: Cell<u64> = const { Cell::new(0) };
-}
-
-/// Whether a table of so many rows is to be looked at as bytes now: a small one at one check of four, a larger one at
-/// one of 16, since its store costs as much as the check itself.
-pub fn by_bytes(rows: usize) -> bool {
-    let looks = LOOKS.get() + 1;
-    LOOKS.set(looks);
-    let each = if rows <= 16 { 4 } else { 16 };
-    looks % each == 0
 }
 
 /// What is asked of the bytes that the port stores rows to; none where it stores none, since a row has words that
@@ -76,12 +65,10 @@ pub fn with_image<T>(rows: &[Row], ask: impl FnOnce(&[u8]) -> T) -> Option<T> {
     })
 }
 
-/// Whether the port's rows are these, at times by the bytes that it stores them to.
+/// Whether the port's rows are these: by the bytes that it stores them to, or by their words where it stores none.
 pub fn same_rows(rows: &[Row], wanted: &[Row]) -> bool {
-    let by_image = by_bytes(rows.len())
-        .then(|| with_image(rows, |bytes| *bytes == bytes_of(wanted.as_flattened())))
-        .flatten();
-    by_image.unwrap_or_else(|| rows == wanted)
+    with_image(rows, |bytes| *bytes == bytes_of(wanted.as_flattened()))
+        .unwrap_or_else(|| rows == wanted)
 }
 
 /// A queue as the port's words: written as bytes, which the port loads.
@@ -105,8 +92,17 @@ pub fn is_image(bytes: &[u8], record: &Record) -> bool {
 
 /// The record of a row's bytes.
 pub fn record_in(bytes: &[u8]) -> Record {
-    let row = words_in(bytes).try_into().expect("32 words");
+    let mut row = [0; 32];
+    for (word, chunk) in row.iter_mut().zip(bytes.chunks_exact(8)) {
+        *word = u64::from_le_bytes(chunk.try_into().expect("eight bytes"));
+    }
     record_of(&row)
+}
+
+/// The records of the port's rows, by the bytes that it stores them to, or by their words where it stores none.
+pub fn records_of(rows: &[Row]) -> Vec<Record> {
+    with_image(rows, |bytes| bytes.chunks_exact(RECORD_BYTES).map(record_in).collect())
+        .unwrap_or_else(|| rows.iter().map(record_of).collect())
 }
 
 /// What a load or a store of a record answers.

@@ -3,7 +3,7 @@
 use images::RECORD_BYTES;
 use kernel::oracle::*;
 
-use crate::bytes::{by_bytes, is_image, record_in, rows_of, with_image};
+use crate::bytes::{is_image, record_in, rows_of, with_image};
 use crate::rows::{Row, record_of, row_of};
 
 /// What a call gives, or the number of a refusal.
@@ -49,13 +49,10 @@ impl Table {
     }
 
     /// The first record that differs, as the port and as the source left it. Every row is looked at: as the bytes that
-    /// the port stores it to at times, and else as its words.
+    /// the port stores it to, or as its words where it stores none.
     pub fn difference(&self) -> (Placed, Placed) {
-        let of_bytes = by_bytes(self.rows.len());
-        let differing = of_bytes
-            .then(|| with_image(&self.rows, |bytes| self.difference_of_bytes(bytes)))
-            .flatten();
-        differing.unwrap_or_else(|| self.difference_of_words())
+        with_image(&self.rows, |bytes| self.difference_of_bytes(bytes))
+            .unwrap_or_else(|| self.difference_of_words())
     }
 
     fn difference_of_bytes(&self, bytes: &[u8]) -> (Placed, Placed) {

@@ -4,6 +4,7 @@ use Rattle.queue.specs.PlanLaws.{bounds}
 use Rattle.rows.specs.Unmoved.{unmoving}
 use Rattle.lent_queue.specs.SparedLaws.{sparing}
 use Rattle.rows.specs.Frame.{framing}
+use Rattle.lent_queue.specs.FrameLaws.{queue-framing}
 use borrow.Author.Needs.{needs}
 use Rattle.lent_queue.proofs.enqueue_lent.Statement.{statement}
 use Rattle.lent_queue.proofs.enqueue_lent.Tie as tie
@@ -22,7 +23,7 @@ enqueue-lent-spec =
       search (lending, bounds) depth 8,
       (
         search unmoving,
-        (search unmoving, (search (unmoving, sparing), (search (unmoving, sparing), search framing depth 8))),
+        (search unmoving, (search (unmoving, sparing), (search (unmoving, sparing), (search framing depth 8, search queue-framing depth 8)))),
       ),
     ))
     (λ c. search needs)
@@ -30,6 +31,6 @@ enqueue-lent-spec =
       search (lending, bounds) depth 8,
       (
         search unmoving,
-        (search unmoving, (search (unmoving, sparing), (search (unmoving, sparing), search framing depth 8))),
+        (search unmoving, (search (unmoving, sparing), (search (unmoving, sparing), (search framing depth 8, search queue-framing depth 8)))),
       ),
     )))

@@ -4,6 +4,7 @@ use Rattle.queue.specs.PlanLaws.{plannings}
 use Rattle.queue.specs.Plan.{insertBy}
 use Rattle.lent_queue.specs.SparedLaws.{sparing}
 use Rattle.rows.specs.Frame.{framing}
+use Rattle.lent_queue.specs.FrameLaws.{queue-framing}
 use borrow.Author.Needs.{needs}
 use Rattle.lent_queue.proofs.insert_by.Statement.{statement}
 use Rattle.lent_queue.proofs.insert_by.Tie as tie
@@ -17,4 +18,4 @@ insert-by-spec =
     (λ c κs. search needs)
     (λ c κs. search needs)
     (λ c. search needs)
-    (λ c. (search (cases, plannings) depth 8, (search sparing, (search sparing, search framing depth 8)))))
+    (λ c. (search (cases, plannings) depth 8, (search sparing, (search sparing, (search framing depth 8, search queue-framing depth 8))))))

@@ -1,5 +1,6 @@
 -- The one row that is stored; there are 270.
 use Rattle.lent_queue.specs.LentLaws.{stores}
+use Rattle.lent_queue.specs.FrameLaws.{row-framing}
 use borrow.Author.Needs.{needs}
 use Rattle.lent_queue.proofs.set_mark.Statement.{statement}
 use Rattle.lent_queue.proofs.set_mark.Tie as tie
@@ -14,4 +15,4 @@ set-mark-spec =
     (λ c. search needs)
     (λ c. search needs)
     (λ c κs. search needs)
-    (λ c. search (stores, needs) depth 8))
+    (λ c. (search (stores, needs) depth 8, search (row-framing, needs) depth 8)))

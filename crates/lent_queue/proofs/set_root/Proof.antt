@@ -1,5 +1,6 @@
 -- The one row that is stored.
 use Rattle.lent_queue.specs.LentLaws.{stores}
+use Rattle.lent_queue.specs.FrameLaws.{row-framing}
 use borrow.Author.Needs.{needs}
 use Rattle.lent_queue.proofs.set_root.Statement.{statement}
 use Rattle.lent_queue.proofs.set_root.Tie as tie
@@ -19,4 +20,4 @@ set-root-spec =
     (λ c. search needs)
     (λ c. search needs)
     (λ c. search needs)
-    (λ c. search (stores) depth 8))
+    (λ c. (search (stores) depth 8, search (row-framing, needs) depth 8)))

@@ -1,5 +1,6 @@
 -- The list, the root and the counts, in this order.
 use Rattle.lent_queue.specs.LentLaws.{lending}
+use Rattle.lent_queue.specs.FrameLaws.{queue-framing}
 use borrow.Author.Needs.{needs}
 use Rattle.lent_queue.proofs.store_fair.Statement.{statement}
 use Rattle.lent_queue.proofs.store_fair.Tie as tie
@@ -11,4 +12,4 @@ store-fair-spec =
     (λ c κs. search needs)
     (λ c κs. search needs)
     (λ c κs. search needs)
-    (λ c. search (lending) depth 8))
+    (λ c. (search (lending) depth 8, search queue-framing depth 8)))

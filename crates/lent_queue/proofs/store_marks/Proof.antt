@@ -9,4 +9,4 @@ store-marks-spec =
     tie.close
     (tie.spec
     (λ c κs. search needs)
-    (λ c. search stores depth 8))
+    (λ c. (search stores depth 8, search)))

@@ -1,6 +1,7 @@
 -- One case for each membership.
 use Rattle.thread.specs.MembershipLaws.{memberships}
 use Rattle.queue.specs.Queue.{withParts}
+use Rattle.lent_queue.specs.FrameLaws.{queue-framing}
 use borrow.Author.Needs.{needs}
 use Rattle.lent_queue.proofs.store_parts.Statement.{statement}
 use Rattle.lent_queue.proofs.store_parts.Tie as tie
@@ -17,8 +18,8 @@ store-parts-spec =
     (λ c κs. search needs)
     (λ c. search needs)
     (λ c. search needs)
-    (λ c. search (memberships) depth 8)
-    (λ c. search (memberships) depth 8)
-    (λ c. search (memberships) depth 8)
-    (λ c. search (memberships) depth 8)
-    (λ c. search (memberships) depth 8))
+    (λ c. (search (memberships) depth 8, search queue-framing depth 8))
+    (λ c. (search (memberships) depth 8, search queue-framing depth 8))
+    (λ c. (search (memberships) depth 8, search queue-framing depth 8))
+    (λ c. (search (memberships) depth 8, search queue-framing depth 8))
+    (λ c. (search (memberships) depth 8, search queue-framing depth 8)))

@@ -14,4 +14,4 @@ words-of-list-spec =
     (λ c. search needs)
     (λ c. search needs)
     (λ c. search needs)
-    (λ c. search stores depth 8))
+    (λ c. (search stores depth 8, (search, search))))
