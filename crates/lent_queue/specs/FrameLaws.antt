@@ -149,4 +149,6 @@ module _ (b : List (List ℕ)) (w : List ℕ) {c : List (List ℕ)} (s : c ≡ s
 
 pub ruleset queue-framing = (queue-as-it-was, queue-then)
 
+pub ruleset roots-framing = (roots-as-they-were, roots-then)
+
 pub ruleset row-framing = (real-time-framed, fair-framed, root-framed, counts-framed, mark-framed)

@@ -12,6 +12,7 @@ ghost use Rattle.algorithms.specs.Answers.{runtimeAnswer};
 ghost use Rattle.codec.specs.Codec.{decoded};
 ghost use Rattle.rows.specs.Table.{table, out};
 ghost use Rattle.rows.specs.Frame.{Framed};
+ghost use Rattle.lent_queue.specs.Frame.{RootsFramed};
 ghost use Rattle.queue.specs.Answers.{verdictAnswer};
 ghost use Rattle.renewal.specs.Renewal as renewal;
 ghost use Rattle.renewal.specs.Steps as steps;
@@ -323,6 +324,7 @@ fn move_all(
 fn store_trees(roots: &mut [QueueRow], role: usize, trees: BudgetTrees)
     requires { ⌜ role < 3 ⌝ }
     ensures { λ r. ⌜ rootsOf (now (roots .exit)) ≡ renewal.withTrees (rootsOf (now (roots .entry))) role trees ⌝ }
+    ensures { λ r. ⌜ RootsFramed (now (roots .entry)) (now (roots .exit)) ⌝ }
 {
     let exhausted = trees.exhausted;
     let ready = trees.ready;
@@ -343,6 +345,7 @@ fn renew_role(
     ensures { λ r. ⌜ out (leaves (roleAnswer r) (rootsOf (now (roots .exit)))) (table (now (t .exit)))
         ≡ steps.roleRenewed role moves (table (now (t .entry))) (rootsOf (now (roots .entry))) reading ⌝ }
     ensures { λ r. ⌜ Framed (now (t .entry)) (now (t .exit)) ⌝ }
+    ensures { λ r. ⌜ RootsFramed (now (roots .entry)) (now (roots .exit)) ⌝ }
 {
     let exhausted = root_at(roots, EXHAUSTED + role);
     if exhausted.is_none() {
@@ -367,6 +370,7 @@ pub fn renew_roles(t: &mut [Row], path: &mut Path, roots: &mut [QueueRow], readi
         ≡ renewal.renewRoles 3 (length (table (now (t .entry)))) (table (now (t .entry)))
         (rootsOf (now (roots .entry))) reading ⌝ }
     ensures { λ r. ⌜ Framed (now (t .entry)) (now (t .exit)) ⌝ }
+    ensures { λ r. ⌜ RootsFramed (now (roots .entry)) (now (roots .exit)) ⌝ }
 {
     let mut moves = t.len() as u64;
     let mut left: usize = 3;

@@ -1,6 +1,7 @@
 // Roots as rows of five words, of which the first two count: the rows of a lent queue.
 ghost use mathlib.Core.Path.{_≡_};
 ghost use lib.ListN.{set};
+ghost use Rattle.lent_queue.specs.Frame.{RootsFramed};
 ghost use Rattle.renewal.specs.Renewal.{rootAt};
 ghost use Rattle.renewal.specs.RootRows.{rootsOf};
 use codec::link_from;
@@ -23,6 +24,7 @@ pub fn root_at(rows: &[QueueRow], k: usize) -> Link
 
 pub fn set_root(rows: &mut [QueueRow], index: usize, root: Link)
     ensures { λ r. ⌜ rootsOf (now (rows .exit)) ≡ set (rootsOf (now (rows .entry))) index (record { root = root }) ⌝ }
+    ensures { λ r. ⌜ RootsFramed (now (rows .entry)) (now (rows .exit)) ⌝ }
 {
     if index < rows.len() {
         let row = rows[index];

@@ -1,5 +1,6 @@
 -- Each root at its place.
 use Rattle.renewal.specs.RenewalLaws.{one-role}
+use Rattle.lent_queue.specs.FrameLaws.{roots-framing}
 use borrow.Author.Needs.{needs}
 use Rattle.renewal.proofs.store_trees.Statement.{statement}
 use Rattle.renewal.proofs.store_trees.Tie as tie
@@ -13,4 +14,4 @@ store-trees-spec =
     (λ c. search needs)
     (λ c κs. search needs)
     (λ c. search needs)
-    (λ c. search one-role depth 8))
+    (λ c. (search one-role depth 8, search roots-framing depth 8)))
