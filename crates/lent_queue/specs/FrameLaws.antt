@@ -19,13 +19,13 @@ use Rattle.lent_queue.specs.LentQueue.{lenWord, epochTag, epochWord, mar
 use Rattle.lent_queue.specs.Frame.{headWords, tailWords, spareWords, epochWords, markWords, aMark, ListFramed}
 use Rattle.lent_queue.specs.Frame.{RootFramed, MarksFramed, QueueFramed, RootsFramed}
 
-list-as-it-was : (w : List ℕ) → ListFramed w w
+pub list-as-it-was : (w : List ℕ) → ListFramed w w
 list-as-it-was w = record { head = kept refl; tail = kept refl }
 
 root-as-it-was : (w : List ℕ) → RootFramed w w
 root-as-it-was w = record { head = kept refl; spare = refl }
 
-marks-as-they-were : (w : List ℕ) → MarksFramed w w
+pub marks-as-they-were : (w : List ℕ) → MarksFramed w w
 marks-as-they-were w = record { epoch = kept refl; mark = kept refl }
 
 root-then : {w v u : List ℕ} → RootFramed w v → RootFramed v u → RootFramed w u
@@ -151,4 +151,4 @@ pub ruleset queue-framing = (queue-as-it-was, queue-then)
 
 pub ruleset roots-framing = (roots-as-they-were, roots-then)
 
-pub ruleset row-framing = (real-time-framed, fair-framed, root-framed, counts-framed, mark-framed)
+pub ruleset row-framing = (real-time-framed, fair-framed, root-framed, counts-framed, mark-framed, epoch-framed)

@@ -1,7 +1,7 @@
 -- Laws by which the functions meet the definitions, and that selection as they take it is `peekNext`.
 use Prim.Native.Nat.{ℕ, zero, suc, _+_, _-_, _/_, _<_, _≤_, min}
 use native.Mathlib.Omega.{arith}
-use mathlib.Core.Path.{_≡_, refl, sym, ap, _∙_}
+use mathlib.Core.Path.{_≡_, refl, sym, ap, subst, _∙_}
 use mathlib.Core.Bool.{Bool, true, false}
 use mathlib.Core.List.{List, [], _∷_, _++_}
 use lib.Dec.{ltb}
@@ -18,6 +18,8 @@ use Rattle.queue.specs.declared.Verdict.the-variants as verdict
 use Rattle.queue.specs.Answers.{verdictAnswer}
 use Rattle.lent_queue.specs.LentQueue.{queueRows, priorities, treeCount, fairRow, rootRows, marksRow, totalWord}
 use Rattle.lent_queue.specs.LentQueue.{budgetsWord, epochTag, epochWord, markWord, haltedFrom, queueOf, withMarks}
+use Rattle.lent_queue.specs.Frame.{ListFramed, RootFramed, MarksFramed, QueueFramed, RootsFramed}
+use Rattle.lent_queue.specs.FrameLaws.{list-as-it-was, marks-as-they-were}
 use Rattle.codec.specs.Codec.{word, epochFrom}
 use Rattle.time.specs.declared.Epoch.{Epoch}
 use Rattle.time.specs.declared.Epoch.the-variants as epoch
@@ -63,11 +65,14 @@ module _ (rows part : List (List ℕ)) (size : length rows ≡ queueRows) (of-pa
       take-append-le priorities front (part ++ rear) (let s : length front ≡ rootRows = front-size in omega arith)
       ∙ take-take priorities rootRows rows (omega arith)
 
+  list-kept : (p : ℕ) → p < rootRows → getD put p [] ≡ getD rows p []
+  list-kept p h =
+      sym (getD-take rootRows put p [] h)
+      ∙ ap (λ l. getD l p []) (take-at front (part ++ rear) rootRows front-size)
+      ∙ getD-take rootRows rows p [] h
+
   fair-kept : getD put fairRow [] ≡ getD rows fairRow []
-  fair-kept =
-      sym (getD-take rootRows put fairRow [] (omega arith))
-      ∙ ap (λ l. getD l fairRow []) (take-at front (part ++ rear) rootRows front-size)
-      ∙ getD-take rootRows rows fairRow [] (omega arith)
+  fair-kept = list-kept fairRow (omega arith)
 
   roots-put : take treeCount (drop rootRows put) ≡ part
   roots-put =
@@ -82,6 +87,22 @@ module _ (rows part : List (List ℕ)) (size : length rows ≡ queueRows) (of-pa
       ∙ getD-drop treeCount (drop rootRows rows) 0 []
       ∙ getD-drop rootRows rows treeCount []
 
+  root-put : (k : ℕ) → k < treeCount → getD put (rootRows + k) [] ≡ getD part k []
+  root-put k h =
+      sym (getD-take treeCount (drop rootRows put) k [] h ∙ getD-drop rootRows put k [])
+      ∙ ap (λ l. getD l k []) roots-put
+
+  pub queue-framed : RootsFramed (take treeCount (drop rootRows rows)) part → QueueFramed rows put
+  queue-framed f =
+      record {
+        list = λ p h. subst (ListFramed (getD rows p [])) (sym (list-kept p h)) (list-as-it-was (getD rows p []));
+        root = λ k h. subst (λ w. RootFramed w (getD put (rootRows + k) []))
+            (getD-take treeCount (drop rootRows rows) k [] h ∙ getD-drop rootRows rows k [])
+            (subst (RootFramed (getD (take treeCount (drop rootRows rows)) k [])) (sym (root-put k h)) (f .root k));
+        marks = subst (MarksFramed (getD rows marksRow [])) (sym marks-kept)
+            (marks-as-they-were (getD rows marksRow []));
+      }
+
   pub roots-stored : queueOf put ≡ withIndices (queueOf rows) (rootsOf part)
   unfolding queueOf withIndices rootsOf
   roots-stored = rw (lists-kept, fair-kept, roots-put, marks-kept)
@@ -91,6 +112,11 @@ pub part-size : (rows : List (List ℕ)) → length rows ≡ queueRows
 part-size rows h =
     length-take treeCount (drop rootRows rows)
     ∙ ap (min treeCount) (length-drop rootRows rows ∙ ap (λ n. n - rootRows) h)
+
+pub roots-framed : (rows part : List (List ℕ)) → length rows ≡ queueRows
+    → RootsFramed (take treeCount (drop rootRows rows)) part
+    → QueueFramed rows (take rootRows rows ++ (part ++ drop treeCount (drop rootRows rows)))
+roots-framed rows part h f = queue-framed rows part h (f .count ∙ part-size rows h) f
 
 pub roots-renewed : {a : Answer (Unit {0})} {t₁ : List ThreadRecord} (t : List ThreadRecord) (rows part : List (List ℕ))
     (now : ℕ) → length rows ≡ queueRows → length part ≡ length (take treeCount (drop rootRows rows))

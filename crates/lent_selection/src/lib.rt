@@ -7,6 +7,7 @@ ghost use Rattle.rows.specs.Frame.{Framed};
 ghost use Rattle.refusal.specs.Answer.{numberOf};
 ghost use Rattle.queue.specs.Answers.{verdictAnswer};
 ghost use Rattle.lent_queue.specs.LentQueue.{queueRows, queueOf};
+ghost use Rattle.lent_queue.specs.Frame.{QueueFramed};
 ghost use Rattle.renewal.specs.Leaves.{leaves};
 ghost use Rattle.selection.specs.Peek as peek;
 ghost use Rattle.selection.specs.Steps.{lookedAt};
@@ -43,6 +44,7 @@ use time::epoch_of;
 // The epoch of a change of period that was made.
 fn store_epoch(q: &mut QueueRows, epoch: u64)
     ensures { λ r. ⌜ queueOf (now (q .exit)) ≡ withEpoch (queueOf (now (q .entry))) epoch ⌝ }
+    ensures { λ r. ⌜ QueueFramed (now (q .entry)) (now (q .exit)) ⌝ }
 {
     let row = q[MARKS_ROW];
     store_marks(
@@ -60,6 +62,7 @@ fn store_epoch(q: &mut QueueRows, epoch: u64)
 // The mark of a change of period that was refused: Halted leaves it.
 fn store_mark(q: &mut QueueRows, refusal: Refusal)
     ensures { λ r. ⌜ queueOf (now (q .exit)) ≡ withMark (queueOf (now (q .entry))) (numberOf refusal) ⌝ }
+    ensures { λ r. ⌜ QueueFramed (now (q .entry)) (now (q .exit)) ⌝ }
 {
     let row = q[MARKS_ROW];
     if refusal.number() == HALTED {
@@ -82,6 +85,7 @@ fn renew_roots(q: &mut [QueueRow], t: &mut [Row], path: &mut Path, reading: u64)
     ensures { λ r. ⌜ out (leaves (verdictAnswer r) (queueOf (now (q .exit)))) (table (now (t .exit)))
         ≡ renewedRoots (table (now (t .entry))) (queueOf (now (q .entry))) reading ⌝ }
     ensures { λ r. ⌜ Framed (now (t .entry)) (now (t .exit)) ⌝ }
+    ensures { λ r. ⌜ QueueFramed (now (q .entry)) (now (q .exit)) ⌝ }
 {
     let start = ROOT_ROWS;
     let end = MARKS_ROW;
@@ -100,6 +104,7 @@ fn renew_lent(
     ensures { λ r. ⌜ out (leaves (verdictAnswer r) (queueOf (now (q .exit)))) (table (now (t .exit)))
         ≡ renewedQueue (table (now (t .entry))) (queueOf (now (q .entry))) reading epoch ⌝ }
     ensures { λ r. ⌜ Framed (now (t .entry)) (now (t .exit)) ⌝ }
+    ensures { λ r. ⌜ QueueFramed (now (q .entry)) (now (q .exit)) ⌝ }
 {
     let budget_epoch = epoch_at(q);
     if is_epoch(budget_epoch, epoch) {
@@ -151,6 +156,7 @@ fn peek_running(
         (table (now (t .exit))) ≡ runningQueue (table (now (t .entry)))
         (queueOf (now (q .entry))) cpu reading window current ⌝ }
     ensures { λ r. ⌜ Framed (now (t .entry)) (now (t .exit)) ⌝ }
+    ensures { λ r. ⌜ QueueFramed (now (q .entry)) (now (q .exit)) ⌝ }
 {
     let config = window.config;
     let epoch = epoch_of(reading, config.period_ns);
@@ -180,6 +186,7 @@ pub fn peek_lent(
     ensures { λ r. ⌜ (Early (now (t .entry)) window (queueOf (now (q .entry))) → now (q .exit) ≡ now (q .entry)) ⌝ }
     ensures { λ r. ⌜ (Early (now (t .entry)) window (queueOf (now (q .entry))) → now (t .exit) ≡ now (t .entry)) ⌝ }
     ensures { λ r. ⌜ Framed (now (t .entry)) (now (t .exit)) ⌝ }
+    ensures { λ r. ⌜ QueueFramed (now (q .entry)) (now (q .exit)) ⌝ }
 {
     let config = window.config;
     if MAX_RECORDS < t.len() {

@@ -1,5 +1,5 @@
 -- The rows of the roots, and the other rows as they were.
-use Rattle.lent_selection.specs.LentLaws.{renewals}
+use Rattle.lent_selection.specs.LentLaws.{renewals, roots-framed}
 use Rattle.rows.specs.Frame.{framing}
 use borrow.Author.Needs.{needs}
 use Rattle.lent_selection.proofs.renew_roots.Statement.{statement}
@@ -16,4 +16,4 @@ renew-roots-spec =
     (λ c κs. search needs)
     (λ c. search needs)
     (λ c. search needs)
-    (λ c. (search (renewals, needs) depth 8, search framing depth 8)))
+    (λ c. (search (renewals, needs) depth 8, (search framing depth 8, search (roots-framed, needs) depth 8))))

@@ -1,5 +1,6 @@
 -- The one row that is stored; there are 270.
 use Rattle.lent_selection.specs.LentLaws.{renewals}
+use Rattle.lent_queue.specs.FrameLaws.{row-framing, queue-framing}
 use borrow.Author.Needs.{needs}
 use Rattle.lent_selection.proofs.store_epoch.Statement.{statement}
 use Rattle.lent_selection.proofs.store_epoch.Tie as tie
@@ -13,4 +14,4 @@ store-epoch-spec =
     (λ c. search needs)
     (λ c. search needs)
     (λ c κs. search needs)
-    (λ c. search (renewals, needs) depth 8))
+    (λ c. (search (renewals, needs) depth 8, search (row-framing, queue-framing, needs) depth 8)))

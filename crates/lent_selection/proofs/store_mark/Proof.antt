@@ -1,5 +1,6 @@
 -- The one row that is stored, or none.
 use Rattle.lent_selection.specs.LentLaws.{renewals}
+use Rattle.lent_queue.specs.FrameLaws.{row-framing, queue-framing}
 use borrow.Author.Needs.{needs}
 use Rattle.lent_selection.proofs.store_mark.Statement.{statement}
 use Rattle.lent_selection.proofs.store_mark.Tie as tie
@@ -15,5 +16,5 @@ store-mark-spec =
     (λ c. search needs)
     (λ c. search needs)
     (λ c κs. search needs)
-    (λ c. search (renewals, needs) depth 8)
-    (λ c. search (renewals, needs) depth 8))
+    (λ c. (search (renewals, needs) depth 8, search (row-framing, queue-framing, needs) depth 8))
+    (λ c. (search (renewals, needs) depth 8, search (row-framing, queue-framing, needs) depth 8)))
