@@ -3,6 +3,7 @@ ghost use mathlib.Core.Bool.{true, false};
 ghost use mathlib.Core.Path.{_≡_};
 ghost use Rattle.queue.specs.Answers.{verdictAnswer};
 ghost use Rattle.lent_queue.specs.LentQueue.{queueOf};
+ghost use Rattle.lent_queue.specs.Frame.{QueueFramed};
 ghost use Rattle.board.specs.Board.{left, numbered, Spares, Makes, Enqueues, Removes, lengthsOf, lengths};
 ghost use Rattle.rows.specs.Frame.{Framed};
 use board_words::LengthWords;
@@ -49,6 +50,7 @@ pub extern "C" fn board_enqueue(
     ensures { λ r. ⌜ (queueOf (now (q .entry)) .halted ≡ true → now (q .exit) ≡ now (q .entry)) ⌝ }
     ensures { λ r. ⌜ (queueOf (now (q .entry)) .halted ≡ true → now (t .exit) ≡ now (t .entry)) ⌝ }
     ensures { λ r. ⌜ Framed (now (t .entry)) (now (t .exit)) ⌝ }
+    ensures { λ r. ⌜ QueueFramed (now (q .entry)) (now (q .exit)) ⌝ }
 {
     number_of(enqueue_lent(q, t, path, ThreadId(id), CpuIndex(cpu), false))
 }
@@ -68,6 +70,7 @@ pub extern "C" fn board_enqueue_front(
     ensures { λ r. ⌜ (queueOf (now (q .entry)) .halted ≡ true → now (q .exit) ≡ now (q .entry)) ⌝ }
     ensures { λ r. ⌜ (queueOf (now (q .entry)) .halted ≡ true → now (t .exit) ≡ now (t .entry)) ⌝ }
     ensures { λ r. ⌜ Framed (now (t .entry)) (now (t .exit)) ⌝ }
+    ensures { λ r. ⌜ QueueFramed (now (q .entry)) (now (q .exit)) ⌝ }
 {
     number_of(enqueue_lent(q, t, path, ThreadId(id), CpuIndex(cpu), true))
 }
@@ -87,6 +90,7 @@ pub extern "C" fn board_remove(
     ensures { λ r. ⌜ (queueOf (now (q .entry)) .halted ≡ true → now (q .exit) ≡ now (q .entry)) ⌝ }
     ensures { λ r. ⌜ (queueOf (now (q .entry)) .halted ≡ true → now (t .exit) ≡ now (t .entry)) ⌝ }
     ensures { λ r. ⌜ Framed (now (t .entry)) (now (t .exit)) ⌝ }
+    ensures { λ r. ⌜ QueueFramed (now (q .entry)) (now (q .exit)) ⌝ }
 {
     number_of(remove_lent(q, t, path, ThreadId(id), CpuIndex(cpu)))
 }

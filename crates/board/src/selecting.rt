@@ -3,6 +3,7 @@ ghost use mathlib.Core.Path.{_≡_};
 ghost use Rattle.selection.specs.Answers.{peekAnswer};
 ghost use Rattle.window_words.specs.WindowWords.{windowOf};
 ghost use Rattle.lent_queue.specs.LentQueue.{queueOf};
+ghost use Rattle.lent_queue.specs.Frame.{QueueFramed};
 ghost use Rattle.lent_selection.specs.Early.{Early};
 ghost use Rattle.board_words.specs.BoardWords.{selectionFrom};
 ghost use Rattle.board.specs.Board.{left, Stays, answered, Selects};
@@ -70,6 +71,7 @@ pub extern "C" fn board_select(
     ensures { λ r. ⌜ (Early (now (t .entry)) (windowOf (now (window .entry))) (queueOf (now (q .entry)))
         → now (t .exit) ≡ now (t .entry)) ⌝ }
     ensures { λ r. ⌜ Framed (now (t .entry)) (now (t .exit)) ⌝ }
+    ensures { λ r. ⌜ QueueFramed (now (q .entry)) (now (q .exit)) ⌝ }
 {
     // In this order, and with the answer stored first, the compiler holds fewer words over the walk.
     let its_current = current_of(running, *current);

@@ -2,6 +2,7 @@
 use Rattle.board.specs.BoardLaws.{board-laws}
 use Rattle.board.specs.KeepingLaws.{keeping}
 use Rattle.rows.specs.Frame.{framing}
+use Rattle.lent_queue.specs.FrameLaws.{queue-framing}
 use borrow.Author.Needs.{needs}
 use Rattle.board.proofs.queueing.board_enqueue_front.Statement.{statement}
 use Rattle.board.proofs.queueing.board_enqueue_front.Tie as tie
@@ -15,5 +16,5 @@ board-enqueue-front-spec =
     (λ c. search needs)
     (λ c. (
       search board-laws depth 8,
-      (search keeping, (search keeping, (search keeping, (search keeping, search framing depth 8)))),
+      (search keeping, (search keeping, (search keeping, (search keeping, (search framing depth 8, search queue-framing depth 8))))),
     )))

@@ -2,6 +2,7 @@
 use Rattle.board.specs.BoardLaws.{board-laws}
 use Rattle.board.specs.KeepingLaws.{keeping, early-keeps}
 use Rattle.rows.specs.Frame.{framing}
+use Rattle.lent_queue.specs.FrameLaws.{queue-framing}
 use borrow.Author.Needs.{needs}
 use Rattle.board.proofs.selecting.board_select.Statement.{statement}
 use Rattle.board.proofs.selecting.board_select.Tie as tie
@@ -25,7 +26,7 @@ board-select-spec =
             early-keeps (c .before .before .before .before .before .peek-lent .ensures .1 .0) (search needs),
             (
               early-keeps (c .before .before .before .before .before .peek-lent .ensures .1 .1 .0) (search needs),
-              search framing depth 8,
+              (search framing depth 8, search queue-framing depth 8),
             ),
           ),
         ),
