@@ -74,6 +74,10 @@ module _ (rows : List (List ℕ)) (t : List ThreadRecord) where
         rw (sym (all-used h), take-at part (postOf 0 (length t - 0) rows) (length t) m)
         (sym e ∙ sym (take-all (length t) s fits))
 
+-- What a call leaves of records and rows, and with it what it leaves of the queue's words.
+pub and-of-queue : {A B C D : Type 0} → A × (B × C) → D → A × (B × (C × D))
+and-of-queue (a, (b, c)) d = (a, (b, (c, d)))
+
 -- The two ways through a call: refused for want of rows, with records and rows as they were; and the records copied to
 -- the first rows, the core's call made on these, and the records copied back.
 module _ {A : Type 0} (rows : List (List ℕ)) (t : List ThreadRecord) (few : A) where

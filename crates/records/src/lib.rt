@@ -2,6 +2,7 @@
 // too, makes the core's call on the rows and copies the records back. The contracts have the core's definitions, over
 // the caller's own records. Fewer rows than records is BadTable with nothing changed; more than 4,096 records are
 // copied, and the core's call is BadTable.
+ghost use Prim.Native.Nat.{_<_};
 ghost use mathlib.Core.Bool.{true, false};
 ghost use mathlib.Core.Path.{_≡_};
 ghost use lib.ListN.{length, take, drop};
@@ -9,9 +10,12 @@ ghost use Rattle.refusal.specs.Answer.{refused, badTable};
 ghost use Rattle.arbitration.specs.Answers.{verdictOf, windowStep};
 ghost use Rattle.arbitration.specs.Calls.{with};
 ghost use Rattle.rows.specs.Table.{table, out};
+ghost use Rattle.rows.specs.Unmoved.{Spared};
 ghost use Rattle.queue.specs.Queue.{step, enqueueCall, removeCall};
 ghost use Rattle.queue.specs.Answers.{verdictAnswer};
 ghost use Rattle.lent_queue.specs.LentQueue.{queueOf};
+ghost use Rattle.lent_queue.specs.Frame.{QueueFramed};
+ghost use Rattle.lent_selection.specs.Early.{Early};
 ghost use Rattle.selection.specs.Peek.{peeked, peekNext};
 ghost use Rattle.selection.specs.Answers.{peekAnswer};
 ghost use Rattle.runtime.specs.Prepare.{counted, prepareEnqueue};
@@ -81,6 +85,9 @@ fn insert(
         ≡ drop (used (now (rows .entry)) (now (t .entry))) (now (rows .entry)) ⌝ }
     ensures { λ r. ⌜ table (take (used (now (rows .entry)) (now (t .entry))) (now (rows .exit)))
         ≡ take (used (now (rows .entry)) (now (t .entry))) (now (t .exit)) ⌝ }
+    ensures { λ r. ⌜ Spared (verdictAnswer r) (now (q .entry)) (now (q .exit)) ⌝ }
+    ensures { λ r. ⌜ (queueOf (now (q .entry)) .halted ≡ true → now (q .exit) ≡ now (q .entry)) ⌝ }
+    ensures { λ r. ⌜ QueueFramed (now (q .entry)) (now (q .exit)) ⌝ }
 {
     let n = t.len();
     if rows.len() < n {
@@ -108,6 +115,9 @@ pub fn enqueue(
         ≡ drop (used (now (rows .entry)) (now (t .entry))) (now (rows .entry)) ⌝ }
     ensures { λ r. ⌜ table (take (used (now (rows .entry)) (now (t .entry))) (now (rows .exit)))
         ≡ take (used (now (rows .entry)) (now (t .entry))) (now (t .exit)) ⌝ }
+    ensures { λ r. ⌜ Spared (verdictAnswer r) (now (q .entry)) (now (q .exit)) ⌝ }
+    ensures { λ r. ⌜ (queueOf (now (q .entry)) .halted ≡ true → now (q .exit) ≡ now (q .entry)) ⌝ }
+    ensures { λ r. ⌜ QueueFramed (now (q .entry)) (now (q .exit)) ⌝ }
 {
     insert(q, t, rows, path, id, cpu, false)
 }
@@ -127,6 +137,9 @@ pub fn enqueue_front(
         ≡ drop (used (now (rows .entry)) (now (t .entry))) (now (rows .entry)) ⌝ }
     ensures { λ r. ⌜ table (take (used (now (rows .entry)) (now (t .entry))) (now (rows .exit)))
         ≡ take (used (now (rows .entry)) (now (t .entry))) (now (t .exit)) ⌝ }
+    ensures { λ r. ⌜ Spared (verdictAnswer r) (now (q .entry)) (now (q .exit)) ⌝ }
+    ensures { λ r. ⌜ (queueOf (now (q .entry)) .halted ≡ true → now (q .exit) ≡ now (q .entry)) ⌝ }
+    ensures { λ r. ⌜ QueueFramed (now (q .entry)) (now (q .exit)) ⌝ }
 {
     insert(q, t, rows, path, id, cpu, true)
 }
@@ -146,6 +159,9 @@ pub fn remove(
         ≡ drop (used (now (rows .entry)) (now (t .entry))) (now (rows .entry)) ⌝ }
     ensures { λ r. ⌜ table (take (used (now (rows .entry)) (now (t .entry))) (now (rows .exit)))
         ≡ take (used (now (rows .entry)) (now (t .entry))) (now (t .exit)) ⌝ }
+    ensures { λ r. ⌜ Spared (verdictAnswer r) (now (q .entry)) (now (q .exit)) ⌝ }
+    ensures { λ r. ⌜ (queueOf (now (q .entry)) .halted ≡ true → now (q .exit) ≡ now (q .entry)) ⌝ }
+    ensures { λ r. ⌜ QueueFramed (now (q .entry)) (now (q .exit)) ⌝ }
 {
     let n = t.len();
     if rows.len() < n {
@@ -176,6 +192,9 @@ pub fn peek_next(
         ≡ drop (used (now (rows .entry)) (now (t .entry))) (now (rows .entry)) ⌝ }
     ensures { λ r. ⌜ table (take (used (now (rows .entry)) (now (t .entry))) (now (rows .exit)))
         ≡ take (used (now (rows .entry)) (now (t .entry))) (now (t .exit)) ⌝ }
+    ensures { λ r. ⌜ (length (now (rows .entry)) < length (now (t .entry)) → now (q .exit) ≡ now (q .entry)) ⌝ }
+    ensures { λ r. ⌜ (Early (now (t .entry)) window (queueOf (now (q .entry))) → now (q .exit) ≡ now (q .entry)) ⌝ }
+    ensures { λ r. ⌜ QueueFramed (now (q .entry)) (now (q .exit)) ⌝ }
 {
     let n = t.len();
     if rows.len() < n {

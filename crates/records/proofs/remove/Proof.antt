@@ -8,10 +8,13 @@ use borrow.Author.Needs.{needs}
 use Rattle.thread.specs.declared.ThreadRecord.{ThreadRecord}
 use Rattle.queue.specs.Queue.{removeCall}
 use Rattle.lent_queue.specs.LentQueue.{queueOf}
-use Rattle.records.proofs.Laws.{too-few, called}
+use Rattle.rows.specs.Unmoved.{unmoving}
+use Rattle.lent_queue.specs.FrameLaws.{queue-framing}
+use Rattle.records.proofs.Laws.{too-few, called, and-of-queue}
 
 returns : tie.Need-returns
-returns c = too-few _ _ _ _ (c .if1 .taken)
+returns c = and-of-queue (too-few _ _ _ _ (c .if1 .taken))
+    (search unmoving, (search unmoving, search queue-framing))
 
 returns-2 : tie.Need-returns-2
 returns-2 c =
@@ -19,11 +22,13 @@ returns-2 c =
     .before .before .before .args in
     let copying = c .before .before .before .before .before .before .before .before .before .before .before .to-rows in
     let core = c .before .before .before .before .before .before .remove-lent in
-    called (args .rows .now) (args .t .now)
+    and-of-queue
+    (called (args .rows .now) (args .t .now)
     _ (λ (l : List ThreadRecord). removeCall l (queueOf (args .q .now)) (args .id .0) (args .cpu)) (copying .last .1 .0)
     (core .last .1 .0)
     (c .before .before .before .before .before .before .before .before .before .before .before .before .before .before
-    .before .if1 .left) (copying .ensures) (core .kept .1 .0) (core .ensures .0) (c .before .before .from-rows .ensures)
+    .before .if1 .left) (copying .ensures) (core .kept .1 .0) (core .ensures .0) (c .before .before .from-rows .ensures))
+    (core .ensures .1 .0, (core .ensures .1 .1 .1 .0, core .ensures .1 .1 .1 .1 .1 .1))
 
 pub remove-spec : {M : Type 1} → statement M
 remove-spec =
