@@ -14,8 +14,8 @@ use Rattle.codec.specs.Codec.{word}
 use Rattle.codec.specs.Frame.{Part, kept, stored}
 use Rattle.codec.specs.FrameLaws.{part-then}
 use Rattle.rows.specs.Frame.{replaced-count, replaced-by}
-use Rattle.lent_queue.specs.LentQueue.{treeCount, fairRow, rootRows, marksRow, headTag, headWord, tailTag, tailWord}
-use Rattle.lent_queue.specs.LentQueue.{lenWord, epochTag, epochWord, markWord, priorities}
+use Rattle.lent_queue.specs.LentQueue.{priorities, treeCount, fairRow, rootRows, marksRow, headTag, headWord}
+use Rattle.lent_queue.specs.LentQueue.{tailTag, tailWord, lenWord, epochTag, epochWord, markWord}
 use Rattle.lent_queue.specs.Frame.{headWords, tailWords, spareWords, epochWords, markWords, aMark, ListFramed}
 use Rattle.lent_queue.specs.Frame.{RootFramed, MarksFramed, QueueFramed, RootsFramed}
 
@@ -105,7 +105,8 @@ module _ (b : List (List ℕ)) (w : List ℕ) (head : optionEncodes (word w head
   root-framed k h first second third =
       record {
         list = λ j l. list-beside b (rootRows + k) w j (λ e. omega (arith, l));
-        root = λ j l. replaced-by RootFramed root-as-it-was b (rootRows + k) w (rooted first second third) (rootRows + j);
+        root = λ j l.
+            replaced-by RootFramed root-as-it-was b (rootRows + k) w (rooted first second third) (rootRows + j);
         marks = marks-beside b (rootRows + k) w marksRow (λ e. omega (arith, h));
       }
 

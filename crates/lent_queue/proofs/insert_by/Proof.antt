@@ -18,4 +18,7 @@ insert-by-spec =
     (λ c κs. search needs)
     (λ c κs. search needs)
     (λ c. search needs)
-    (λ c. (search (cases, plannings) depth 8, (search sparing, (search sparing, (search framing depth 8, search queue-framing depth 8))))))
+    (λ c. (
+      search (cases, plannings) depth 8,
+      (search sparing, (search sparing, (search framing depth 8, search queue-framing depth 8))),
+    )))

@@ -22,6 +22,12 @@ remove-filed-spec =
     (λ c. search needs)
     (λ c κs. search (cases, plannings, bounds) depth 8)
     (λ c. search needs)
-    (λ c. (search (cases, plannings, bounds) depth 8, (search unmoving, (search unmoving, (search framing depth 8, search queue-framing depth 8)))))
+    (λ c. (
+      search (cases, plannings, bounds) depth 8,
+      (search unmoving, (search unmoving, (search framing depth 8, search queue-framing depth 8))),
+    ))
     (λ c. search needs)
-    (λ c. (search (cases, plannings, bounds) depth 8, (search unmoving, (search unmoving, (search framing depth 8, search queue-framing depth 8))))))
+    (λ c. (
+      search (cases, plannings, bounds) depth 8,
+      (search unmoving, (search unmoving, (search framing depth 8, search queue-framing depth 8))),
+    )))

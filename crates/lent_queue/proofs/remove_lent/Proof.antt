@@ -23,7 +23,13 @@ remove-lent-spec =
       search (lending, bounds) depth 8,
       (
         search unmoving,
-        (search unmoving, (search (unmoving, sparing), (search (unmoving, sparing), (search framing depth 8, search queue-framing depth 8)))),
+        (
+          search unmoving,
+          (
+            search (unmoving, sparing),
+            (search (unmoving, sparing), (search framing depth 8, search queue-framing depth 8)),
+          ),
+        ),
       ),
     ))
     (λ c. search needs)
@@ -31,6 +37,12 @@ remove-lent-spec =
       search (lending, bounds) depth 8,
       (
         search unmoving,
-        (search unmoving, (search (unmoving, sparing), (search (unmoving, sparing), (search framing depth 8, search queue-framing depth 8)))),
+        (
+          search unmoving,
+          (
+            search (unmoving, sparing),
+            (search (unmoving, sparing), (search framing depth 8, search queue-framing depth 8)),
+          ),
+        ),
       ),
     )))

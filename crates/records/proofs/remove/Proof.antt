@@ -27,7 +27,8 @@ returns-2 c =
     _ (λ (l : List ThreadRecord). removeCall l (queueOf (args .q .now)) (args .id .0) (args .cpu)) (copying .last .1 .0)
     (core .last .1 .0)
     (c .before .before .before .before .before .before .before .before .before .before .before .before .before .before
-    .before .if1 .left) (copying .ensures) (core .kept .1 .0) (core .ensures .0) (c .before .before .from-rows .ensures))
+    .before .if1 .left) (copying .ensures) (core .kept .1 .0)
+    (core .ensures .0) (c .before .before .from-rows .ensures))
     (core .ensures .1 .0, (core .ensures .1 .1 .1 .0, core .ensures .1 .1 .1 .1 .1 .1))
 
 pub remove-spec : {M : Type 1} → statement M

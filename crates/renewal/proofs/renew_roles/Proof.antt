@@ -18,7 +18,8 @@ abbrev Inv-loop : tie.InvT-loop
 Inv-loop t₀ path₀ roots₀ reading moves₀ left₀ t path roots moves left =
     (left ≤ 3) × (length roots ≡ length roots₀) × (length t ≡ length t₀)
     × (renewRoles left moves (table t) (rootsOf roots) reading
-    ≡ whole (renewRoles 3 (length (table t₀)) (table t₀) (rootsOf roots₀) reading)) × Framed t₀ t × RootsFramed roots₀ roots
+    ≡ whole (renewRoles 3 (length (table t₀)) (table t₀) (rootsOf roots₀) reading))
+    × Framed t₀ t × RootsFramed roots₀ roots
 
 abbrev μ-loop : tie.MeasureT-loop
 μ-loop t₀ path₀ roots₀ reading moves₀ left₀ t path roots moves left = left
@@ -35,7 +36,14 @@ renew-roles-spec =
     (λ c. search needs)
     (λ c. search needs)
     (λ c. search needs)
-    (λ c. (search needs, search needs, search needs, search roles depth 8, search framing depth 8, search roots-framing depth 8))
+    (λ c. (
+      search needs,
+      search needs,
+      search needs,
+      search roles depth 8,
+      search framing depth 8,
+      search roots-framing depth 8,
+    ))
     (λ c. search needs)
     (λ c. search needs)
     (λ c. search needs)

@@ -16,5 +16,8 @@ board-enqueue-spec =
     (λ c. search needs)
     (λ c. (
       search board-laws depth 8,
-      (search keeping, (search keeping, (search keeping, (search keeping, (search framing depth 8, search queue-framing depth 8))))),
+      (
+        search keeping,
+        (search keeping, (search keeping, (search keeping, (search framing depth 8, search queue-framing depth 8)))),
+      ),
     )))
