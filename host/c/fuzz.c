@@ -6,9 +6,10 @@
  * words of any kind. A fault is: a crash, a call that takes longer than a second or two, a word read or written
  * outside, a word changed that is only to be read, an answer that document 01 does not have for the entry, 10, 5, 9 or
  * 4 where another is due or missed, a halt without its mark, a word changed by a refusal that leaves it; and, whatever
- * is answered, a row's parameters, processor or spare words changed, a row that encoded a record and no longer does,
- * and a row changed that is not the named thread's, where the call has to do with that one alone. The table of answers
- * is printed; the last line is `fuzz: N calls, 0 faults`, and the exit status then 0. */
+ * is answered, a row's parameters, processor or spare words changed, those of a root's row in the queue too, a part of
+ * a row (a link, say) that is neither as it was nor an encoding, and a row changed that is not the named thread's,
+ * where the call has to do with that one alone. The table of answers is printed; the last line is
+ * `fuzz: N calls, 0 faults`, and the exit status then 0. */
 #define _GNU_SOURCE
 #include <inttypes.h>
 #include <setjmp.h>
@@ -22,7 +23,8 @@
 
 #include "board.h"
 
-enum { ANSWERS = 13, SHOWN = 20, WATCHED = 64, PAGE = 4096, MARK_ROW = 269, MARK_WORD = 4 };
+enum { ANSWERS = 13, SHOWN = 20, WATCHED = 64, PAGE = 4096, ROOT_ROW = 257, MARK_ROW = 269,
+       MARK_WORD = 4 };
 
 #define CANARY UINT64_C(0xa5a5a5a5a5a5a5a5)
 
@@ -112,8 +114,9 @@ static bool unchanged(const struct lent *thing)
     return hash(thing) == thing->before;
 }
 
-/* The rows before the call. */
+/* The table's rows and the queue's before the call. */
 static uint64_t rows_before[BOARD_MOST_RECORDS + 1][BOARD_ROW_WORDS];
+static uint64_t queue_before[BOARD_QUEUE_ROWS][BOARD_QUEUE_ROW_WORDS];
 
 enum { LEFT = 17, RIGHT = 19, HEIGHT = 21, PREVIOUS = 22, NEXT = 24, MEMBERSHIP = 26, PROCESSOR = 29, SPARE = 30 };
 
@@ -152,12 +155,43 @@ static bool membership_encodes(const uint64_t *w)
     }
 }
 
-/* Whether the words that calls store are those of some record. */
-static bool encodes(const uint64_t *w)
+static bool same(const uint64_t *was, const uint64_t *is, size_t count)
 {
-    return runtime_encodes(w + BOARD_ROW_RUNTIME) && option_encodes(w + LEFT) && option_encodes(w + RIGHT)
-        && w[HEIGHT] < 256 && option_encodes(w + PREVIOUS) && option_encodes(w + NEXT)
-        && membership_encodes(w + MEMBERSHIP);
+    return memcmp(was, is, count * sizeof *is) == 0;
+}
+
+/* What became of a part is an encoding, or is what it was: of an option, and of a runtime, whose burst is stored with
+   it and by itself. */
+static bool option_stored(const uint64_t *was, const uint64_t *is)
+{
+    return option_encodes(is) || same(was, is, 2);
+}
+
+static bool runtime_stored(const uint64_t *was, const uint64_t *is)
+{
+    uint64_t first[5] = {is[0], is[1], is[2], is[3], 0};
+    bool burst = is[0] == BOARD_POLICY_BUDGET || is[4] == 0;
+    return (runtime_encodes(first) || same(was, is, 4)) && (burst || (was[0] == is[0] && was[4] == is[4]));
+}
+
+static bool row_stored(const uint64_t *was, const uint64_t *is)
+{
+    return runtime_stored(was + BOARD_ROW_RUNTIME, is + BOARD_ROW_RUNTIME) && option_stored(was + LEFT, is + LEFT)
+        && option_stored(was + RIGHT, is + RIGHT) && (is[HEIGHT] < 256 || is[HEIGHT] == was[HEIGHT])
+        && option_stored(was + PREVIOUS, is + PREVIOUS) && option_stored(was + NEXT, is + NEXT)
+        && (membership_encodes(is + MEMBERSHIP) || same(was + MEMBERSHIP, is + MEMBERSHIP, 3));
+}
+
+/* A queue's row: a list, a root with three spare words, or counts, epoch and mark. */
+static bool queue_row_stored(size_t k, const uint64_t *was, const uint64_t *is)
+{
+    if (k < ROOT_ROW) {
+        return option_stored(was, is) && option_stored(was + 2, is + 2);
+    }
+    if (k < MARK_ROW) {
+        return option_stored(was, is) && same(was + 2, is + 2, 3);
+    }
+    return option_stored(was + 2, is + 2) && (is[MARK_WORD] < 2 || is[MARK_WORD] == was[MARK_WORD]);
 }
 
 /* ---- the caller's own words, which go from call to call ---- */
@@ -545,15 +579,23 @@ static void judge_rows(bool alone)
 {
     for (size_t i = 0; i < rows; i++) {
         const uint64_t *was = rows_before[i], *is = row(i);
-        if (memcmp(was, is, BOARD_ROW_RUNTIME * sizeof *is) != 0
-            || memcmp(was + PROCESSOR, is + PROCESSOR, (BOARD_ROW_WORDS - PROCESSOR) * sizeof *is) != 0) {
+        if (!same(was, is, BOARD_ROW_RUNTIME)
+            || !same(was + PROCESSOR, is + PROCESSOR, BOARD_ROW_WORDS - PROCESSOR)) {
             fault("parameters, processor or spare words of a row are changed", i);
         }
-        if (encodes(was) && !encodes(is)) {
+        if (!row_stored(was, is)) {
             fault("what is stored to a row is no record's encoding", i);
         }
-        if (alone && i != id && memcmp(was, is, BOARD_ROW_WORDS * sizeof *is) != 0) {
+        if (alone && i != id && !same(was, is, BOARD_ROW_WORDS)) {
             fault("the row of a thread that was not named is changed", i);
+        }
+    }
+}
+static void judge_queue(void)
+{
+    for (size_t k = 0; k < BOARD_QUEUE_ROWS; k++) {
+        if (!queue_row_stored(k, queue_before[k], queue.at + k * BOARD_QUEUE_ROW_WORDS)) {
+            fault("what is stored to a row of the queue is no encoding, or a spare word of it is changed", k);
         }
     }
 }
@@ -574,6 +616,9 @@ static void judge(uint64_t got, uint64_t wanted, bool halted_before)
     }
     if (lends[entry] & LENDS_TABLE) {
         judge_rows((lends[entry] & NAMES_A_THREAD) != 0 && (lends[entry] & LENDS_QUEUE) == 0);
+    }
+    if ((lends[entry] & LENDS_QUEUE) && entry != NEW) {
+        judge_queue();
     }
     bool leaves = got != BOARD_MADE && leaves_all(got, halted_before);
     for (size_t i = 0; i < sizeof all / sizeof *all; i++) {
@@ -650,6 +695,9 @@ static void call(void)
     bool halted_before = is_halted();
     if (lends[entry] & LENDS_TABLE) {
         memcpy(rows_before, table.at, table.words * sizeof(uint64_t));
+    }
+    if (lends[entry] & LENDS_QUEUE) {
+        memcpy(queue_before, queue.at, sizeof queue_before);
     }
     static volatile uint64_t got;
     int signalled = sigsetjmp(out, 1);
