@@ -1,6 +1,6 @@
 -- What calls leave of a row that encodes: it still does, and where its record is left every word is as it was. The
 -- words that no call stores are as they were in every row.
-use Prim.Native.Nat.{ℕ, suc, _%_}
+use Prim.Native.Nat.{ℕ, suc, _+_, _%_, _<_}
 use mathlib.Core.Path.{_≡_, refl, sym, ap, _∙_}
 use mathlib.Core.Bool.{Bool, true, false}
 use mathlib.Core.List.{List, [], _∷_}
@@ -8,7 +8,7 @@ use lib.Dec.{ltb, eqb}
 use lib.ListN.{length, getD, List·getD-map}
 use native.Mathlib.Omega.{arith}
 use borrow.Author.Tests.{eqb-true, ltb-true}
-use Rattle.refusal.specs.Cases.{never, choose, ifLess, ifEqual}
+use Rattle.refusal.specs.Cases.{choose, ifLess, ifEqual}
 use Rattle.thread.specs.declared.ThreadRecord.{ThreadRecord}
 use Rattle.policy_words.specs.PolicyWords.{runtimeTag, runtimeFirst, runtimeSecond, runtimeThird, runtimeFourth}
 use Rattle.policy_words.specs.PolicyWords.{policyTag, runtimeOf}
@@ -97,7 +97,7 @@ fourth-apart tag first second third fourth =
     go false false true false epoch last p q = refl
     go false false false none epoch last p q = refl
 
-part-encodes : {encodes : List ℕ → Bool} {was now : List ℕ} → encodes was ≡ true → Part encodes was now
+pub part-encodes : {encodes : List ℕ → Bool} {was now : List ℕ} → encodes was ≡ true → Part encodes was now
     → encodes now ≡ true
 part-encodes {encodes} e (kept p) = ap encodes p ∙ e
 part-encodes e (stored q) = q
@@ -162,7 +162,7 @@ joined-same : {b b' r r' l l' m m' p p' n n' q q' : List ℕ} {turn turn' height
 joined-same e₁ e₂ e₃ e₄ e₅ e₆ e₇ e₈ e₉ = rw (e₁, e₂, e₃, e₄, e₅, e₆, e₇, e₈, e₉)
 
 -- Two encodings of one value are the same words.
-same-words : {A : Type 0} (of : A → List ℕ) {x y : A} {a b : List ℕ} → of x ≡ a → of y ≡ b → y ≡ x → b ≡ a
+pub same-words : {A B : Type 0} (of : A → B) {x y : A} {a b : B} → of x ≡ a → of y ≡ b → y ≡ x → b ≡ a
 same-words of p q e = sym q ∙ ap of e ∙ p
 
 same-byte : (n m : ℕ) → ltb n 256 ≡ true → ltb m 256 ≡ true → m % 256 ≡ n % 256 → m ≡ n
@@ -234,16 +234,24 @@ row-same t s j f e d =
     encoded-same (getD t j []) (getD s j []) e (f .row j)
     (sym (List·getD-map decoded s j []) ∙ d ∙ List·getD-map decoded t j [])
 
--- A table of records' encodings is one after any call.
-rows-stay : (k : ℕ) (t s : List (List ℕ)) → Framed t s → allFrom recordAt k t ≡ true → allFrom recordAt k s ≡ true
+-- Rows that pass the test of their places all do so after a call that leaves each row passing.
+pub all-stay : (test : ℕ → List ℕ → Bool) (k : ℕ) (t s : List (List ℕ)) → length s ≡ length t
+    → ((j : ℕ) → j < length t → test (k + j) (getD t j []) ≡ true → test (k + j) (getD s j []) ≡ true)
+    → allFrom test k t ≡ true → allFrom test k s ≡ true
 unfolding allFrom
-rows-stay k [] [] f e = refl
-rows-stay k [] (y ∷ s) f e = absurd (omega (arith, f .count))
-rows-stay k (x ∷ t) [] f e = absurd (omega (arith, f .count))
-rows-stay k (x ∷ t) (y ∷ s) f e =
-    both-hold _ _ (record-stays x y (both-first _ _ e) (f .row 0))
-    (rows-stay (suc k) t s (record { count = omega (arith, f .count); row = λ j. f .row (suc j) }) (both-second _ _ e))
+all-stay test k [] [] n each e = refl
+all-stay test k [] (y ∷ s) n each e = absurd (omega (arith, n))
+all-stay test k (x ∷ t) [] n each e = absurd (omega (arith, n))
+all-stay test k (x ∷ t) (y ∷ s) n each e =
+    let here : k + 0 ≡ k = omega arith in
+    both-hold _ _ (rw here at (each 0 (omega arith) (rw here (both-first _ _ e))))
+    (all-stay test (suc k) t s (omega (arith, n))
+    (λ j l p.
+    let next : k + suc j ≡ suc k + j = omega arith in
+    rw next at (each (suc j) (omega (arith, l)) (rw next p))) (both-second _ _ e))
 
+-- A table of records' encodings is one after any call.
 pub table-stays : (t s : List (List ℕ)) → Framed t s → tableEncodes t ≡ true → tableEncodes s ≡ true
 unfolding tableEncodes
-table-stays t s f e = rows-stay 0 t s f e
+table-stays t s f e =
+    all-stay recordAt 0 t s (f .count) (λ j l p. record-stays (getD t j []) (getD s j []) p (f .row j)) e
