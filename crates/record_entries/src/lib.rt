@@ -1,7 +1,8 @@
 // C calls on lent words, through which the Rust host compares policies, budgets and runtimes with the kernel's source.
 // Each is the call of its name on what the words stand for. It answers document 01's number, 0 where the call was
-// accepted; a refusal leaves what the lent words stand for as it was.
+// accepted; a refusal leaves every lent word as it was.
 ghost use mathlib.Core.Path.{_≡_};
+ghost use mathlib.Core.Logic.{_≢_};
 ghost use Rattle.policy_words.specs.PolicyWords.{word, parametersOf, runtimeOf, policyFrom, roleFrom, backendFrom};
 ghost use Rattle.policy_words.specs.PolicyWords.{deadlineOf};
 ghost use Rattle.policy.specs.Budget.{newBudget, budgetMade};
@@ -97,6 +98,7 @@ pub extern "C" fn budget_parameters_new(
 ) -> u64
     ensures { λ r. ⌜ told r (budgetOf (now (answer .exit))) ≡ toldOf (budgetOf (now (answer .entry)))
         (newBudget «budget_ns» «period_ns» «burst_ns») ⌝ }
+    ensures { λ r. ⌜ (r ≢ 0 → now (answer .exit) ≡ now (answer .entry)) ⌝ }
 {
     let made = BudgetParameters::new(budget_ns, period_ns, burst_ns);
     match made {
@@ -342,6 +344,7 @@ fn words_of_budget_runtime(runtime: BudgetRuntime) -> RuntimeWords
 fn store_budget_runtime(runtime: &mut RuntimeWords, answer: BudgetAnswer) -> u64
     ensures { λ r. ⌜ told r (budgetRuntimeOf (now (runtime .exit))) ≡ toldOf (budgetRuntimeOf (now (runtime .entry)))
         (budgetAnswer answer) ⌝ }
+    ensures { λ r. ⌜ (r ≢ 0 → now (runtime .exit) ≡ now (runtime .entry)) ⌝ }
 {
     match answer {
         BudgetAnswer::Runtime(after) => {
@@ -355,6 +358,7 @@ fn store_budget_runtime(runtime: &mut RuntimeWords, answer: BudgetAnswer) -> u64
 fn store_deadline(answer: &mut DeadlineWords, given: DeadlineAnswer) -> u64
     ensures { λ r. ⌜ told r (deadlineOf (now (answer .exit))) ≡ toldOf (deadlineOf (now (answer .entry)))
         (deadlineAnswer given) ⌝ }
+    ensures { λ r. ⌜ (r ≢ 0 → now (answer .exit) ≡ now (answer .entry)) ⌝ }
 {
     match given {
         DeadlineAnswer::Deadline(deadline) => {
@@ -370,6 +374,7 @@ fn store_deadline(answer: &mut DeadlineWords, given: DeadlineAnswer) -> u64
 pub extern "C" fn budget_new(runtime: &mut RuntimeWords, budget: &BudgetWords) -> u64
     ensures { λ r. ⌜ told r (budgetRuntimeOf (now (runtime .exit))) ≡ toldOf (budgetRuntimeOf (now (runtime .entry)))
         (budgets.made (budgetOf (now (budget .entry)))) ⌝ }
+    ensures { λ r. ⌜ (r ≢ 0 → now (runtime .exit) ≡ now (runtime .entry)) ⌝ }
 {
     let given = BudgetRuntime::new(budget_of(*budget));
     store_budget_runtime(runtime, given)
@@ -384,6 +389,7 @@ pub extern "C" fn budget_refresh(
 ) -> u64
     ensures { λ r. ⌜ told r (budgetRuntimeOf (now (runtime .exit))) ≡ toldOf (budgetRuntimeOf (now (runtime .entry)))
         (budgets.refreshedJudged (budgetRuntimeOf (now (runtime .entry))) «now_ns» (budgetOf (now (budget .entry)))) ⌝ }
+    ensures { λ r. ⌜ (r ≢ 0 → now (runtime .exit) ≡ now (runtime .entry)) ⌝ }
 {
     let given = budget_runtime_of(*runtime).refresh(now_ns, budget_of(*budget));
     store_budget_runtime(runtime, given)
@@ -400,6 +406,7 @@ pub extern "C" fn budget_account_interval(
     ensures { λ r. ⌜ told r (budgetRuntimeOf (now (runtime .exit))) ≡ toldOf (budgetRuntimeOf (now (runtime .entry)))
         (budgets.accountedInterval (budgetRuntimeOf (now (runtime .entry))) start end
         (budgetOf (now (budget .entry)))) ⌝ }
+    ensures { λ r. ⌜ (r ≢ 0 → now (runtime .exit) ≡ now (runtime .entry)) ⌝ }
 {
     let given = budget_runtime_of(*runtime).account_interval(start, end, budget_of(*budget));
     store_budget_runtime(runtime, given)
@@ -410,6 +417,7 @@ pub extern "C" fn budget_account_interval(
 pub extern "C" fn budget_finish_turn(runtime: &mut RuntimeWords, budget: &BudgetWords) -> u64
     ensures { λ r. ⌜ told r (budgetRuntimeOf (now (runtime .exit))) ≡ toldOf (budgetRuntimeOf (now (runtime .entry)))
         (budgets.turnFinished (budgetRuntimeOf (now (runtime .entry))) (budgetOf (now (budget .entry)))) ⌝ }
+    ensures { λ r. ⌜ (r ≢ 0 → now (runtime .exit) ≡ now (runtime .entry)) ⌝ }
 {
     let given = budget_runtime_of(*runtime).finish_turn(budget_of(*budget));
     store_budget_runtime(runtime, given)
@@ -424,6 +432,7 @@ pub extern "C" fn budget_period_deadline(
 ) -> u64
     ensures { λ r. ⌜ told r (deadlineOf (now (answer .exit))) ≡ toldOf (deadlineOf (now (answer .entry)))
         (budgets.periodDeadline «now_ns» (budgetOf (now (budget .entry)))) ⌝ }
+    ensures { λ r. ⌜ (r ≢ 0 → now (answer .exit) ≡ now (answer .entry)) ⌝ }
 {
     let given = BudgetRuntime::period_deadline(now_ns, budget_of(*budget));
     store_deadline(answer, given)
@@ -436,6 +445,8 @@ fn store_budget_deadline(
 ) -> u64
     ensures { λ r. ⌜ told r (budgetRuntimeOf (now (runtime .exit)), deadlineOf (now (answer .exit)))
         ≡ toldOf (budgetRuntimeOf (now (runtime .entry)), deadlineOf (now (answer .entry))) (budgetDeadline given) ⌝ }
+    ensures { λ r. ⌜ (r ≢ 0 → now (runtime .exit) ≡ now (runtime .entry)) ⌝ }
+    ensures { λ r. ⌜ (r ≢ 0 → now (answer .exit) ≡ now (answer .entry)) ⌝ }
 {
     match given {
         BudgetDeadline::Deadline(after, deadline) => {
@@ -460,6 +471,8 @@ pub extern "C" fn budget_deadline(
         ≡ toldOf (budgetRuntimeOf (now (runtime .entry)), deadlineOf (now (answer .entry)))
         (budgets.deadlineJudged (budgetRuntimeOf (now (runtime .entry))) «now_ns»
         (budgetOf (now (budget .entry))) borrow) ⌝ }
+    ensures { λ r. ⌜ (r ≢ 0 → now (runtime .exit) ≡ now (runtime .entry)) ⌝ }
+    ensures { λ r. ⌜ (r ≢ 0 → now (answer .exit) ≡ now (answer .entry)) ⌝ }
 {
     let given = budget_runtime_of(*runtime).deadline(now_ns, budget_of(*budget), borrow);
     store_budget_deadline(runtime, answer, given)
@@ -476,6 +489,7 @@ pub extern "C" fn budget_reconfigure(
     ensures { λ r. ⌜ told r (runtimeOptionOf (now (answer .exit))) ≡ toldOf (runtimeOptionOf (now (answer .entry)))
         (budgets.reconfiguredJudged (budgetRuntimeOf (now (runtime .entry))) (budgetOf (now (old .entry)))
         (budgetOf (now (new .entry)))) ⌝ }
+    ensures { λ r. ⌜ (r ≢ 0 → now (answer .exit) ≡ now (answer .entry)) ⌝ }
 {
     let given = budget_runtime_of(*runtime).reconfigure(budget_of(*old), budget_of(*new));
     store_reconfigured(answer, given)
@@ -484,6 +498,7 @@ pub extern "C" fn budget_reconfigure(
 fn store_reconfigured(answer: &mut PolicyRuntimeWords, given: Reconfigured) -> u64
     ensures { λ r. ⌜ told r (runtimeOptionOf (now (answer .exit))) ≡ toldOf (runtimeOptionOf (now (answer .entry)))
         (reconfiguredAnswer given) ⌝ }
+    ensures { λ r. ⌜ (r ≢ 0 → now (answer .exit) ≡ now (answer .entry)) ⌝ }
 {
     match given {
         Reconfigured::Changed(runtime) => {
@@ -502,6 +517,7 @@ fn store_reconfigured(answer: &mut PolicyRuntimeWords, given: Reconfigured) -> u
 fn store_runtime(answer: &mut PolicyRuntimeWords, given: RuntimeAnswer) -> u64
     ensures { λ r. ⌜ told r (policyRuntimeOf (now (answer .exit))) ≡ toldOf (policyRuntimeOf (now (answer .entry)))
         (runtimeAnswer given) ⌝ }
+    ensures { λ r. ⌜ (r ≢ 0 → now (answer .exit) ≡ now (answer .entry)) ⌝ }
 {
     match given {
         RuntimeAnswer::Runtime(runtime) => {
@@ -524,6 +540,7 @@ pub extern "C" fn runtime_new(
     ensures { λ r. ⌜ told r (policyRuntimeOf (now (answer .exit))) ≡ toldOf (policyRuntimeOf (now (answer .entry)))
         (runtimes.made (parametersOf (now (row .entry)))
         (record { pass = record { high = «pass_high»; low = «pass_low» }; «remaining_ns» = «remaining_ns» })) ⌝ }
+    ensures { λ r. ⌜ (r ≢ 0 → now (answer .exit) ≡ now (answer .entry)) ⌝ }
 {
     let fair = FairRuntime {
         pass: Wide {
@@ -546,6 +563,7 @@ pub extern "C" fn runtime_account(
 ) -> u64
     ensures { λ r. ⌜ told r (policyRuntimeOf (now (answer .exit))) ≡ toldOf (policyRuntimeOf (now (answer .entry)))
         (runtimes.accounted (runtimeOf (now (row .entry))) (parametersOf (now (row .entry))) start end) ⌝ }
+    ensures { λ r. ⌜ (r ≢ 0 → now (answer .exit) ≡ now (answer .entry)) ⌝ }
 {
     let given = runtime_of(*row).account(parameters_of(*row), start, end);
     store_runtime(answer, given)
@@ -560,6 +578,7 @@ pub extern "C" fn runtime_epoch_refresh(
 ) -> u64
     ensures { λ r. ⌜ told r (policyRuntimeOf (now (answer .exit))) ≡ toldOf (policyRuntimeOf (now (answer .entry)))
         (runtimes.epochRefreshed (runtimeOf (now (row .entry))) «now_ns» (parametersOf (now (row .entry)))) ⌝ }
+    ensures { λ r. ⌜ (r ≢ 0 → now (answer .exit) ≡ now (answer .entry)) ⌝ }
 {
     let given = runtime_of(*row).epoch_refresh(now_ns, parameters_of(*row));
     store_runtime(answer, given)
@@ -570,6 +589,7 @@ pub extern "C" fn runtime_epoch_refresh(
 pub extern "C" fn runtime_finish_turn(row: &Row, answer: &mut PolicyRuntimeWords) -> u64
     ensures { λ r. ⌜ told r (policyRuntimeOf (now (answer .exit))) ≡ toldOf (policyRuntimeOf (now (answer .entry)))
         (runtimes.turnFinished (runtimeOf (now (row .entry))) (parametersOf (now (row .entry)))) ⌝ }
+    ensures { λ r. ⌜ (r ≢ 0 → now (answer .exit) ≡ now (answer .entry)) ⌝ }
 {
     let given = runtime_of(*row).finish_turn(parameters_of(*row));
     store_runtime(answer, given)
@@ -611,6 +631,8 @@ fn store_runtime_deadline(
 ) -> u64
     ensures { λ r. ⌜ told r (policyRuntimeOf (now (after .exit)), deadlineOf (now (answer .exit)))
         ≡ toldOf (policyRuntimeOf (now (after .entry)), deadlineOf (now (answer .entry))) (runtimeDeadline given) ⌝ }
+    ensures { λ r. ⌜ (r ≢ 0 → now (after .exit) ≡ now (after .entry)) ⌝ }
+    ensures { λ r. ⌜ (r ≢ 0 → now (answer .exit) ≡ now (answer .entry)) ⌝ }
 {
     match given {
         RuntimeDeadline::Deadline(runtime, deadline) => {
@@ -636,6 +658,8 @@ pub extern "C" fn runtime_next_deadline(
         ≡ toldOf (policyRuntimeOf (now (after .entry)), deadlineOf (now (answer .entry)))
         (runtimes.nextDeadline (runtimeOf (now (row .entry))) «now_ns»
         (parametersOf (now (row .entry))) competition borrow) ⌝ }
+    ensures { λ r. ⌜ (r ≢ 0 → now (after .exit) ≡ now (after .entry)) ⌝ }
+    ensures { λ r. ⌜ (r ≢ 0 → now (answer .exit) ≡ now (answer .entry)) ⌝ }
 {
     let given = runtime_of(*row).next_deadline(now_ns, parameters_of(*row), competition, borrow);
     store_runtime_deadline(after, answer, given)

@@ -1,6 +1,6 @@
 // C calls on lent words, through which the Rust host compares CPU windows and dispatch keys with the kernel's source.
 // Each is the call of its name on what the words stand for. It answers document 01's number, 0 where the call was
-// accepted; a refusal leaves what the lent words stand for as it was.
+// accepted; a refusal leaves every lent word as it was.
 ghost use mathlib.Core.Path.{_≡_};
 ghost use mathlib.Core.Logic.{_≢_};
 ghost use Rattle.refusal.specs.Cases.{choose};
@@ -69,6 +69,7 @@ use window_words::with_window;
 pub extern "C" fn config_new(window: &mut WindowWords) -> u64
     ensures { λ r. ⌜ left r tt (windowOf (now (window .exit))) ≡ configLeft (windowOf (now (window .entry)))
         (newConfigOf (configOf (now (window .entry)))) ⌝ }
+    ensures { λ r. ⌜ (r ≢ 0 → now (window .exit) ≡ now (window .entry)) ⌝ }
 {
     let words = *window;
     let given = config_of(words);
@@ -123,6 +124,7 @@ pub extern "C" fn config_admits(window: &WindowWords, row: &Row, backend: u64) -
 pub extern "C" fn window_new(window: &mut WindowWords) -> u64
     ensures { λ r. ⌜ left r tt (windowOf (now (window .exit))) ≡ windowLeft (windowOf (now (window .entry)))
         (newWindow (configOf (now (window .entry)))) ⌝ }
+    ensures { λ r. ⌜ (r ≢ 0 → now (window .exit) ≡ now (window .entry)) ⌝ }
 {
     let words = *window;
     let made = CpuWindow::new(config_of(words));
@@ -185,6 +187,7 @@ fn is_later(w: WindowWords, epoch: u64) -> bool
 pub extern "C" fn window_refresh(window: &mut WindowWords, now_ns: u64) -> u64
     ensures { λ r. ⌜ left r tt (windowOf (now (window .exit)))
         ≡ leftOf tt (refreshCall (windowOf (now (window .entry))) «now_ns») ⌝ }
+    ensures { λ r. ⌜ (r ≢ 0 → now (window .exit) ≡ now (window .entry)) ⌝ }
 {
     let words = *window;
     if !is_sound(words) {
@@ -278,6 +281,7 @@ pub extern "C" fn window_account_dispatch(
     ensures { λ r. ⌜ left r tt (windowOf (now (window .exit)))
         ≡ leftOf tt (accountCall (windowOf (now (window .entry))) start end (parametersOf (now (row .entry)))
         (modeFrom mode)) ⌝ }
+    ensures { λ r. ⌜ (r ≢ 0 → now (window .exit) ≡ now (window .entry)) ⌝ }
 {
     let words = *window;
     if !is_sound(words) {
@@ -295,6 +299,8 @@ fn store_deadline(window: &mut WindowWords, answer: &mut DeadlineWords, step: Wi
     ensures { λ r. ⌜ left r (deadlineOf (now (answer .exit))) (windowOf (now (window .exit)))
         ≡ storedOver (deadlineOf (now (answer .entry))) (windowOf (now (window .entry))) (deadlineAnswer (step .answer))
         (step .window) ⌝ }
+    ensures { λ r. ⌜ (r ≢ 0 → now (window .exit) ≡ now (window .entry)) ⌝ }
+    ensures { λ r. ⌜ (r ≢ 0 → now (answer .exit) ≡ now (answer .entry)) ⌝ }
 {
     let given = step.answer;
     let after = step.window;
@@ -317,6 +323,8 @@ pub extern "C" fn window_period_deadline(
 ) -> u64
     ensures { λ r. ⌜ left r (deadlineOf (now (answer .exit))) (windowOf (now (window .exit)))
         ≡ leftOf (deadlineOf (now (answer .entry))) (periodDeadlineCall (windowOf (now (window .entry))) «now_ns») ⌝ }
+    ensures { λ r. ⌜ (r ≢ 0 → now (window .exit) ≡ now (window .entry)) ⌝ }
+    ensures { λ r. ⌜ (r ≢ 0 → now (answer .exit) ≡ now (answer .entry)) ⌝ }
 {
     let before = window_of(*window);
     store_deadline(window, answer, before.period_deadline(now_ns))
@@ -333,6 +341,8 @@ pub extern "C" fn window_protection_deadline(
     ensures { λ r. ⌜ left r (deadlineOf (now (answer .exit))) (windowOf (now (window .exit)))
         ≡ leftOf (deadlineOf (now (answer .entry)))
         (protectionCall (windowOf (now (window .entry))) «now_ns» «protected_waiting») ⌝ }
+    ensures { λ r. ⌜ (r ≢ 0 → now (window .exit) ≡ now (window .entry)) ⌝ }
+    ensures { λ r. ⌜ (r ≢ 0 → now (answer .exit) ≡ now (answer .entry)) ⌝ }
 {
     let before = window_of(*window);
     store_deadline(
@@ -356,6 +366,8 @@ pub extern "C" fn window_next_deadline(
         ≡ leftOf (deadlineOf (now (answer .entry)))
         (nextDeadlineCall (windowOf (now (window .entry))) «now_ns» (modeFrom mode) competition
         (demandOf (now (demand .entry)))) ⌝ }
+    ensures { λ r. ⌜ (r ≢ 0 → now (window .exit) ≡ now (window .entry)) ⌝ }
+    ensures { λ r. ⌜ (r ≢ 0 → now (answer .exit) ≡ now (answer .entry)) ⌝ }
 {
     let before = window_of(*window);
     let its_mode = mode_from(mode);

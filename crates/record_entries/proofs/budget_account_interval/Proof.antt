@@ -13,4 +13,4 @@ budget-account-interval-spec =
     (λ c κs. search needs)
     (λ c κs. search needs)
     (λ c κs. search needs)
-    (λ c. search (told-by, on-four accountedInterval) depth 8))
+    (λ c. (search (told-by, on-four accountedInterval) depth 8, search)))

@@ -13,4 +13,4 @@ budget-deadline-spec =
     (λ c κs. search needs)
     (λ c κs. search needs)
     (λ c κs. search needs)
-    (λ c. search (told-by, on-four deadlineJudged) depth 8))
+    (λ c. (search (told-by, on-four deadlineJudged) depth 8, (search, search))))

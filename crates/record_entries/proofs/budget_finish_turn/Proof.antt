@@ -13,4 +13,4 @@ budget-finish-turn-spec =
     (λ c κs. search needs)
     (λ c κs. search needs)
     (λ c κs. search needs)
-    (λ c. search (told-by, on-two turnFinished) depth 8))
+    (λ c. (search (told-by, on-two turnFinished) depth 8, search)))

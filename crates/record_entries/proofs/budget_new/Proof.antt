@@ -12,4 +12,4 @@ budget-new-spec =
     (λ c κs. search needs)
     (λ c κs. search needs)
     (λ c κs. search needs)
-    (λ c. search (told-by, on-one made) depth 8))
+    (λ c. (search (told-by, on-one made) depth 8, search)))

@@ -12,4 +12,4 @@ budget-period-deadline-spec =
     (λ c κs. search needs)
     (λ c κs. search needs)
     (λ c κs. search needs)
-    (λ c. search (told-by, on-two periodDeadline) depth 8))
+    (λ c. (search (told-by, on-two periodDeadline) depth 8, search)))

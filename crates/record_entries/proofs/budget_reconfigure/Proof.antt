@@ -14,4 +14,4 @@ budget-reconfigure-spec =
     (λ c κs. search needs)
     (λ c κs. search needs)
     (λ c κs. search needs)
-    (λ c. search (told-by, on-three reconfiguredJudged) depth 8))
+    (λ c. (search (told-by, on-three reconfiguredJudged) depth 8, search)))

@@ -13,4 +13,4 @@ budget-refresh-spec =
     (λ c κs. search needs)
     (λ c κs. search needs)
     (λ c κs. search needs)
-    (λ c. search (told-by, on-three refreshedJudged) depth 8))
+    (λ c. (search (told-by, on-three refreshedJudged) depth 8, search)))

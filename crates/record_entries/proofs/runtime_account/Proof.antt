@@ -13,4 +13,4 @@ runtime-account-spec =
     (λ c κs. search needs)
     (λ c κs. search needs)
     (λ c κs. search needs)
-    (λ c. search (told-by, on-four accounted) depth 8))
+    (λ c. (search (told-by, on-four accounted) depth 8, search)))

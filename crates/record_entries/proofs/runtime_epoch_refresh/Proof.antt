@@ -13,4 +13,4 @@ runtime-epoch-refresh-spec =
     (λ c κs. search needs)
     (λ c κs. search needs)
     (λ c κs. search needs)
-    (λ c. search (told-by, on-three epochRefreshed) depth 8))
+    (λ c. (search (told-by, on-three epochRefreshed) depth 8, search)))

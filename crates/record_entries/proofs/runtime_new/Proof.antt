@@ -12,4 +12,4 @@ runtime-new-spec =
     (λ c κs. search needs)
     (λ c κs. search needs)
     (λ c κs. search needs)
-    (λ c. search (told-by, on-two made) depth 8))
+    (λ c. (search (told-by, on-two made) depth 8, search)))

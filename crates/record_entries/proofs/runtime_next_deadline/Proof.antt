@@ -13,4 +13,4 @@ runtime-next-deadline-spec =
     (λ c κs. search needs)
     (λ c κs. search needs)
     (λ c κs. search needs)
-    (λ c. search (told-by, on-five nextDeadline) depth 8))
+    (λ c. (search (told-by, on-five nextDeadline) depth 8, (search, search))))

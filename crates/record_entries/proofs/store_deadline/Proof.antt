@@ -1,5 +1,6 @@
 -- An answer's value is stored, a refusal's number is told.
 use Rattle.record_entries.specs.EntryLaws.{entries}
+use mathlib.Core.Path.{refl}
 use borrow.Author.Needs.{needs}
 use Rattle.record_entries.proofs.store_deadline.Statement.{statement}
 use Rattle.record_entries.proofs.store_deadline.Tie as tie
@@ -12,5 +13,5 @@ store-deadline-spec =
     (λ c κs. search needs)
     (λ c. search needs)
     (λ c κs. search needs)
-    (λ c. search entries depth 8)
-    (λ c. search entries depth 8))
+    (λ c. (search entries depth 8, λ h. absurd (h refl)))
+    (λ c. (search entries depth 8, λ h. refl)))

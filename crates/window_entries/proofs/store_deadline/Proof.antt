@@ -1,5 +1,6 @@
 -- An accepted step's window and deadline are stored, a refusal's number is told.
 use Rattle.window_entries.specs.EntryLaws.{entries}
+use mathlib.Core.Path.{refl}
 use borrow.Author.Needs.{needs}
 use Rattle.window_entries.proofs.store_deadline.Statement.{statement}
 use Rattle.window_entries.proofs.store_deadline.Tie as tie
@@ -13,5 +14,5 @@ store-deadline-spec =
     (λ c κs. search needs)
     (λ c. search needs)
     (λ c κs. search needs)
-    (λ c. search entries depth 8)
-    (λ c. search entries depth 8))
+    (λ c. (search entries depth 8, (λ h. absurd (h refl), λ h. absurd (h refl))))
+    (λ c. (search entries depth 8, (λ h. refl, λ h. refl))))

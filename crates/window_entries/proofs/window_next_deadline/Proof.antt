@@ -13,4 +13,4 @@ window-next-deadline-spec =
     (λ c κs. search needs)
     (λ c κs. search needs)
     (λ c κs. search needs)
-    (λ c. search entries depth 8))
+    (λ c. (search entries depth 8, (search, search))))

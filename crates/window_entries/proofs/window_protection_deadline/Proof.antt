@@ -11,4 +11,4 @@ window-protection-deadline-spec =
     (λ c κs. search needs)
     (λ c κs. search needs)
     (λ c κs. search needs)
-    (λ c. search entries depth 8))
+    (λ c. (search entries depth 8, (search, search))))
