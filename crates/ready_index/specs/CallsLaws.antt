@@ -1,7 +1,7 @@
 -- The laws by which the calls on a tree by itself meet their definitions: x is what the queue's form answers, r what it
 -- gave, y what the answer given stands for.
 use Prim.Native.Nat.{ℕ}
-use mathlib.Core.Path.{_≡_, sym, ap, _∙_}
+use mathlib.Core.Path.{_≡_, refl, sym, ap, subst, _∙_}
 use mathlib.Core.Bool.{Bool, true, false}
 use mathlib.Core.List.{List}
 use Rattle.refusal.specs.Answer.{Answer, value, refused, damaged}
@@ -10,6 +10,7 @@ use Rattle.thread.specs.declared.Link.the-variants as link
 use Rattle.thread.specs.declared.ThreadRecord.{ThreadRecord}
 use Rattle.rows.specs.Table.{Out, out}
 use Rattle.rows.specs.Asked.{answering}
+use Rattle.rows.specs.Unmoved.{UnmovedBut}
 use Rattle.ready_index.specs.declared.Least.{Least}
 use Rattle.ready_index.specs.declared.Least.the-variants as least
 use Rattle.ready_index.specs.declared.Contained.{Contained}
@@ -61,6 +62,14 @@ pub ruleset tellings = (
   root-told,
   no-root-told,
 )
+
+-- Where the queue's form refuses, that is Damaged, which may have stored.
+pub damaged-stored : {B : Type 0} {y : Answer Link} (b c : B) (r : Rooted) → y ≡ rootedAnswer r
+    → UnmovedBut damaged y b c
+unfolding rootedAnswer
+damaged-stored b c (rooted.Root l) e = subst (λ (x : Answer Link). UnmovedBut damaged x b c) (sym e) tt
+damaged-stored b c rooted.Damaged e =
+    subst (λ (x : Answer Link). UnmovedBut damaged x b c) (sym e) (λ h. absurd (h refl))
 
 -- The answer of the queue's form handed on.
 pub least-handed : {y : Answer Link} (r x : Least) → y ≡ leastAnswer r → leastAnswer r ≡ leastAnswer x

@@ -1,7 +1,9 @@
 // The calls on a tree by itself, after `Tree` of scheduler/algorithms/ready_index.rs, with document 01's refusals:
 // BadTable, then NoThread, then Damaged where the source hands an error back.
 ghost use mathlib.Core.Path.{_≡_};
+ghost use Rattle.refusal.specs.Answer.{damaged};
 ghost use Rattle.rows.specs.Table.{table, out};
+ghost use Rattle.rows.specs.Unmoved.{UnmovedBut};
 ghost use Rattle.rows.specs.Frame.{Framed};
 ghost use Rattle.ready_index.specs.Answers.{leastAnswer, containedAnswer, rootedAnswer};
 ghost use Rattle.ready_index.specs.Answers.{treeLeast, treeContains, treeRoot};
@@ -77,6 +79,7 @@ pub fn contains(t: &[Row], root: Link, id: u64) -> TreeContains
 // A thread put into the tree, by a path that is lent for the time of the call. After `Tree::insert`.
 pub fn insert(t: &mut [Row], path: &mut Path, root: Link, id: u64) -> TreeRoot
     ensures { λ r. ⌜ out (treeRoot r) (table (now (t .exit))) ≡ insertCall (table (now (t .entry))) root id ⌝ }
+    ensures { λ r. ⌜ UnmovedBut damaged (treeRoot r) (now (t .entry)) (now (t .exit)) ⌝ }
     ensures { λ r. ⌜ Framed (now (t .entry)) (now (t .exit)) ⌝ }
 {
     let permission = asked(t, id);
@@ -89,6 +92,7 @@ pub fn insert(t: &mut [Row], path: &mut Path, root: Link, id: u64) -> TreeRoot
 // A thread taken out of the tree, by a path that is lent for the time of the call. After `Tree::remove`.
 pub fn remove(t: &mut [Row], path: &mut Path, root: Link, id: u64) -> TreeRoot
     ensures { λ r. ⌜ out (treeRoot r) (table (now (t .exit))) ≡ removeCall (table (now (t .entry))) root id ⌝ }
+    ensures { λ r. ⌜ UnmovedBut damaged (treeRoot r) (now (t .entry)) (now (t .exit)) ⌝ }
     ensures { λ r. ⌜ Framed (now (t .entry)) (now (t .exit)) ⌝ }
 {
     let permission = asked(t, id);

@@ -1,17 +1,19 @@
 -- The laws by which the entries meet their contracts: the call was made with q and m, which are what the numbers stand
 -- for, and its answer went into words.
 use Prim.Native.Nat.{ℕ}
-use mathlib.Core.Path.{_≡_, sym}
+use mathlib.Core.Path.{_≡_, sym, ap, _∙_}
+use mathlib.Core.Logic.{_≢_}
 use mathlib.Core.Bool.{Bool}
 use mathlib.Core.List.{List}
 use Rattle.refusal.specs.declared.Refusal.{Refusal}
-use Rattle.refusal.specs.Answer.{Answer, numberOf}
+use Rattle.refusal.specs.Answer.{Answer, value, refused, numberOf, damaged}
 use Rattle.thread.specs.declared.Link.{Link}
 use Rattle.thread.specs.declared.QueueMembership.{QueueMembership}
 use Rattle.thread.specs.declared.ThreadQueue.{ThreadQueue}
 use Rattle.thread.specs.declared.ThreadRecord.{ThreadRecord}
 use Rattle.rows.specs.Table.{out}
 use Rattle.rows.specs.Asked.{answering}
+use Rattle.rows.specs.Unmoved.{Unmoved, UnmovedBut}
 use Rattle.rows.specs.AskedLaws.{answered-by}
 use Rattle.codec.specs.Codec.{linkFrom}
 use Rattle.lists.specs.declared.Listed.{Listed}
@@ -72,6 +74,19 @@ module _ {n : Refusal} {k : ℕ} (e : k ≡ numberOf n) where
   unfolding containsWords
   contains-refused m = rw (m, e)
 
+-- An answer with a number leaves the rows as its refusal does.
+module _ {B : Type 0} {b c : B} where
+  pub list-keeps : {w : ListAnswer} (a : Answer ThreadQueue) → w ≡ listWords a → Unmoved a b c → w .number ≢ 0 → c ≡ b
+  unfolding listWords
+  list-keeps (value q) e u h = absurd (h (ap (λ (x : ListAnswer). x .number) e))
+  list-keeps (refused n) e u h = u
+
+  pub index-keeps : {w : IndexAnswer} (a : Answer Link) → w ≡ indexWords a → UnmovedBut damaged a b c
+      → w .number ≢ 0 → w .number ≢ damaged → c ≡ b
+  unfolding indexWords
+  index-keeps (value l) e u h k = absurd (h (ap (λ (x : IndexAnswer). x .number) e))
+  index-keeps (refused n) e u h k = u (λ z. k (ap (λ (x : IndexAnswer). x .number) e ∙ z))
+
 module _ (t : List ThreadRecord) (id : ℕ) {s : List ThreadRecord} {q q' : ThreadQueue} {m m' : QueueMembership}
     {a : Answer ThreadQueue} {w : ListAnswer} where
   pub pushed : out a s ≡ pushCall t q id m → q ≡ q' → m ≡ m' → w ≡ listWords a
@@ -121,3 +136,5 @@ pub ruleset wordings = (
   least-of,
   contained-in,
 )
+
+pub ruleset keepings = (list-keeps, index-keeps)

@@ -1,6 +1,8 @@
 // C calls on rows of numbers, through which the Rust host compares lists and trees with the kernel's source. Each is
 // the call of its name on what the numbers stand for.
 ghost use mathlib.Core.Path.{_≡_};
+ghost use mathlib.Core.Logic.{_≢_};
+ghost use Rattle.refusal.specs.Answer.{damaged};
 ghost use Rattle.codec.specs.Codec.{linkFrom, membershipFrom};
 ghost use Rattle.rows.specs.Asked.{answering};
 ghost use Rattle.rows.specs.Table.{table, out};
@@ -119,6 +121,7 @@ pub extern "C" fn rows_list_push(
     ensures { λ r. ⌜ out r (table (now (t .exit)))
         ≡ answering listWords (lists.pushCall (table (now (t .entry)))
         (listFrom «head_some» head «tail_some» tail len) id (membershipFrom tag first second)) ⌝ }
+    ensures { λ r. ⌜ (r .number ≢ 0 → now (t .exit) ≡ now (t .entry)) ⌝ }
     ensures { λ r. ⌜ Framed (now (t .entry)) (now (t .exit)) ⌝ }
 {
     let list = list_of(head_some, head, tail_some, tail, len);
@@ -143,6 +146,7 @@ pub extern "C" fn rows_list_push_front(
     ensures { λ r. ⌜ out r (table (now (t .exit)))
         ≡ answering listWords (lists.pushFrontCall (table (now (t .entry)))
         (listFrom «head_some» head «tail_some» tail len) id (membershipFrom tag first second)) ⌝ }
+    ensures { λ r. ⌜ (r .number ≢ 0 → now (t .exit) ≡ now (t .entry)) ⌝ }
     ensures { λ r. ⌜ Framed (now (t .entry)) (now (t .exit)) ⌝ }
 {
     let list = list_of(head_some, head, tail_some, tail, len);
@@ -167,6 +171,7 @@ pub extern "C" fn rows_list_remove(
     ensures { λ r. ⌜ out r (table (now (t .exit)))
         ≡ answering listWords (lists.removeCall (table (now (t .entry)))
         (listFrom «head_some» head «tail_some» tail len) id (membershipFrom tag first second)) ⌝ }
+    ensures { λ r. ⌜ (r .number ≢ 0 → now (t .exit) ≡ now (t .entry)) ⌝ }
     ensures { λ r. ⌜ Framed (now (t .entry)) (now (t .exit)) ⌝ }
 {
     let list = list_of(head_some, head, tail_some, tail, len);
@@ -256,6 +261,7 @@ pub extern "C" fn rows_index_insert(
 ) -> IndexAnswer
     ensures { λ r. ⌜ out r (table (now (t .exit)))
         ≡ answering indexWords (index.insertCall (table (now (t .entry))) (linkFrom some number) id) ⌝ }
+    ensures { λ r. ⌜ (r .number ≢ 0 → r .number ≢ damaged → now (t .exit) ≡ now (t .entry)) ⌝ }
     ensures { λ r. ⌜ Framed (now (t .entry)) (now (t .exit)) ⌝ }
 {
     let root = link_from(some, number);
@@ -273,6 +279,7 @@ pub extern "C" fn rows_index_remove(
 ) -> IndexAnswer
     ensures { λ r. ⌜ out r (table (now (t .exit)))
         ≡ answering indexWords (index.removeCall (table (now (t .entry))) (linkFrom some number) id) ⌝ }
+    ensures { λ r. ⌜ (r .number ≢ 0 → r .number ≢ damaged → now (t .exit) ≡ now (t .entry)) ⌝ }
     ensures { λ r. ⌜ Framed (now (t .entry)) (now (t .exit)) ⌝ }
 {
     let root = link_from(some, number);

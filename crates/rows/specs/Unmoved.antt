@@ -13,19 +13,23 @@ abbrev pub Unmoved : {A B : Type 0} → Answer A → B → B → Type 0
 Unmoved (value a) before after = Unit {0}
 Unmoved (refused n) before after = after ≡ before
 
--- A refusal other than Halted does; a first Halted leaves the source's stores up to there.
+-- A refusal with another number than this one does.
+abbrev pub UnmovedBut : {A B : Type 0} → ℕ → Answer A → B → B → Type 0
+UnmovedBut but (value a) before after = Unit {0}
+UnmovedBut but (refused n) before after = n ≢ but → after ≡ before
+
+-- A first Halted of the queue's calls leaves the source's stores up to there.
 abbrev pub Spared : {A B : Type 0} → Answer A → B → B → Type 0
-Spared (value a) before after = Unit {0}
-Spared (refused n) before after = n ≢ queueHalted → after ≡ before
+Spared a before after = UnmovedBut queueHalted a before after
 
 -- What was not stored to is as it was, whatever the answer.
 pub as-it-was : {A B : Type 0} {b c : B} (x : Answer A) → c ≡ b → Unmoved x b c
 as-it-was (value a) e = tt
 as-it-was (refused n) e = e
 
-pub spared-as-it-was : {A B : Type 0} {b c : B} (x : Answer A) → c ≡ b → Spared x b c
-spared-as-it-was (value a) e = tt
-spared-as-it-was (refused n) e = λ h. e
+pub spared-as-it-was : {A B : Type 0} {b c : B} (but : ℕ) (x : Answer A) → c ≡ b → UnmovedBut but x b c
+spared-as-it-was but (value a) e = tt
+spared-as-it-was but (refused n) e = λ h. e
 
 -- What was asked before did not hold.
 pub held-not : {B : Type 0} (b c : B) (x : Bool) → x ≡ false → x ≡ true → c ≡ b

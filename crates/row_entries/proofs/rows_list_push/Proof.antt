@@ -1,5 +1,5 @@
 -- The numbers stand for the arguments, the call answers by its own contract, and the answer goes back into numbers.
-use Rattle.row_entries.specs.WordsLaws.{wordings}
+use Rattle.row_entries.specs.WordsLaws.{wordings, keepings}
 use Rattle.rows.specs.Frame.{framing}
 use borrow.Author.Needs.{needs}
 use Rattle.row_entries.proofs.rows_list_push.Statement.{statement}
@@ -14,4 +14,4 @@ rows-list-push-spec =
     (λ c κs. search needs)
     (λ c κs. search needs)
     (λ c. search needs)
-    (λ c. (search wordings depth 8, search framing depth 8)))
+    (λ c. (search wordings depth 8, (search keepings depth 8, search framing depth 8))))

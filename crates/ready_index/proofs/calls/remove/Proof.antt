@@ -1,7 +1,8 @@
 -- What is asked first, then the removal.
 use Rattle.rows.specs.AskedLaws.{granted, turned-away}
-use Rattle.ready_index.specs.CallsLaws.{rooted-handed}
+use Rattle.ready_index.specs.CallsLaws.{rooted-handed, damaged-stored}
 use Rattle.ready_index.specs.Calls.{removeCall}
+use Rattle.rows.specs.Unmoved.{unmoving}
 use Rattle.rows.specs.Frame.{framing}
 use borrow.Author.Needs.{needs}
 use Rattle.ready_index.proofs.calls.remove.Statement.{statement}
@@ -18,6 +19,12 @@ remove-spec =
     (λ c κs. search needs)
     (λ c. search needs)
     (λ c. search needs)
-    (λ c. (search (granted, turned-away, rooted-handed) depth 8, search framing depth 8))
+    (λ c. (
+      search (granted, turned-away, rooted-handed) depth 8,
+      (search (damaged-stored, unmoving), search framing depth 8),
+    ))
     (λ c. search needs)
-    (λ c. (search (granted, turned-away, rooted-handed) depth 8, search framing depth 8)))
+    (λ c. (
+      search (granted, turned-away, rooted-handed) depth 8,
+      (search (damaged-stored, unmoving), search framing depth 8),
+    )))
