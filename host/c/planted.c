@@ -24,10 +24,10 @@ uint64_t __wrap_board_switch(const uint64_t *ready, const uint64_t *key, const u
 #elif PLANT == 7
 /* A spare word of a root's row is changed at times, though the call was made. */
 uint64_t __real_board_enqueue(board_queue *, uint64_t (*)[BOARD_ROW_WORDS], size_t, board_path *, uint64_t, uint8_t);
-uint64_t __wrap_board_enqueue(board_queue *q, uint64_t (*t)[BOARD_ROW_WORDS], size_t rows, board_path *path, uint64_t id,
-                              uint8_t cpu);
-uint64_t __wrap_board_enqueue(board_queue *q, uint64_t (*t)[BOARD_ROW_WORDS], size_t rows, board_path *path, uint64_t id,
-                              uint8_t cpu)
+uint64_t __wrap_board_enqueue(board_queue *q, uint64_t (*t)[BOARD_ROW_WORDS], size_t rows, board_path *path,
+                              uint64_t id, uint8_t cpu);
+uint64_t __wrap_board_enqueue(board_queue *q, uint64_t (*t)[BOARD_ROW_WORDS], size_t rows, board_path *path,
+                              uint64_t id, uint8_t cpu)
 {
     uint64_t got = __real_board_enqueue(q, t, rows, path, id, cpu);
     if (got == 0 && ++number % 64 == 0) {
