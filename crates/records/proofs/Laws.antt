@@ -13,6 +13,9 @@ use Rattle.thread.specs.declared.ThreadRecord.{ThreadRecord}
 use Rattle.codec.specs.Codec.{decoded}
 use Rattle.rows.specs.Table.{Out, out, table}
 use Rattle.rows.specs.RowTableLaws.{table-length}
+use Rattle.arbitration.specs.declared.CpuWindow.{CpuWindow}
+use Rattle.queue.specs.RunQueue.{CpuRunQueue}
+use Rattle.lent_selection.specs.Early.{Early, early-rows}
 use Rattle.records.specs.Lent.{within, used}
 
 module _ (t : List ThreadRecord) (rows : List (List ℕ)) (i : ℕ) where
@@ -77,6 +80,11 @@ module _ (rows : List (List ℕ)) (t : List ThreadRecord) where
 -- What a call leaves of records and rows, and with it what it leaves of the queue's words.
 pub and-of-queue : {A B C D : Type 0} → A × (B × C) → D → A × (B × (C × D))
 and-of-queue (a, (b, c)) d = (a, (b, (c, d)))
+
+-- A selection that is refused before it looks at anything, of the rows that hold the records.
+pub early-kept : {B : Type 0} {b c : B} {t : List ThreadRecord} {s : List (List ℕ)} {w : CpuWindow} {q : CpuRunQueue}
+    → length s ≡ length t → (Early s w q → c ≡ b) → Early t w q → c ≡ b
+early-kept e f x = f (early-rows e x)
 
 -- The two ways through a call: refused for want of rows, with records and rows as they were; and the records copied to
 -- the first rows, the core's call made on these, and the records copied back.

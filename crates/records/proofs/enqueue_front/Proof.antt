@@ -12,4 +12,4 @@ enqueue-front-spec =
     (λ c κs. search needs)
     (λ c. search needs)
     (λ c. search needs)
-    (λ c. search needs))
+    (λ c. (search, (search, (search, (search, (search, search)))))))

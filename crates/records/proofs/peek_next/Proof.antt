@@ -8,13 +8,13 @@ use mathlib.Core.List.{List}
 use lib.ListN.{length}
 use borrow.Author.Needs.{needs}
 use Rattle.thread.specs.declared.ThreadRecord.{ThreadRecord}
-use Rattle.selection.specs.Peek.{peekNext}
+use Rattle.refusal.specs.Answer.{refused, badTable}
+use Rattle.selection.specs.Peek.{peeked, peekNext}
 use Rattle.lent_queue.specs.LentQueue.{queueOf}
 use Rattle.rows.specs.RowTableLaws.{table-length}
 use Rattle.rows.specs.Unmoved.{few-enough}
-use Rattle.lent_selection.specs.Early.{early-rows}
 use Rattle.lent_queue.specs.FrameLaws.{queue-framing}
-use Rattle.records.proofs.Laws.{too-few, called, and-of-queue}
+use Rattle.records.proofs.Laws.{too-few, called, and-of-queue, early-kept}
 
 returns : tie.Need-returns
 returns c = and-of-queue (too-few _ _ _ _ (c .if1 .taken))
@@ -30,12 +30,21 @@ returns-2 c =
     c .before .before .before .before .before .before .before .before .before .before .before .before .before .before
     .before .if1 .left in
     let copied = sym (table-length (copying .last .1 .0)) ∙ ap length (copying .ensures) in
-    and-of-queue
-    (called (args .rows .now) (args .t .now)
-    _ (λ (l : List ThreadRecord). peekNext l (queueOf (args .q .now)) (args .cpu) (args .reading) (args .window)
+    let left =
+    called (args .rows .now) (args .t .now) (peeked (refused badTable) (args .window) (queueOf (args .q .now)))
+    (λ (l : List ThreadRecord). peekNext l (queueOf (args .q .now)) (args .cpu) (args .reading) (args .window)
     (args .current)) (copying .last .1 .0) (core .last .1 .0) enough (copying .ensures) (core .kept .1 .0)
-    (core .ensures .0) (c .before .before .from-rows .ensures))
-    (few-enough _ _ _ _ enough, (λ e. core .ensures .1 .0 (early-rows copied e), core .ensures .1 .1 .1 .1))
+    (core .ensures .0) (c .before .before .from-rows .ensures) in
+    let made = left .0 in (
+      search made,
+      (
+        left .1 .0,
+        (
+          left .1 .1,
+          (few-enough _ _ _ _ enough, (early-kept copied (core .ensures .1 .0), core .ensures .1 .1 .1 .1)),
+        ),
+      ),
+    )
 
 pub peek-next-spec : {M : Type 1} → statement M
 peek-next-spec =
