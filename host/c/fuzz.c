@@ -1,4 +1,5 @@
-/* Every entry of board.h on any words and tables of any length: fuzz [--calls N] [--seed S].
+/* Every entry of board.h on any words and tables of any length: fuzz [--calls N] [--seed S] [--faults F], which ends
+ * after N calls, or after F faults.
  *
  * Each lent thing stands in pages of its own between pages that nobody may touch, directly before the one behind or
  * directly behind the one before; on its other side words are watched. Tables have 0 to some hundred rows, at times
@@ -764,15 +765,17 @@ const char *__asan_default_options(void)
 
 int main(int count, char **words)
 {
-    uint64_t limit = 1000000;
+    uint64_t limit = 1000000, most_faults = UINT64_MAX;
     for (int i = 1; i + 1 < count; i += 2) {
         uint64_t n = strtoull(words[i + 1], NULL, 10);
         if (strcmp(words[i], "--calls") == 0) {
             limit = n;
         } else if (strcmp(words[i], "--seed") == 0) {
             seed = n;
+        } else if (strcmp(words[i], "--faults") == 0) {
+            most_faults = n;
         } else {
-            fprintf(stderr, "usage: fuzz [--calls N] [--seed S]\n");
+            fprintf(stderr, "usage: fuzz [--calls N] [--seed S] [--faults F]\n");
             return 2;
         }
     }
@@ -783,7 +786,7 @@ int main(int count, char **words)
     }
     prepare_signals();
     uint64_t left = 0;
-    for (calls = 0; calls < limit; calls++) {
+    for (calls = 0; calls < limit && faults < most_faults; calls++) {
         if (left == 0) {
             begin_round();
             left = rows > 512 ? 16 : 64 + below(192);
