@@ -8,9 +8,9 @@
  * outside, a word changed that is only to be read, an answer that document 01 does not have for the entry, 10, 5, 9 or
  * 4 where another is due or missed, a halt without its mark, a word changed by a refusal that leaves it; and, whatever
  * is answered, a row's parameters, processor or spare words changed, those of a root's row in the queue too, a part of
- * a row (a link, say) that is neither as it was nor an encoding, and a row changed that is not the named thread's,
- * where the call has to do with that one alone. The table of answers is printed; the last line is
- * `fuzz: N calls, 0 faults`, and the exit status then 0. */
+ * a row (a link, say) that is neither as it was nor an encoding, and a row changed that the call has nothing to do
+ * with: of a queue's call one that no link leads to from the queue or the named thread, of the others any but the named
+ * thread's. The table of answers is printed; the last line is `fuzz: N calls, 0 faults`, and the exit status then 0. */
 #define _GNU_SOURCE
 #include <inttypes.h>
 #include <setjmp.h>
@@ -576,7 +576,42 @@ static bool leaves_all(uint64_t number, bool halted_before)
 }
 
 /* What no call does to the rows, whatever it answers. `alone`: the call has to do with the named thread's row alone. */
-static void judge_rows(bool alone)
+/* The rows that a call has to do with: the named thread's, and of a queue's call those that links lead to from it, from
+   the queue's words and from one another. */
+static bool reached[BOARD_MOST_RECORDS + 1];
+static size_t waiting[BOARD_MOST_RECORDS + 1], waiting_rows;
+
+static void reach(const uint64_t *link)
+{
+    if (link[0] != 0 && link[1] < rows && !reached[link[1]]) {
+        reached[link[1]] = true;
+        waiting[waiting_rows++] = (size_t)link[1];
+    }
+}
+
+static void find_reached(void)
+{
+    const uint64_t named[2] = {(lends[entry] & NAMES_A_THREAD) != 0, id};
+    memset(reached, 0, sizeof reached);
+    waiting_rows = 0;
+    reach(named);
+    for (size_t k = 0; (lends[entry] & LENDS_QUEUE) && k < MARK_ROW; k++) {
+        const uint64_t *words = queue.at + k * BOARD_QUEUE_ROW_WORDS;
+        reach(words);
+        if (k < ROOT_ROW) {
+            reach(words + 2);
+        }
+    }
+    while ((lends[entry] & LENDS_QUEUE) && waiting_rows > 0) {
+        const uint64_t *words = row(waiting[--waiting_rows]);
+        reach(words + LEFT);
+        reach(words + RIGHT);
+        reach(words + PREVIOUS);
+        reach(words + NEXT);
+    }
+}
+
+static void judge_rows(void)
 {
     for (size_t i = 0; i < rows; i++) {
         const uint64_t *was = rows_before[i], *is = row(i);
@@ -587,8 +622,8 @@ static void judge_rows(bool alone)
         if (!row_stored(was, is)) {
             fault("what is stored to a row is no record's encoding", i);
         }
-        if (alone && i != id && !same(was, is, BOARD_ROW_WORDS)) {
-            fault("the row of a thread that was not named is changed", i);
+        if (!reached[i] && !same(was, is, BOARD_ROW_WORDS)) {
+            fault("a row that the call has nothing to do with is changed", i);
         }
     }
 }
@@ -616,7 +651,7 @@ static void judge(uint64_t got, uint64_t wanted, bool halted_before)
         fault("a halt without its mark", got);
     }
     if (lends[entry] & LENDS_TABLE) {
-        judge_rows((lends[entry] & NAMES_A_THREAD) != 0 && (lends[entry] & LENDS_QUEUE) == 0);
+        judge_rows();
     }
     if ((lends[entry] & LENDS_QUEUE) && entry != NEW) {
         judge_queue();
@@ -696,6 +731,7 @@ static void call(void)
     bool halted_before = is_halted();
     if (lends[entry] & LENDS_TABLE) {
         memcpy(rows_before, table.at, table.words * sizeof(uint64_t));
+        find_reached();
     }
     if (lends[entry] & LENDS_QUEUE) {
         memcpy(queue_before, queue.at, sizeof queue_before);

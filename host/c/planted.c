@@ -35,6 +35,24 @@ uint64_t __wrap_board_enqueue(board_queue *q, uint64_t (*t)[BOARD_ROW_WORDS], si
     }
     return got;
 }
+#elif PLANT == 8
+/* At each selection that is made an absent link with a number beside it becomes 0, 0, in any row. */
+uint64_t __real_board_select(board_queue *, uint64_t (*)[BOARD_ROW_WORDS], size_t, board_path *, uint8_t, uint64_t,
+                             uint64_t *, uint64_t, const uint64_t *, uint64_t *);
+uint64_t __wrap_board_select(board_queue *q, uint64_t (*t)[BOARD_ROW_WORDS], size_t rows, board_path *path, uint8_t cpu,
+                             uint64_t now, uint64_t *window, uint64_t running, const uint64_t *current,
+                             uint64_t *answer);
+uint64_t __wrap_board_select(board_queue *q, uint64_t (*t)[BOARD_ROW_WORDS], size_t rows, board_path *path, uint8_t cpu,
+                             uint64_t now, uint64_t *window, uint64_t running, const uint64_t *current,
+                             uint64_t *answer)
+{
+    uint64_t got = __real_board_select(q, t, rows, path, cpu, now, window, running, current, answer);
+    for (size_t i = 0; got == 0 && i < rows; i++) {
+        number++;
+        t[i][18] = t[i][17] == 0 ? 0 : t[i][18];
+    }
+    return got;
+}
 #else
 /* At times it answers 12 (PLANT 2), changes the table though it refuses (3), does not end (4), changes another
    thread's row (5), or a spare word of its own (6), though it was made. */
