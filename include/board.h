@@ -1,113 +1,67 @@
-/* The scheduling core of a hoist board: the C entries of crate board (libboard.a, by `rt staticlib board`), and at the
- * end those of crate images, which save what they work on as bytes (libimages.a, by `rt staticlib images`). C99 and
- * C++.
+/* The scheduling core of a hoist board: the entries of libboard.a, and at the end those of libimages.a, which save what
+ * the core works on as bytes. C99 and C++11. docs/BOARD.md has how a board uses it, host/c/cycle.c a board's main loop.
  *
- * Everything is numbers of 64 bits that the caller keeps and lends for the time of one call: the run queue, the table
- * (a row of 32 words for each thread), the CPU window, and arrays of words for what a call is handed and what it
- * answers. Nothing is kept between calls, nothing is allocated, and every call ends.
+ * The board keeps everything and lends it for the time of one call: a queue, a table with a record for each thread, a
+ * window, two turn counters. The core keeps nothing between calls, allocates nothing, and every call ends. Times are
+ * nanoseconds of one clock that the board chooses.
  *
- * Every call answers a number: 0 where it was made, else a refusal of the enum below. The table is lent as its address
- * and its count of rows; everything else has the length that the call names, and is lent as its address. Any words are
- * taken, whatever they are: a flag is set where its word is not 0, a byte is its word's remainder by 256, a number
- * beyond the last of a choice stands for the last. A refusal leaves what the answer's words stand for.
+ * Every call answers a number: 0 (BOARD_MADE) where it was made, else one of the refusals below. Any words are taken,
+ * whatever they are: a flag is set where its word is not 0, a byte is its word's remainder by 256, a number beyond the
+ * last of a choice stands for the last.
  *
- * What is asked of the caller: an address is that of as many words as the call names, or of as many rows as the count
- * says (the table's address is not null and is that of a uint64_t also where the count is 0), things that are lent to
- * one call do not overlap, unless the call changes none of them, and one queue and its table are lent to one call at a
- * time.
+ * Asked of the caller: each address is that of a whole struct, the table's of as many records as the count says (it is
+ * an aligned address and not null also where the count is 0); what is lent to one call does not overlap, unless the
+ * call changes none of it; and one queue and its table are lent to one call at a time.
  */
 #ifndef BOARD_H
 #define BOARD_H
 
-#include <stddef.h>
 #include <stdint.h>
 
 #ifdef __cplusplus
 extern "C" {
 #endif
 
-/* Why a call was not made. Where several hold the first of 10, 5, 9, 4, 11, 2 for Idle, 3, 2 for the processor, 1 is
-   answered; 7 and 8 come last. */
+/* Rises with every changed signature, length or struct of this header. */
+#define BOARD_VERSION 1
+
+/* Why a call was not made. Where several hold, a call answers the first in the order that is named at each call. */
 enum board_refusal {
     BOARD_MADE = 0,
-    /* lists, trees or links are not sound: nothing changed, but selection keeps its stores so far */
-    BOARD_DAMAGED = 1,
-    BOARD_BAD_STATE = 2,     /* an Idle thread, or on enqueue one of another processor */
-    BOARD_ALREADY = 3,       /* the thread is in a list already, on enqueue and preparing */
-    BOARD_NO_THREAD = 4,     /* the thread's number is not below the count of rows */
-    BOARD_BAD_CONFIG = 5,    /* period, allowance, floor and ranks that a window cannot have */
-    BOARD_BAD_BUDGET = 6,    /* a budget that cannot be made: no call of this header answers it; see BOARD_BAD_RECORD */
-    BOARD_BACK_IN_TIME = 7,  /* accounting with the end before the start */
-    BOARD_TURNS_SPENT = 8,   /* a turn counter is at its end */
-    BOARD_HALTED = 9,        /* the queue cannot go on; it is marked, and from then on every call on it is refused so */
-    BOARD_BAD_TABLE = 10,    /* more than BOARD_MOST_RECORDS rows */
-    BOARD_BAD_RECORD = 11    /* policy, budget and runtime disagree, or the budget is bad */
+    BOARD_DAMAGED = 1,      /* lists, trees or links do not agree with one another or with the table */
+    BOARD_BAD_STATE = 2,    /* an Idle thread, or on enqueue a thread of another processor */
+    BOARD_ALREADY = 3,      /* the thread is in a list already, on enqueue and preparing */
+    BOARD_NO_THREAD = 4,    /* the thread's number is not below the count of records */
+    BOARD_BAD_CONFIG = 5,   /* a window whose period, allowance, floor and ranks no window can have */
+    BOARD_BAD_BUDGET = 6,   /* a budget that cannot be made; no call of this header answers it: see BOARD_BAD_RECORD */
+    BOARD_BACK_IN_TIME = 7, /* accounting with the end before the start */
+    BOARD_TURNS_SPENT = 8,  /* a turn counter is at its end */
+    BOARD_HALTED = 9,       /* the queue cannot go on: it is marked, and every later call on it is refused so */
+    BOARD_BAD_TABLE = 10,   /* more than BOARD_MOST_RECORDS records; of an image, another count of bytes than it has */
+    BOARD_BAD_RECORD = 11   /* policy, budget and runtime disagree, or the budget is bad */
 };
 
-/* How much is lent. */
-#define BOARD_MOST_RECORDS 4096 /* rows of a table: a thread's number is its row's, 0 to 4095 */
-#define BOARD_ROW_WORDS 32
-#define BOARD_QUEUE_ROWS 270
-#define BOARD_QUEUE_ROW_WORDS 5
-#define BOARD_PATH_ROWS 40
-#define BOARD_PATH_ROW_WORDS 2
-#define BOARD_LENGTHS_WORDS 3
-#define BOARD_CONFIG_WORDS 8
-#define BOARD_WINDOW_WORDS 12
-#define BOARD_SELECTION_WORDS 19
-#define BOARD_TURNS_WORDS 2
-#define BOARD_DEMAND_WORDS 5
-#define BOARD_KEY_WORDS 9
-#define BOARD_EXPIRED_WORDS 1
-#define BOARD_SWITCH_WORDS 2
-#define BOARD_DEADLINE_WORDS 2
-#define BOARD_RECORD_BYTES 256 /* of a row; a table has as many for each of its rows */
-#define BOARD_WINDOW_BYTES 96
-#define BOARD_QUEUE_BYTES 10800
+/* The refusal's name, for a message. */
+static inline const char *board_refusal_name(uint64_t refusal)
+{
+    switch (refusal) {
+    case BOARD_MADE: return "Made";
+    case BOARD_DAMAGED: return "Damaged";
+    case BOARD_BAD_STATE: return "BadState";
+    case BOARD_ALREADY: return "Already";
+    case BOARD_NO_THREAD: return "NoThread";
+    case BOARD_BAD_CONFIG: return "BadConfig";
+    case BOARD_BAD_BUDGET: return "BadBudget";
+    case BOARD_BACK_IN_TIME: return "BackInTime";
+    case BOARD_TURNS_SPENT: return "TurnsSpent";
+    case BOARD_HALTED: return "Halted";
+    case BOARD_BAD_TABLE: return "BadTable";
+    case BOARD_BAD_RECORD: return "BadRecord";
+    default: return "unknown";
+    }
+}
 
-/* A run queue of one processor: 256 priority lists, the fair list, twelve roots, counts, epoch and mark. Made by
-   board_new, changed by the calls alone. */
-typedef struct board_queue {
-    uint64_t rows[BOARD_QUEUE_ROWS][BOARD_QUEUE_ROW_WORDS];
-} board_queue;
-
-/* Room for the steps of one descent in a tree. Its words say nothing before or after a call. */
-typedef struct board_path {
-    uint64_t rows[BOARD_PATH_ROWS][BOARD_PATH_ROW_WORDS];
-} board_path;
-
-/* Words of a row, one thread. Those not named here are links, which the calls keep; in a new row they are 0. */
-#define BOARD_ROW_POLICY 0     /* BOARD_POLICY_.. */
-#define BOARD_ROW_PRIORITY 1   /* of FIFO: 0 to 255, the least comes first */
-#define BOARD_ROW_BAND 2       /* 0 to 255, the least comes first */
-#define BOARD_ROW_ROLE 3       /* BOARD_ROLE_.. */
-#define BOARD_ROW_WEIGHT 4
-#define BOARD_ROW_QUANTUM 5
-#define BOARD_ROW_BACKEND 6    /* of Fair: BOARD_BACKEND_.. */
-/* set exactly where the policy is Budget; then budget and burst are 1 to the period, and the period 1 to 1,000,000,000
-   */
-#define BOARD_ROW_HAS_BUDGET 7
-#define BOARD_ROW_BUDGET 8
-#define BOARD_ROW_PERIOD 9
-#define BOARD_ROW_BURST 10
-#define BOARD_ROW_RUNTIME 11   /* the policy's number again: the kind of what follows */
-#define BOARD_ROW_PASS_HIGH 12 /* Fair: the pass */
-#define BOARD_ROW_PASS_LOW 13
-#define BOARD_ROW_SLICE_LEFT 14
-#define BOARD_ROW_HAS_EPOCH 12 /* Budget: the epoch that the time left is of, if any */
-#define BOARD_ROW_EPOCH 13
-#define BOARD_ROW_TIME_LEFT 14
-#define BOARD_ROW_BURST_LEFT 15
-#define BOARD_ROW_TURN 16      /* by board_prepare; 0 where it had none */
-#define BOARD_ROW_HEIGHT 21    /* 1 in a new row */
-#define BOARD_ROW_MEMBERSHIP 26 /* BOARD_MEMBER_.. */
-#define BOARD_ROW_CPU 29       /* the assigned processor */
-
-/* Words of a row that stands for the running thread as a candidate: 0 to 10 and the turn as above, the pass, and
-   whether it has time left. */
-#define BOARD_CURRENT_PASS_HIGH 12
-#define BOARD_CURRENT_PASS_LOW 13
-#define BOARD_CURRENT_HAS_TIME 14
+/* ---- choices ---- */
 
 #define BOARD_POLICY_FIFO 0
 #define BOARD_POLICY_FAIR 1
@@ -115,185 +69,457 @@ typedef struct board_path {
 #define BOARD_POLICY_IDLE 3
 
 #define BOARD_ROLE_ORDINARY 0
-#define BOARD_ROLE_PRIORITY 1
-#define BOARD_ROLE_PROTECTED 2
+#define BOARD_ROLE_PRIORITY 1  /* may run on the window's allowance */
+#define BOARD_ROLE_PROTECTED 2 /* has the window's floor for sure */
 
-#define BOARD_BACKEND_STRIDE 0
+#define BOARD_BACKEND_STRIDE 0 /* the least pass comes first */
 #define BOARD_BACKEND_ROUND_ROBIN 1
 
-#define BOARD_MEMBER_NONE 0
-#define BOARD_MEMBER_READY_FIFO 1
-#define BOARD_MEMBER_READY_FAIR 2
-#define BOARD_MEMBER_WAITING 3
-#define BOARD_MEMBER_TERMINATED 4
-
-/* Words of a configuration, and the first of a window. */
-#define BOARD_WINDOW_PERIOD 0
-#define BOARD_WINDOW_ALLOWANCE 1
-#define BOARD_WINDOW_FLOOR 2
-#define BOARD_WINDOW_PRIORITY_RANK 3 /* the four ranks, 0 to 255, rise */
-#define BOARD_WINDOW_BUDGET_RANK 4
-#define BOARD_WINDOW_FAIR_RANK 5
-#define BOARD_WINDOW_BORROW_RANK 6
-#define BOARD_WINDOW_PREFER_FAIR 7
-#define BOARD_WINDOW_HAS_EPOCH 8
-#define BOARD_WINDOW_EPOCH 9
-#define BOARD_WINDOW_ALLOWANCE_LEFT 10
-#define BOARD_WINDOW_FLOOR_LEFT 11
-
-/* Words of a demand. */
-#define BOARD_DEMAND_PROTECTED 0
-#define BOARD_DEMAND_FAIR 1
-#define BOARD_DEMAND_WINDOW_SENSITIVE 2
-#define BOARD_DEMAND_ELIGIBLE_BUDGET 3
-#define BOARD_DEMAND_ANY_BUDGET 4
-
-/* Words of a key. Keys compare as urgency, rank, algorithm rank, algorithm, band, turn; the least comes first. */
-#define BOARD_KEY_IS 0   /* whether there is a key */
-#define BOARD_KEY_MODE 1 /* BOARD_MODE_.. */
-#define BOARD_KEY_URGENCY 2
-#define BOARD_KEY_RANK 3
-#define BOARD_KEY_ALGORITHM_RANK 4
-#define BOARD_KEY_ALGORITHM_HIGH 5
-#define BOARD_KEY_ALGORITHM_LOW 6
-#define BOARD_KEY_BAND 7
-#define BOARD_KEY_TURN 8
-
+/* Under which title a thread runs: what its time is charged to. */
 #define BOARD_MODE_STRICT_FIFO 0
 #define BOARD_MODE_PRIORITY 1
 #define BOARD_MODE_PROTECTED 2
 #define BOARD_MODE_ORDINARY 3
 #define BOARD_MODE_BORROW 4
 
-/* Words of a selection. Words 0 to 8 serve board_switch as `ready`, with the thread's number in the place of the mode;
-   words 11 to 15 are a demand. */
-#define BOARD_SELECTION_IS 0     /* whether a thread is named */
-#define BOARD_SELECTION_THREAD 1 /* its number */
-#define BOARD_SELECTION_KEY 0    /* its key: the places of BOARD_KEY_URGENCY and on hold */
-#define BOARD_SELECTION_POLICY 9
-#define BOARD_SELECTION_PRIORITY 10
-#define BOARD_SELECTION_DEMAND 11
-#define BOARD_SELECTION_HAS_PASS 16 /* whether there is a lowest fair pass */
-#define BOARD_SELECTION_PASS_HIGH 17
-#define BOARD_SELECTION_PASS_LOW 18
+/* In which list a thread is. The calls set the first three; a board may set the others, and sets the first again before
+   it enqueues the thread. */
+#define BOARD_MEMBER_NONE 0
+#define BOARD_MEMBER_READY_FIFO 1
+#define BOARD_MEMBER_READY_FAIR 2
+#define BOARD_MEMBER_WAITING 3
+#define BOARD_MEMBER_TERMINATED 4
 
-/* Words of the turn counters; both start at BOARD_TURNS_START. */
-#define BOARD_TURNS_BACK 0
-#define BOARD_TURNS_FRONT 1
+/* ---- what is lent ---- */
+
+#define BOARD_MOST_RECORDS 4096 /* of a table; a thread's number is its record's place, 0 to 4095 */
+#define BOARD_QUEUE_ROWS 270
+#define BOARD_QUEUE_ROW_WORDS 5
+#define BOARD_PATH_ROWS 40
+#define BOARD_PATH_ROW_WORDS 2
+
+/* A run queue of one processor: made by board_new, changed by the calls alone. */
+typedef struct board_queue_t {
+    uint64_t rows[BOARD_QUEUE_ROWS][BOARD_QUEUE_ROW_WORDS];
+} board_queue_t;
+
+/* Room for the steps of one descent in a tree. Its words say nothing before or after a call. */
+typedef struct board_path_t {
+    uint64_t rows[BOARD_PATH_ROWS][BOARD_PATH_ROW_WORDS];
+} board_path_t;
+
+/* What a thread is. A board sets it while the thread is not queued; no call changes it. */
+typedef struct board_parameters_t {
+    uint64_t policy;     /* BOARD_POLICY_.. */
+    uint64_t priority;   /* of FIFO: 0 to 255, the least comes first */
+    uint64_t band;       /* 0 to 255: of equal ones the least band comes first */
+    uint64_t role;       /* BOARD_ROLE_.. */
+    uint64_t weight;     /* of Fair, for the board's own use: no call looks at it */
+    uint64_t quantum_ns; /* of Fair, the same */
+    uint64_t backend;    /* of Fair: BOARD_BACKEND_.., the same for all threads of a processor */
+    uint64_t has_budget; /* set exactly where the policy is Budget */
+    uint64_t budget_ns;  /* how long it may run in each period: 1 to the period */
+    uint64_t period_ns;  /* 1 to 1,000,000,000; the window's, else the thread is never named */
+    uint64_t burst_ns;   /* how long at a stretch while others wait: 1 to the period */
+} board_parameters_t;
+
+/* What a Fair thread has. The board keeps it, while the thread is not queued: no call changes it. */
+typedef struct board_fair_runtime_t {
+    uint64_t pass_high; /* the pass has 128 bits */
+    uint64_t pass_low;
+    uint64_t slice_left_ns;
+    uint64_t unused;
+} board_fair_runtime_t;
+
+/* What a Budget thread has left. The calls keep it. */
+typedef struct board_budget_runtime_t {
+    uint64_t has_epoch; /* whether the time left is that of a period */
+    uint64_t epoch;     /* of which: a reading divided by the period */
+    uint64_t time_left_ns;
+    uint64_t burst_left_ns;
+} board_budget_runtime_t;
+
+/* By the record's runtime_kind; FIFO and Idle have neither. */
+typedef union board_runtime_t {
+    board_budget_runtime_t budget;
+    board_fair_runtime_t fair;
+} board_runtime_t;
+
+/* Another thread, or none. */
+typedef struct board_link_t {
+    uint64_t is_set;
+    uint64_t thread;
+} board_link_t;
+
+typedef struct board_membership_t {
+    uint64_t kind;     /* BOARD_MEMBER_.. */
+    uint64_t owner;    /* of a ready list its processor, of a wait list its number */
+    uint64_t priority; /* of a list of FIFO threads */
+} board_membership_t;
+
+/* One thread. A board makes it by one of the initialisers below; from its turn to its membership the calls keep it. */
+typedef struct board_record_t {
+    board_parameters_t parameters;
+    uint64_t runtime_kind; /* the policy again: BOARD_POLICY_.. */
+    board_runtime_t runtime;
+    uint64_t turn; /* by board_prepare; 0 where it had none */
+    board_link_t left, right;
+    uint64_t height;
+    board_link_t previous, next;
+    board_membership_t membership;
+    uint64_t cpu;      /* its processor, 0 to 255 */
+    uint64_t spare[2]; /* the board's own: no call looks at them or changes them; an image takes 0 alone */
+} board_record_t;
+
+/* The running thread as selections and keys see it; made by board_candidate. */
+typedef struct board_candidate_t {
+    board_parameters_t parameters;
+    uint64_t unused;
+    uint64_t pass_high;
+    uint64_t pass_low;
+    uint64_t has_time; /* whether its budget has time left; set where it has no budget */
+    uint64_t unused_too;
+    uint64_t turn;
+    uint64_t unused_rest[15];
+} board_candidate_t;
+
+/* What a window is made from. The floor is above 0 and below the period, the allowance below what the floor leaves of
+   the period, and the four ranks, 0 to 255, rise in their order. */
+typedef struct board_config_t {
+    uint64_t period_ns;    /* 1 to 1,000,000,000 */
+    uint64_t allowance_ns; /* how long threads of role Priority run before others in each period */
+    uint64_t floor_ns;     /* how long threads of role Protected have for sure in each period */
+    uint64_t priority_rank;
+    uint64_t budget_rank;
+    uint64_t fair_rank;
+    uint64_t borrow_rank;
+    uint64_t prefer_fair; /* whether Fair threads run on the allowance too */
+} board_config_t;
+
+/* What is left of allowance and floor in this period; made by board_window, one for each processor. */
+typedef struct board_window_t {
+    board_config_t config;
+    uint64_t has_epoch;
+    uint64_t epoch;
+    uint64_t allowance_left_ns;
+    uint64_t floor_left_ns;
+} board_window_t;
+
+/* The two counters that turns come from; both start as BOARD_TURNS has them. */
+typedef struct board_turns_t {
+    uint64_t back;
+    uint64_t front;
+} board_turns_t;
+
+/* ---- what is answered ---- */
+
+/* Why a thread comes where it does. Keys compare by urgency, rank, algorithm rank, algorithm, band and turn, in this
+   order, and the least comes first. */
+typedef struct board_key_t {
+    uint64_t is_set; /* whether there is a key; a thread without one gives way to any other */
+    uint64_t mode;   /* BOARD_MODE_.. */
+    uint64_t urgency;
+    uint64_t rank;
+    uint64_t algorithm_rank;
+    uint64_t algorithm_high; /* the algorithm has 128 bits */
+    uint64_t algorithm_low;
+    uint64_t band;
+    uint64_t turn;
+} board_key_t;
+
+/* The thread that a selection names, with its key. */
+typedef struct board_ready_t {
+    uint64_t is_set; /* whether a thread is named */
+    uint64_t thread; /* its number */
+    uint64_t urgency;
+    uint64_t rank;
+    uint64_t algorithm_rank;
+    uint64_t algorithm_high;
+    uint64_t algorithm_low;
+    uint64_t band;
+    uint64_t turn;
+} board_ready_t;
+
+/* What the queued threads and the running one ask for together: five flags. */
+typedef struct board_demand_t {
+    uint64_t protection;       /* a thread of role Protected is there, with time left if it is Budget */
+    uint64_t fair;             /* a FIFO or Fair thread */
+    uint64_t window_sensitive; /* a Fair thread, or one of role Priority */
+    uint64_t eligible_budget;  /* a Budget thread with time left */
+    uint64_t any_budget;       /* a Budget thread */
+} board_demand_t;
+
+typedef struct board_selection_t {
+    board_ready_t ready;
+    uint64_t policy;   /* of the thread that is named */
+    uint64_t priority; /* of FIFO */
+    board_demand_t demand;
+    uint64_t has_pass; /* whether there is a Fair thread, and the lowest pass of them */
+    uint64_t pass_high;
+    uint64_t pass_low;
+} board_selection_t;
+
+/* How many threads are queued. */
+typedef struct board_lengths_t {
+    uint64_t fifo;
+    uint64_t fair_and_budget;
+    uint64_t budget;
+} board_lengths_t;
+
+typedef struct board_choice_t {
+    uint64_t switches; /* whether the running thread gives way to the one that is named */
+    uint64_t to_front; /* whether it is then enqueued at the front */
+} board_choice_t;
+
+typedef struct board_deadline_t {
+    uint64_t is_set; /* whether there is one: else nothing has to be looked at before somebody wakes */
+    uint64_t at_ns;
+} board_deadline_t;
+
+/* The entries take each of these as so many words with nothing between them: asked here at compile time. */
+#define BOARD_HAS_WORDS(type, words) \
+    typedef char type##_has_its_words[sizeof(type) == (words) * sizeof(uint64_t) ? 1 : -1]
+
+BOARD_HAS_WORDS(board_queue_t, 1350);
+BOARD_HAS_WORDS(board_path_t, 80);
+BOARD_HAS_WORDS(board_record_t, 32);
+BOARD_HAS_WORDS(board_candidate_t, 32);
+BOARD_HAS_WORDS(board_config_t, 8);
+BOARD_HAS_WORDS(board_window_t, 12);
+BOARD_HAS_WORDS(board_turns_t, 2);
+BOARD_HAS_WORDS(board_key_t, 9);
+BOARD_HAS_WORDS(board_ready_t, 9);
+BOARD_HAS_WORDS(board_demand_t, 5);
+BOARD_HAS_WORDS(board_selection_t, 19);
+BOARD_HAS_WORDS(board_lengths_t, 3);
+BOARD_HAS_WORDS(board_choice_t, 2);
+BOARD_HAS_WORDS(board_deadline_t, 2);
+
+/* ---- initialisers ---- */
+
+/* New records: in no list, with no turn yet; a Budget thread full and of no period yet, a Fair thread with pass 0 and a
+ * whole slice. For a table that is initialised where it is declared:
+ *
+ *     static board_record_t table[THREADS] = {
+ *         [SWAY]  = BOARD_BUDGET(2000000, 10000000, 1000000, BOARD_ROLE_PROTECTED),
+ *         [BRAKE] = BOARD_FIFO(1, BOARD_ROLE_ORDINARY),
+ *         [LOG]   = BOARD_FAIR(BOARD_BACKEND_STRIDE, BOARD_USUAL_WEIGHT, 4000000, BOARD_ROLE_ORDINARY),
+ *         [IDLE]  = BOARD_IDLE,
+ *     };
+ *
+ * and, the same as functions, `table[BRAKE] = board_fifo(1, BOARD_ROLE_ORDINARY);`. In C++, which has no `[BRAKE] =`,
+ * the macros stand in their order. These are for processor 0 and for the usual band, in the middle; with another
+ * processor and band: BOARD_FIFO_ON(1, 64, 1, BOARD_ROLE_ORDINARY), or `table[BRAKE].parameters.band = 64` before the
+ * thread is enqueued. An argument may be looked at twice. */
+#define BOARD_USUAL_BAND 128
+#define BOARD_USUAL_WEIGHT 16
+#define BOARD_NEW_HEIGHT 1
+
+#define BOARD_FIFO(priority, role) BOARD_FIFO_ON(0, BOARD_USUAL_BAND, priority, role)
+#define BOARD_FAIR(backend, weight, slice_ns, role) \
+    BOARD_FAIR_ON(0, BOARD_USUAL_BAND, backend, weight, slice_ns, role)
+#define BOARD_BUDGET(budget_ns, period_ns, burst_ns, role) \
+    BOARD_BUDGET_ON(0, BOARD_USUAL_BAND, budget_ns, period_ns, burst_ns, role)
+#define BOARD_IDLE BOARD_IDLE_ON(0)
+
+#define BOARD_FIFO_ON(cpu, band, priority, role) \
+    BOARD_NEW_RECORD(cpu, 0, 0, BOARD_POLICY_FIFO, priority, band, role, BOARD_USUAL_WEIGHT, 0, BOARD_BACKEND_STRIDE, \
+                     0, 0, 0, 0)
+#define BOARD_FAIR_ON(cpu, band, backend, weight, slice_ns, role) \
+    BOARD_NEW_RECORD(cpu, slice_ns, 0, BOARD_POLICY_FAIR, 0, band, role, weight, slice_ns, backend, 0, 0, 0, 0)
+#define BOARD_BUDGET_ON(cpu, band, budget_ns, period_ns, burst_ns, role) \
+    BOARD_NEW_RECORD(cpu, budget_ns, burst_ns, BOARD_POLICY_BUDGET, 0, band, role, BOARD_USUAL_WEIGHT, 0, \
+                     BOARD_BACKEND_STRIDE, 1, budget_ns, period_ns, burst_ns)
+#define BOARD_IDLE_ON(cpu) \
+    BOARD_NEW_RECORD(cpu, 0, 0, BOARD_POLICY_IDLE, 0, BOARD_USUAL_BAND, BOARD_ROLE_ORDINARY, BOARD_USUAL_WEIGHT, 0, \
+                     BOARD_BACKEND_STRIDE, 0, 0, 0, 0)
+
+/* A record by its fields in their order, since C++ has no other way: `left_ns` and `burst_left_ns` are the last two of
+   its runtime, the arguments behind the policy the other ten parameters. */
+#define BOARD_NEW_RECORD(cpu, left_ns, burst_left_ns, policy, ...) \
+    {{policy, __VA_ARGS__}, policy, {{0, 0, left_ns, burst_left_ns}}, 0, {0, 0}, {0, 0}, BOARD_NEW_HEIGHT, {0, 0}, \
+     {0, 0}, {BOARD_MEMBER_NONE, 0, 0}, cpu, {0, 0}}
+
+static inline board_record_t board_fifo(uint64_t priority, uint64_t role)
+{
+    board_record_t record = BOARD_FIFO(priority, role);
+    return record;
+}
+
+static inline board_record_t board_fair(uint64_t backend, uint64_t weight, uint64_t slice_ns, uint64_t role)
+{
+    board_record_t record = BOARD_FAIR(backend, weight, slice_ns, role);
+    return record;
+}
+
+static inline board_record_t board_budget(uint64_t budget_ns, uint64_t period_ns, uint64_t burst_ns, uint64_t role)
+{
+    board_record_t record = BOARD_BUDGET(budget_ns, period_ns, burst_ns, role);
+    return record;
+}
+
+static inline board_record_t board_idle(void)
+{
+    board_record_t record = BOARD_IDLE;
+    return record;
+}
+
+/* A configuration with the usual ranks (priority before budget before fair before borrow), by the names of the other
+ * parts:
+ *
+ *     static const board_config_t config =
+ *         BOARD_CONFIG(.period_ns = 10000000, .allowance_ns = 2000000, .floor_ns = 3000000);
+ *
+ * Who wants other ranks names all parts in a plain initialiser. In C++: board_config, by their order. */
+#define BOARD_USUAL_PRIORITY_RANK 0
+#define BOARD_USUAL_BUDGET_RANK 1
+#define BOARD_USUAL_FAIR_RANK 2
+#define BOARD_USUAL_BORROW_RANK 3
+
+#ifndef __cplusplus
+#define BOARD_CONFIG(...) \
+    {.priority_rank = BOARD_USUAL_PRIORITY_RANK, .budget_rank = BOARD_USUAL_BUDGET_RANK, \
+     .fair_rank = BOARD_USUAL_FAIR_RANK, .borrow_rank = BOARD_USUAL_BORROW_RANK, __VA_ARGS__}
+#endif
+
+static inline board_config_t board_config(uint64_t period_ns, uint64_t allowance_ns, uint64_t floor_ns)
+{
+    board_config_t config = {period_ns, allowance_ns, floor_ns, BOARD_USUAL_PRIORITY_RANK, BOARD_USUAL_BUDGET_RANK,
+                             BOARD_USUAL_FAIR_RANK, BOARD_USUAL_BORROW_RANK, 0};
+    return config;
+}
+
+/* Both counters at their start, in the middle of their range. */
 #define BOARD_TURNS_START UINT64_C(9223372036854775808)
+#define BOARD_TURNS {BOARD_TURNS_START, BOARD_TURNS_START}
 
-/* Words of other answers. */
-#define BOARD_LENGTHS_REAL_TIME 0
-#define BOARD_LENGTHS_FAIR 1
-#define BOARD_LENGTHS_BUDGET 2
-#define BOARD_SWITCH_IS 0    /* whether to switch to the ready thread */
-#define BOARD_SWITCH_FRONT 1 /* whether the running thread then goes to the front */
-#define BOARD_DEADLINE_IS 0  /* whether there is a deadline */
-#define BOARD_DEADLINE_AT 1
+/* ---- the queue ---- */
 
-/* A new queue, empty. Answers 0. */
-uint64_t board_new(board_queue *q);
+/* Makes a queue new and empty. A board calls it once for each processor before anything else, and again to start anew
+   after Halted or Damaged (records that stood in the queue are then set to BOARD_MEMBER_NONE). Changes the queue. Not
+   refused. */
+uint64_t board_new(board_queue_t *queue);
 
-/* Puts a thread at the end, or at the front, of its list and into its tree. Answers 0, 10, 9, 4, 11, 2, 3 or 1.
- * Refused:
- * nothing is changed, but where the queue halts now, which leaves the stores up to there and the mark. */
-uint64_t board_enqueue(board_queue *q, uint64_t (*t)[BOARD_ROW_WORDS], size_t rows, board_path *path, uint64_t id,
-                       uint8_t cpu);
-uint64_t board_enqueue_front(board_queue *q, uint64_t (*t)[BOARD_ROW_WORDS], size_t rows, board_path *path, uint64_t id,
-                             uint8_t cpu);
+/* Puts a thread at the end of the list of its priority (FIFO) or of the fair list (Fair, Budget), and into its tree. A
+ * board calls it for a thread that wakes, and for one that gives way and is not to go to the front, right after
+ * board_prepare. Changes the queue and the records of this thread and its neighbours.
+ * Refused: BadTable, Halted, NoThread, BadRecord, BadState (Idle), Already, BadState (another processor), Damaged: then
+ * nothing is changed. Last, Halted for the first time, where the links mislead it halfway: then the stores up to there
+ * stay, and the queue is marked. */
+uint64_t board_enqueue(board_queue_t *queue, board_record_t *table, uint64_t count, board_path_t *path,
+                       uint64_t thread, uint8_t cpu);
 
-/* Takes a thread out of its list and its tree. Answers 0, 10, 9, 4, 11, 2 or 1 (also where it is not queued here).
- * Refused: as board_enqueue. */
-uint64_t board_remove(board_queue *q, uint64_t (*t)[BOARD_ROW_WORDS], size_t rows, board_path *path, uint64_t id,
+/* The same at the front: for a thread that gives way where board_switch answers to_front. */
+uint64_t board_enqueue_front(board_queue_t *queue, board_record_t *table, uint64_t count, board_path_t *path,
+                             uint64_t thread, uint8_t cpu);
+
+/* Takes a thread out of its list and its tree. A board calls it for the thread that it lets run, and for one that is
+ * stopped while it is queued. Changes the queue and the records of this thread and its neighbours.
+ * Refused: BadTable, Halted, NoThread, BadRecord, BadState (Idle), Damaged (also where it is not queued here): then
+ * nothing is changed. Last, Halted for the first time, as with board_enqueue. */
+uint64_t board_remove(board_queue_t *queue, board_record_t *table, uint64_t count, board_path_t *path, uint64_t thread,
                       uint8_t cpu);
 
-/* How many threads of FIFO, of Fair and Budget together, and of Budget are queued. Answers 0. */
-uint64_t board_lengths(const board_queue *q, uint64_t answer[BOARD_LENGTHS_WORDS]);
+/* How many threads are queued. A board calls it before board_deadline, which asks whether anybody competes. Changes the
+   answer. Not refused. */
+uint64_t board_lengths(const board_queue_t *queue, board_lengths_t *lengths);
 
-/* A new window from a configuration. Answers 0 or 5; refused, the window is as it was. */
-uint64_t board_window(uint64_t window[BOARD_WINDOW_WORDS], const uint64_t config[BOARD_CONFIG_WORDS]);
+/* ---- choosing ---- */
 
-/* Names, of all queued threads, the one with the least key; where the period changed, exhausted budget threads are
- * refreshed and filed as ready first. `current` is the running thread as a candidate where `running` is set. The window
- * is refreshed, unless the queue is empty. Answers 0, 10, 5, 9, 1 or 11. Refused by 10, 5 or an earlier 9: no word is
- * changed; by 1, 11 or a first 9: queue and table keep the stores so far (moved and refreshed threads, refreshed heads,
- * the queue's epoch), window and answer are as they were. */
-uint64_t board_select(board_queue *q, uint64_t (*t)[BOARD_ROW_WORDS], size_t rows, board_path *path, uint8_t cpu,
-                      uint64_t now_ns, uint64_t window[BOARD_WINDOW_WORDS], uint64_t running,
-                      const uint64_t current[BOARD_ROW_WORDS], uint64_t answer[BOARD_SELECTION_WORDS]);
+/* Makes a window from a configuration, with the whole allowance and floor. A board calls it once for each processor.
+   Changes the window. Refused: BadConfig, then nothing is changed. */
+uint64_t board_window(board_window_t *window, const board_config_t *config);
 
-/* Before an enqueue: refreshes the thread's budget and gives it its turn, by the two counters. Answers 0, 10, 4, 11, 3
- * or
- * 8; refused, table and counters are as they were. */
-uint64_t board_prepare(uint64_t (*t)[BOARD_ROW_WORDS], size_t rows, uint64_t id, uint64_t front, uint64_t now_ns,
-                       uint64_t turns[BOARD_TURNS_WORDS]);
+/* Refreshes the thread's budget and writes it as a candidate into `current`, where it is `running`; where it is not,
+ * nothing is changed. A board calls it for its running thread before board_select. Changes the thread's record and
+ * `current`. Refused: BadTable, NoThread, BadRecord, then nothing is changed. */
+uint64_t board_candidate(board_record_t *table, uint64_t count, uint64_t thread, uint64_t running, uint64_t now_ns,
+                         board_candidate_t *current);
 
-/* Charges the running thread and the window for the time from `start` to `end`, under the mode of its key. Answers 0,
- * 10,
- * 5, 4, 11 or 7; refused, nothing is changed. */
-uint64_t board_account(uint64_t (*t)[BOARD_ROW_WORDS], size_t rows, uint64_t id, uint64_t window[BOARD_WINDOW_WORDS],
-                       uint64_t mode, uint64_t start, uint64_t end);
+/* Names, of all queued threads, the one with the least key, or none. `current` counts where `running` is set, in what
+ * is asked for (the demand); it is not queued and is not named. A board calls it whenever somebody woke, the running
+ * thread's work or deadline ended, or the period changed: the first selection of a period refreshes every Budget thread
+ * that had spent its time and files it as having time left. Changes the queue and the records of those threads and of
+ * the heads of the trees, the window, which is refreshed (not on an empty queue), and the answer.
+ * Refused: BadTable, BadConfig, Halted: then nothing is changed. After that, where they are met, Damaged, BadRecord and
+ * Halted for the first time: then window and answer are as they were, queue and table keep the stores so far (threads
+ * that were moved and refreshed, refreshed heads and, once all were moved, the queue's epoch). */
+uint64_t board_select(board_queue_t *queue, board_record_t *table, uint64_t count, board_path_t *path, uint8_t cpu,
+                      uint64_t now_ns, board_window_t *window, uint64_t running, const board_candidate_t *current,
+                      board_selection_t *selection);
 
-/* Refreshes the thread's budget and, where `running` is set, writes it as a candidate into `current`, as board_select
- * and
- * board_key take it; where it is not, `current` stays. Answers 0, 10, 4 or 11; refused, nothing is changed. */
-uint64_t board_candidate(uint64_t (*t)[BOARD_ROW_WORDS], size_t rows, uint64_t id, uint64_t running, uint64_t now_ns,
-                         uint64_t current[BOARD_ROW_WORDS]);
+/* The key of a candidate under a selection's demand. A board calls it for its running thread after board_select.
+   Changes the window, which is refreshed, and the key. Refused: BadConfig, then nothing is changed. */
+uint64_t board_key(board_window_t *window, uint64_t now_ns, const board_candidate_t *current,
+                   const board_demand_t *demand, board_key_t *key);
 
-/* Whether the thread's slice or burst is spent. The table is only read. Answers 0, 10, 4 or 11. */
-uint64_t board_expired(uint64_t (*t)[BOARD_ROW_WORDS], size_t rows, uint64_t id, uint64_t answer[BOARD_EXPIRED_WORDS]);
+/* Whether the thread's slice or burst is spent: 1 or 0 in `expired`. A board asks it of its running thread before
+   board_switch. Refused: BadTable, NoThread, BadRecord, then nothing is changed. */
+uint64_t board_expired(const board_record_t *table, uint64_t count, uint64_t thread, uint64_t *expired);
 
-/* Ends a turn: the thread's burst is whole again. Answers 0, 10, 4 or 11; refused, nothing is changed. */
-uint64_t board_finish(uint64_t (*t)[BOARD_ROW_WORDS], size_t rows, uint64_t id);
+/* Whether the running thread, of key `key` and parameters `current`, gives way to `ready`, which a selection named, and
+ * where it then goes. `expired`: its slice or burst is spent; `yielding`: it gives way by itself; `tail`: it was set to
+ * the end of its list. Where nobody runs, the key is one that is not set. Changes the answer. Not refused. */
+uint64_t board_switch(const board_ready_t *ready, const board_key_t *key, const board_candidate_t *current,
+                      uint64_t expired, uint64_t yielding, uint64_t tail, board_choice_t *choice);
 
-/* The running thread's key under a demand and a window, which is refreshed. Answers 0 or 5; refused, nothing is
-   changed. */
-uint64_t board_key(uint64_t window[BOARD_WINDOW_WORDS], uint64_t now_ns, const uint64_t current[BOARD_ROW_WORDS],
-                   const uint64_t demand[BOARD_DEMAND_WORDS], uint64_t key[BOARD_KEY_WORDS]);
+/* ---- turns, deadlines, accounting ---- */
 
-/* Whether the running thread, of key `key` and row or candidate `current`, gives way to the ready thread. `expired`:
- * its
- * turn is over; `yielding`: it gives way by itself; `tail`: it was placed at the end of its list. Answers 0. */
-uint64_t board_switch(const uint64_t ready[BOARD_KEY_WORDS], const uint64_t key[BOARD_KEY_WORDS],
-                      const uint64_t current[BOARD_ROW_WORDS], uint64_t expired, uint64_t yielding, uint64_t tail,
-                      uint64_t answer[BOARD_SWITCH_WORDS]);
+/* Refreshes the thread's budget and gives it a turn: at the back, or where `front` is set at the front (a FIFO thread a
+ * turn before all others; another keeps the one it has). A board calls it before each board_enqueue with front 0 and
+ * each board_enqueue_front with front 1. Changes the thread's record and the counters.
+ * Refused: BadTable, NoThread, BadRecord, Already, TurnsSpent, then nothing is changed. */
+uint64_t board_prepare(board_record_t *table, uint64_t count, uint64_t thread, uint64_t front, uint64_t now_ns,
+                       board_turns_t *turns);
 
-/* When to look again, for the running thread of key `key`: `competition`: other threads are queued; `budget_peer`:
- * budget
- * threads among them; `ready`: one of them is named. The window is refreshed, and the thread's budget. Answers 0, 10,
- * 5, 4 or 11; refused, nothing is changed. */
-uint64_t board_deadline(uint64_t (*t)[BOARD_ROW_WORDS], size_t rows, uint64_t id, uint64_t now_ns,
-                        const uint64_t key[BOARD_KEY_WORDS], uint64_t window[BOARD_WINDOW_WORDS], uint64_t competition,
-                        uint64_t budget_peer, uint64_t ready, const uint64_t demand[BOARD_DEMAND_WORDS],
-                        uint64_t answer[BOARD_DEADLINE_WORDS]);
+/* Ends a turn: the thread's burst is whole again. A board calls it where board_expired answered 1, after board_switch.
+   Changes the thread's record. Refused: BadTable, NoThread, BadRecord, then nothing is changed. */
+uint64_t board_finish(board_record_t *table, uint64_t count, uint64_t thread);
 
-/* Byte images, for what is saved or sent: the words in their order, each as eight bytes, the lowest first; of a queue
- * and of a table the rows one after the other. Unlike the calls above a load does not take any words: just those that
- * are the encoding of what they stand for, which is what a store gives. A choice or a flag is a number that it has, a
- * byte is below 256, a weight below 65536, and a word that nothing uses is 0: the number of an absent link, epoch or
- * budget, words 30 and 31 of a row, the last three of a root's. Whether policy, budget and runtime agree is not asked,
- * nor whether a window's configuration is one that board_window makes: the calls above ask it.
+/* When the board has to look again, for the running thread of key `key`. `competition`: other threads are queued;
+ * `budget_peer`: Budget threads are among them; `ready`: the selection named one. A board calls it when it is settled
+ * who runs, and sets its timer to the answer. Changes the thread's record and the window, which are refreshed, and the
+ * answer. Refused: BadTable, BadConfig, NoThread, BadRecord, then nothing is changed. */
+uint64_t board_deadline(board_record_t *table, uint64_t count, uint64_t thread, uint64_t now_ns, const board_key_t *key,
+                        board_window_t *window, uint64_t competition, uint64_t budget_peer, uint64_t ready,
+                        const board_demand_t *demand, board_deadline_t *deadline);
+
+/* Charges the thread and the window for the time from `start_ns` to `end_ns` under a mode, that of the thread's key. A
+ * board calls it whenever the running thread stopped, before anything else. Changes the thread's record and the window.
+ * Refused: BadTable, BadConfig, NoThread, BadRecord, BackInTime, then nothing is changed. */
+uint64_t board_account(board_record_t *table, uint64_t count, uint64_t thread, board_window_t *window, uint64_t mode,
+                       uint64_t start_ns, uint64_t end_ns);
+
+/* ---- images ---- */
+
+/* What is saved or sent: the words in their order, each as eight bytes, the lowest first. A load takes just those bytes
+ * that a store gives: a choice or a flag is a number that there is, a byte is below 256, a weight below 65536, and a
+ * word that nothing uses is 0 (the number of an absent link, epoch or budget, the spare words of a record). Whether
+ * policy, budget and runtime agree is not asked, nor whether a window's configuration is one that board_window takes:
+ * the calls above ask it. What was stored is loaded again as it was, word for word, and the other way round.
  *
- * `count` is how many bytes are lent. Refused, in this order: 10, where they are not as many as the image has; then, of
- * bytes or words that nothing encodes to, the number that the call names. Refused, nothing is changed. What was stored
- * is loaded again as it was, word for word, and what was loaded is stored again as it was, byte for byte. */
+ * `byte_count` is how many bytes are lent. Refused: BadTable, where they are not as many as the image has; then the
+ * refusal that is named at the call, where the words or bytes are no encoding. Then nothing is changed. */
+#define BOARD_RECORD_BYTES 256 /* a table has as many for each of its records */
+#define BOARD_WINDOW_BYTES 96
+#define BOARD_QUEUE_BYTES 10800
 
-/* One record, 256 bytes. Answers 0, 10 or 11. */
-uint64_t image_load_record(const uint8_t *bytes, size_t count, uint64_t row[BOARD_ROW_WORDS]);
-uint64_t image_store_record(const uint64_t row[BOARD_ROW_WORDS], uint8_t *bytes, size_t count);
+/* One record. Refused: BadTable, BadRecord. */
+uint64_t image_load_record(const uint8_t *bytes, uint64_t byte_count, board_record_t *record);
+uint64_t image_store_record(const board_record_t *record, uint8_t *bytes, uint64_t byte_count);
 
-/* A window, 96 bytes. Answers 0, 10 or 5. */
-uint64_t image_load_window(const uint8_t *bytes, size_t count, uint64_t window[BOARD_WINDOW_WORDS]);
-uint64_t image_store_window(const uint64_t window[BOARD_WINDOW_WORDS], uint8_t *bytes, size_t count);
+/* A window. Refused: BadTable, BadConfig. */
+uint64_t image_load_window(const uint8_t *bytes, uint64_t byte_count, board_window_t *window);
+uint64_t image_store_window(const board_window_t *window, uint8_t *bytes, uint64_t byte_count);
 
-/* A queue, 10,800 bytes. Answers 0, 10 or 1. Whether its lists and trees are sound is not asked. */
-uint64_t image_load_queue(const uint8_t *bytes, size_t count, board_queue *q);
-uint64_t image_store_queue(const board_queue *q, uint8_t *bytes, size_t count);
+/* A queue. Refused: BadTable, Damaged. Whether its lists and trees are sound is not asked. */
+uint64_t image_load_queue(const uint8_t *bytes, uint64_t byte_count, board_queue_t *queue);
+uint64_t image_store_queue(const board_queue_t *queue, uint8_t *bytes, uint64_t byte_count);
 
-/* A table, 256 bytes for each of its `rows`. Answers 0, 10 (also where the rows are more than BOARD_MOST_RECORDS) or
- * 11. Refused, no row is changed, those before the one that is not an encoding neither. */
-uint64_t image_load_table(const uint8_t *bytes, size_t count, uint64_t (*t)[BOARD_ROW_WORDS], size_t rows);
-uint64_t image_store_table(uint64_t (*t)[BOARD_ROW_WORDS], size_t rows, uint8_t *bytes, size_t count);
+/* A table. Refused: BadTable (also where the records are more than BOARD_MOST_RECORDS), BadRecord: then no record is
+   changed, those before the one that is no encoding neither. */
+uint64_t image_load_table(const uint8_t *bytes, uint64_t byte_count, board_record_t *table, uint64_t count);
+uint64_t image_store_table(const board_record_t *table, uint64_t count, uint8_t *bytes, uint64_t byte_count);
 
 #ifdef __cplusplus
 }

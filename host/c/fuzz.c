@@ -10,12 +10,16 @@
  * is answered, a row's parameters, processor or spare words changed, those of a root's row in the queue too, a part of
  * a row (a link, say) that is neither as it was nor an encoding, and a row changed that the call has nothing to do
  * with: of a queue's call one that no link leads to from the queue or the named thread, of the others any but the named
- * thread's. The table of answers is printed; the last line is `fuzz: N calls, 0 faults`, and the exit status then 0. */
+ * thread's. The table of answers is printed; the last line is `fuzz: N calls, 0 faults`, and the exit status then 0.
+ *
+ * A seed gives the same calls and the same table on every compiler and target: no expression draws two random numbers
+ * whose order the language leaves open. */
 #define _GNU_SOURCE
 #include <inttypes.h>
 #include <setjmp.h>
 #include <signal.h>
 #include <stdbool.h>
+#include <stddef.h>
 #include <stdio.h>
 #include <stdlib.h>
 #include <string.h>
@@ -24,8 +28,26 @@
 
 #include "board.h"
 
-enum { ANSWERS = 13, SHOWN = 20, WATCHED = 64, PAGE = 4096, ROOT_ROW = 257, MARK_ROW = 269,
-       MARK_WORD = 4 };
+/* Things are lent and judged as words: how many a struct has, and at which of them a field stands. */
+#define WORDS(type) (sizeof(type) / sizeof(uint64_t))
+#define WORD(type, field) (offsetof(type, field) / sizeof(uint64_t))
+
+enum { ANSWERS = 13, SHOWN = 20, WATCHED = 64, PAGE = 4096 };
+
+enum { QUEUE_WORDS = WORDS(board_queue_t), PATH_WORDS = WORDS(board_path_t), ROW_WORDS = WORDS(board_record_t),
+       WINDOW_WORDS = WORDS(board_window_t), CONFIG_WORDS = WORDS(board_config_t), TURN_WORDS = WORDS(board_turns_t),
+       SELECTION_WORDS = WORDS(board_selection_t), KEY_WORDS = WORDS(board_key_t),
+       DEMAND_WORDS = WORDS(board_demand_t), LENGTH_WORDS = WORDS(board_lengths_t),
+       CHOICE_WORDS = WORDS(board_choice_t), DEADLINE_WORDS = WORDS(board_deadline_t), FLAG_WORDS = 1 };
+
+/* Words of a thread's row, at which its parts begin. */
+enum { RUNTIME = WORD(board_record_t, runtime_kind), LEFT = WORD(board_record_t, left),
+       RIGHT = WORD(board_record_t, right), HEIGHT = WORD(board_record_t, height),
+       PREVIOUS = WORD(board_record_t, previous), NEXT = WORD(board_record_t, next),
+       MEMBERSHIP = WORD(board_record_t, membership), PROCESSOR = WORD(board_record_t, cpu) };
+
+/* Rows of a queue: lists, of which the fair one is the last, roots, and counts, epoch and mark. */
+enum { FAIR_ROW = 256, ROOT_ROW = 257, MARK_ROW = 269, MARK_WORD = 4 };
 
 #define CANARY UINT64_C(0xa5a5a5a5a5a5a5a5)
 
@@ -54,8 +76,9 @@ static bool one_in(uint64_t bound)
 /* Any number, small ones and those near 2^64 more often. */
 static uint64_t number(void)
 {
-    uint64_t n = any() >> below(64);
-    return one_in(8) ? ~n : n;
+    uint64_t whole = any();
+    uint64_t shorter = whole >> below(64);
+    return one_in(8) ? ~shorter : shorter;
 }
 
 /* ---- lent things ---- */
@@ -116,10 +139,8 @@ static bool unchanged(const struct lent *thing)
 }
 
 /* The table's rows and the queue's before the call. */
-static uint64_t rows_before[BOARD_MOST_RECORDS + 1][BOARD_ROW_WORDS];
+static uint64_t rows_before[BOARD_MOST_RECORDS + 1][ROW_WORDS];
 static uint64_t queue_before[BOARD_QUEUE_ROWS][BOARD_QUEUE_ROW_WORDS];
-
-enum { LEFT = 17, RIGHT = 19, HEIGHT = 21, PREVIOUS = 22, NEXT = 24, MEMBERSHIP = 26, PROCESSOR = 29, SPARE = 30 };
 
 /* None has no number. */
 static bool option_encodes(const uint64_t *w)
@@ -142,17 +163,17 @@ static bool runtime_encodes(const uint64_t *w)
     switch (w[0]) {
     case BOARD_POLICY_FAIR: return w[4] == 0;
     case BOARD_POLICY_BUDGET: return option_encodes(w + 1);
-    default: return w[0] < 4 && zeros(w + 1, 4);
+    default: return w[0] <= BOARD_POLICY_IDLE && zeros(w + 1, 4);
     }
 }
 
 static bool membership_encodes(const uint64_t *w)
 {
     switch (w[0]) {
-    case 1: return w[1] < 256 && w[2] < 256;
-    case 2: return w[1] < 256 && w[2] == 0;
-    case 3: return w[2] == 0;
-    default: return w[0] < 5 && zeros(w + 1, 2);
+    case BOARD_MEMBER_READY_FIFO: return w[1] < 256 && w[2] < 256;
+    case BOARD_MEMBER_READY_FAIR: return w[1] < 256 && w[2] == 0;
+    case BOARD_MEMBER_WAITING: return w[2] == 0;
+    default: return w[0] <= BOARD_MEMBER_TERMINATED && zeros(w + 1, 2);
     }
 }
 
@@ -177,7 +198,7 @@ static bool runtime_stored(const uint64_t *was, const uint64_t *is)
 
 static bool row_stored(const uint64_t *was, const uint64_t *is)
 {
-    return runtime_stored(was + BOARD_ROW_RUNTIME, is + BOARD_ROW_RUNTIME) && option_stored(was + LEFT, is + LEFT)
+    return runtime_stored(was + RUNTIME, is + RUNTIME) && option_stored(was + LEFT, is + LEFT)
         && option_stored(was + RIGHT, is + RIGHT) && (is[HEIGHT] < 256 || is[HEIGHT] == was[HEIGHT])
         && option_stored(was + PREVIOUS, is + PREVIOUS) && option_stored(was + NEXT, is + NEXT)
         && (membership_encodes(is + MEMBERSHIP) || same(was + MEMBERSHIP, is + MEMBERSHIP, 3));
@@ -198,10 +219,20 @@ static bool queue_row_stored(size_t k, const uint64_t *was, const uint64_t *is)
 /* ---- the caller's own words, which go from call to call ---- */
 
 static size_t rows;
-static uint64_t own_window[BOARD_WINDOW_WORDS], own_turns[BOARD_TURNS_WORDS], own_current[BOARD_ROW_WORDS],
-own_demand[BOARD_DEMAND_WORDS], own_key[BOARD_KEY_WORDS],
-    own_selection[BOARD_SELECTION_WORDS], own_config[BOARD_CONFIG_WORDS];
+static board_window_t own_window;
+static board_config_t own_config;
+static board_turns_t own_turns;
+static board_candidate_t own_current;
+static board_demand_t own_demand;
+static board_key_t own_key;
+static board_selection_t own_selection;
 static uint64_t now_ns, period;
+
+/* A struct as its words. */
+static uint64_t *words_of(void *whole)
+{
+    return (uint64_t *)whole;
+}
 
 static void fill(uint64_t *words, size_t count)
 {
@@ -210,50 +241,59 @@ static void fill(uint64_t *words, size_t count)
     }
 }
 
-/* A row that a queue takes, mostly. */
-static void fill_row(uint64_t *row)
+static void fill_budget(board_record_t *record)
+{
+    board_parameters_t *its = &record->parameters;
+    board_budget_runtime_t *left = &record->runtime.budget;
+    its->has_budget = 1;
+    its->period_ns = one_in(8) ? 1 + below(20) : period;
+    its->budget_ns = 1 + below(its->period_ns);
+    its->burst_ns = 1 + below(its->period_ns);
+    left->has_epoch = below(2);
+    left->epoch = left->has_epoch * (now_ns / period);
+    left->time_left_ns = one_in(2) ? 0 : below(its->budget_ns + 1);
+    left->burst_left_ns = below(its->burst_ns + 1);
+}
+
+/* A record that a queue takes, mostly. */
+static void fill_record(board_record_t *record)
 {
     uint64_t policy = one_in(16) ? below(5) : below(3);
-    memset(row, 0, BOARD_ROW_WORDS * sizeof *row);
-    row[BOARD_ROW_POLICY] = policy;
-    row[BOARD_ROW_PRIORITY] = policy == BOARD_POLICY_FIFO ? below(4) : 0;
-    row[BOARD_ROW_BAND] = below(3);
-    row[BOARD_ROW_ROLE] = below(3);
-    row[BOARD_ROW_WEIGHT] = 16;
-    row[BOARD_ROW_BACKEND] = below(2);
-    row[BOARD_ROW_RUNTIME] = policy;
-    row[BOARD_ROW_TURN] = one_in(4) ? 0 : BOARD_TURNS_START + below(16);
-    row[BOARD_ROW_HEIGHT] = 1;
-    row[BOARD_ROW_CPU] = one_in(32);
+    memset(record, 0, sizeof *record);
+    record->parameters.policy = policy;
+    record->parameters.priority = policy == BOARD_POLICY_FIFO ? below(4) : 0;
+    record->parameters.band = below(3);
+    record->parameters.role = below(3);
+    record->parameters.weight = BOARD_USUAL_WEIGHT;
+    record->parameters.backend = below(2);
+    record->runtime_kind = policy;
+    record->turn = one_in(4) ? 0 : BOARD_TURNS_START + below(16);
+    record->height = BOARD_NEW_HEIGHT;
+    record->cpu = one_in(32);
     if (policy == BOARD_POLICY_FAIR) {
-        row[BOARD_ROW_PASS_LOW] = below(8);
-        row[BOARD_ROW_SLICE_LEFT] = below(3);
+        record->runtime.fair.pass_low = below(8);
+        record->runtime.fair.slice_left_ns = below(3);
     } else if (policy == BOARD_POLICY_BUDGET) {
-        row[BOARD_ROW_HAS_BUDGET] = 1;
-        row[BOARD_ROW_PERIOD] = one_in(8) ? 1 + below(20) : period;
-        row[BOARD_ROW_BUDGET] = 1 + below(row[BOARD_ROW_PERIOD]);
-        row[BOARD_ROW_BURST] = 1 + below(row[BOARD_ROW_PERIOD]);
-        row[BOARD_ROW_HAS_EPOCH] = below(2);
-        row[BOARD_ROW_EPOCH] = row[BOARD_ROW_HAS_EPOCH] * (now_ns / period);
-        row[BOARD_ROW_TIME_LEFT] = one_in(2) ? 0 : below(row[BOARD_ROW_BUDGET] + 1);
-        row[BOARD_ROW_BURST_LEFT] = below(row[BOARD_ROW_BURST] + 1);
+        fill_budget(record);
     }
 }
 
 static uint64_t *row(size_t i)
 {
-    return table.at + i * BOARD_ROW_WORDS;
+    return table.at + i * ROW_WORDS;
 }
 
-static void fill_config(uint64_t *words)
+static board_record_t *records(void)
 {
-    words[BOARD_WINDOW_PERIOD] = period;
-    words[BOARD_WINDOW_FLOOR] = 1 + below(period - 1);
-    words[BOARD_WINDOW_ALLOWANCE] = below(period - words[BOARD_WINDOW_FLOOR]);
-    for (uint64_t rank = 0; rank < 4; rank++) {
-        words[BOARD_WINDOW_PRIORITY_RANK + rank] = rank;
-    }
-    words[BOARD_WINDOW_PREFER_FAIR] = below(2);
+    return (board_record_t *)(void *)table.at;
+}
+
+static void fill_config(board_config_t *config)
+{
+    uint64_t floor = 1 + below(period - 1);
+    uint64_t allowance = below(period - floor);
+    *config = board_config(period, allowance, floor);
+    config->prefer_fair = below(2);
 }
 
 static size_t row_count(void)
@@ -267,64 +307,108 @@ static size_t row_count(void)
     }
 }
 
-/* A new round: a new queue over sound rows, or words of any kind. */
+/* A new queue over sound records, with a window that is not yet of any period. */
+static void begin_sound(void)
+{
+    memset(queue.at, 0, queue.words * sizeof(uint64_t));
+    for (size_t i = 0; i < rows; i++) {
+        fill_record(&records()[i]);
+    }
+    fill_config(&own_config);
+    memset(&own_window, 0, sizeof own_window);
+    own_window.config = own_config;
+    own_window.allowance_left_ns = own_config.allowance_ns;
+    own_window.floor_left_ns = own_config.floor_ns;
+    own_turns.back = own_turns.front = BOARD_TURNS_START;
+    board_record_t running;
+    fill_record(&running);
+    memcpy(&own_current, &running, sizeof own_current);
+}
+
+static uint64_t *mark(void)
+{
+    return queue.at + MARK_ROW * BOARD_QUEUE_ROW_WORDS + MARK_WORD;
+}
+
+static void begin_of_any_kind(void)
+{
+    fill(table.at, table.words);
+    fill(queue.at, queue.words);
+    *mark() = one_in(8);
+    fill(words_of(&own_current), ROW_WORDS);
+    if (one_in(2)) {
+        fill(words_of(&own_window), WINDOW_WORDS);
+    }
+}
+
+/* A new round: a new queue over sound records, or words of any kind. */
 static void begin_round(void)
 {
     bool of_any_kind = one_in(4);
     period = one_in(2) ? 10 : 2 + below(999999999);
     now_ns = one_in(8) ? number() : below(4 * period);
     rows = row_count();
-    place(&table, rows * BOARD_ROW_WORDS);
-    place(&queue, BOARD_QUEUE_ROWS * BOARD_QUEUE_ROW_WORDS);
-    memset(queue.at, 0, queue.words * sizeof(uint64_t));
-    for (size_t i = 0; i < rows; i++) {
-        fill_row(row(i));
-    }
-    fill_config(own_config);
-    memcpy(own_window, own_config, sizeof own_config);
-    own_window[BOARD_WINDOW_HAS_EPOCH] = 0;
-    own_window[BOARD_WINDOW_EPOCH] = 0;
-    own_window[BOARD_WINDOW_ALLOWANCE_LEFT] = own_config[BOARD_WINDOW_ALLOWANCE];
-    own_window[BOARD_WINDOW_FLOOR_LEFT] = own_config[BOARD_WINDOW_FLOOR];
-    own_turns[0] = own_turns[1] = BOARD_TURNS_START;
-    fill_row(own_current);
-    fill(own_key, BOARD_KEY_WORDS);
-    fill(own_demand, BOARD_DEMAND_WORDS);
-    fill(own_selection, BOARD_SELECTION_WORDS);
+    place(&table, rows * ROW_WORDS);
+    place(&queue, QUEUE_WORDS);
+    begin_sound();
+    fill(words_of(&own_key), KEY_WORDS);
+    fill(words_of(&own_demand), DEMAND_WORDS);
+    fill(words_of(&own_selection), SELECTION_WORDS);
     if (of_any_kind) {
-        fill(table.at, table.words);
-        fill(queue.at, queue.words);
-        queue.at[MARK_ROW * BOARD_QUEUE_ROW_WORDS + MARK_WORD] = one_in(8);
-        fill(own_current, BOARD_ROW_WORDS);
-        if (one_in(2)) {
-            fill(own_window, BOARD_WINDOW_WORDS);
-        }
+        begin_of_any_kind();
     }
 }
 
-/* A few words overwritten or a bit of them turned. The mark of a halted queue is taken away at times, so that a round
-   goes on. */
-static void damage(void)
+/* One word of the queue or, more often, of the table overwritten, or a bit of it turned. */
+static void damage_word(void)
 {
     struct lent *const things[] = {&queue, &table, &table};
+    struct lent *thing = things[below(3)];
+    if (thing->words != 0) {
+        uint64_t *word = thing->at + below(thing->words);
+        *word = one_in(2) ? *word ^ UINT64_C(1) << below(64) : one_in(2) ? below(rows + 2) : number();
+    }
+}
+
+/* A word of the fair list, of a root, or of counts and epoch. */
+static void damage_root(void)
+{
+    uint64_t its_row = FAIR_ROW + below(BOARD_QUEUE_ROWS - FAIR_ROW);
+    uint64_t its_word = below(MARK_WORD);
+    queue.at[its_row * BOARD_QUEUE_ROW_WORDS + its_word] = one_in(2) ? below(rows + 2) : below(2);
+}
+
+static void damage_window(void)
+{
+    uint64_t its_word = below(WINDOW_WORDS);
+    words_of(&own_window)[its_word] = number();
+}
+
+/* A counter near an end. */
+static void damage_turns(void)
+{
+    uint64_t its_word = below(TURN_WORDS);
+    uint64_t near_end = below(3);
+    words_of(&own_turns)[its_word] = one_in(2) ? near_end : ~near_end;
+}
+
+/* The mark of a halted queue is taken away at times, so that a round goes on. */
+static void damage(void)
+{
     for (uint64_t n = 1 + below(3); n > 0; n--) {
-        struct lent *thing = things[below(3)];
-        if (thing->words != 0) {
-            uint64_t *word = thing->at + below(thing->words);
-            *word = one_in(2) ? *word ^ UINT64_C(1) << below(64) : one_in(2) ? below(rows + 2) : number();
-        }
+        damage_word();
     }
     if (one_in(2)) {
-        queue.at[(256 + below(14)) * BOARD_QUEUE_ROW_WORDS + below(4)] = one_in(2) ? below(rows + 2) : below(2);
+        damage_root();
     }
     if (one_in(4)) {
-        own_window[below(BOARD_WINDOW_WORDS)] = number();
+        damage_window();
     }
     if (one_in(4)) {
-        own_turns[below(2)] = one_in(2) ? below(3) : ~below(3);
+        damage_turns();
     }
     if (one_in(2)) {
-        queue.at[MARK_ROW * BOARD_QUEUE_ROW_WORDS + MARK_WORD] = 0;
+        *mark() = 0;
     }
 }
 
@@ -401,28 +485,20 @@ static void lend(struct lent *thing, const uint64_t *own, size_t length)
     memcpy(thing->at, own, length * sizeof *own);
 }
 
-static void take_back(const struct lent *thing, uint64_t *own, size_t length)
+/* By the first words of a window too. */
+static bool sound_config(const uint64_t *words)
 {
-    if (thing->words == length) {
-        memcpy(own, thing->at, length * sizeof *own);
-    }
-}
-
-static bool sound_config(const uint64_t *w)
-{
-    uint64_t its_period = w[BOARD_WINDOW_PERIOD], floor = w[BOARD_WINDOW_FLOOR];
-    for (size_t rank = 3; rank < 6; rank++) {
-        if (w[rank] % 256 >= w[rank + 1] % 256) {
-            return false;
-        }
-    }
-    return its_period != 0 && its_period <= 1000000000 && floor != 0 && floor < its_period
-        && w[BOARD_WINDOW_ALLOWANCE] < its_period - floor;
+    board_config_t its;
+    memcpy(&its, words, sizeof its);
+    uint64_t priority = its.priority_rank % 256, budget = its.budget_rank % 256, fair = its.fair_rank % 256;
+    return priority < budget && budget < fair && fair < its.borrow_rank % 256 && its.period_ns != 0
+        && its.period_ns <= 1000000000 && its.floor_ns != 0 && its.floor_ns < its.period_ns
+        && its.allowance_ns < its.period_ns - its.floor_ns;
 }
 
 static bool is_halted(void)
 {
-    return queue.at[MARK_ROW * BOARD_QUEUE_ROW_WORDS + MARK_WORD] != 0;
+    return *mark() != 0;
 }
 
 /* Document 01's refusals that come before all others, in its order; 0 where none holds. */
@@ -481,40 +557,73 @@ static uint64_t start_before(uint64_t end)
     return one_in(8) ? number() : end - (end == 0 ? 0 : below(end < 2 * period ? end + 1 : 2 * period));
 }
 
-typedef uint64_t (*row_array)[BOARD_ROW_WORDS];
+/* What the next call is handed beside what is lent to it. */
+struct numbers {
+    uint8_t cpu;
+    uint64_t first, second, third; /* flags */
+    uint64_t mode, start_ns;
+};
 
-static uint64_t made(void)
+/* Drawn one after the other, as many as the entry takes. */
+static struct numbers drawn(void)
 {
-    board_queue *q = (board_queue *)(void *)queue.at;
-    board_path *p = (board_path *)(void *)path.at;
-    row_array t = (row_array)(void *)table.at;
-    uint64_t *w = window.at, *c = current.at, *d = demand.at, *k = key.at, *o = answer.at;
+    struct numbers with = {0, 0, 0, 0, 0, 0};
+    if (entry == ENQUEUE || entry == FRONT || entry == REMOVE || entry == SELECT) {
+        with.cpu = processor();
+    }
+    if (entry == SELECT || entry == PREPARE || entry == CANDIDATE || entry == SWITCH || entry == DEADLINE) {
+        with.first = flag();
+    }
+    if (entry == SWITCH || entry == DEADLINE) {
+        with.second = flag();
+        with.third = flag();
+    }
+    if (entry == ACCOUNT) {
+        with.mode = one_in(8) ? number() : below(5);
+        with.start_ns = start_before(now_ns);
+    }
+    return with;
+}
+
+static uint64_t made(struct numbers with)
+{
+    board_queue_t *q = (board_queue_t *)(void *)queue.at;
+    board_path_t *p = (board_path_t *)(void *)path.at;
+    board_record_t *t = records();
+    board_window_t *w = (board_window_t *)(void *)window.at;
+    board_candidate_t *c = (board_candidate_t *)(void *)current.at;
+    board_demand_t *d = (board_demand_t *)(void *)demand.at;
+    board_key_t *k = (board_key_t *)(void *)key.at;
+    void *o = answer.at;
     switch (entry) {
     case NEW: return board_new(q);
-    case ENQUEUE: return board_enqueue(q, t, rows, p, id, processor());
-    case FRONT: return board_enqueue_front(q, t, rows, p, id, processor());
-    case REMOVE: return board_remove(q, t, rows, p, id, processor());
-    case LENGTHS: return board_lengths(q, o);
-    case WINDOW: return board_window(w, config.at);
-    case SELECT: return board_select(q, t, rows, p, processor(), now_ns, w, flag(), c, o);
-    case PREPARE: return board_prepare(t, rows, id, flag(), now_ns, turns.at);
-    case ACCOUNT: return board_account(t, rows, id, w, one_in(8) ? number() : below(5), start_before(now_ns), now_ns);
-    case CANDIDATE: return board_candidate(t, rows, id, flag(), now_ns, c);
-    case EXPIRED: return board_expired(t, rows, id, o);
+    case ENQUEUE: return board_enqueue(q, t, rows, p, id, with.cpu);
+    case FRONT: return board_enqueue_front(q, t, rows, p, id, with.cpu);
+    case REMOVE: return board_remove(q, t, rows, p, id, with.cpu);
+    case LENGTHS: return board_lengths(q, (board_lengths_t *)o);
+    case WINDOW: return board_window(w, (board_config_t *)(void *)config.at);
+    case SELECT: return board_select(q, t, rows, p, with.cpu, now_ns, w, with.first, c, (board_selection_t *)o);
+    case PREPARE: return board_prepare(t, rows, id, with.first, now_ns, (board_turns_t *)(void *)turns.at);
+    case ACCOUNT: return board_account(t, rows, id, w, with.mode, with.start_ns, now_ns);
+    case CANDIDATE: return board_candidate(t, rows, id, with.first, now_ns, c);
+    case EXPIRED: return board_expired(t, rows, id, answer.at);
     case FINISH: return board_finish(t, rows, id);
     case KEY: return board_key(w, now_ns, c, d, k);
-    case SWITCH: return board_switch(ready.at, k, c, flag(), flag(), flag(), o);
-    default: return board_deadline(t, rows, id, now_ns, k, w, flag(), flag(), flag(), d, o);
+    case SWITCH: return board_switch((board_ready_t *)(void *)ready.at, k, c, with.first, with.second, with.third,
+                                     (board_choice_t *)o);
+    default: return board_deadline(t, rows, id, now_ns, k, w, with.first, with.second, with.third, d,
+                                   (board_deadline_t *)o);
     }
 }
 
 static size_t answer_length(void)
 {
     switch (entry) {
-    case LENGTHS: return BOARD_LENGTHS_WORDS;
-    case SELECT: return BOARD_SELECTION_WORDS;
-    case EXPIRED: return BOARD_EXPIRED_WORDS;
-    default: return 2;
+    case LENGTHS: return LENGTH_WORDS;
+    case SELECT: return SELECTION_WORDS;
+    case EXPIRED: return FLAG_WORDS;
+    case SWITCH: return CHOICE_WORDS;
+    default: return DEADLINE_WORDS;
     }
 }
 
@@ -535,11 +644,18 @@ static bool entry_lends(const struct lent *thing)
     }
 }
 
-/* Lends an array where the entry takes it, else nothing. */
-static void lent_to_entry(struct lent *thing, const uint64_t *own, size_t length)
+/* Lends own words where the entry takes them, else nothing; and takes back what was lent. */
+static void lent_to_entry(struct lent *thing, const void *own, size_t length)
 {
     if (entry_lends(thing)) {
-        lend(thing, own, length);
+        lend(thing, (const uint64_t *)own, length);
+    }
+}
+
+static void take_back(const struct lent *thing, void *own, size_t length)
+{
+    if (entry_lends(thing)) {
+        memcpy(own, thing->at, length * sizeof(uint64_t));
     }
 }
 
@@ -575,7 +691,6 @@ static bool leaves_all(uint64_t number, bool halted_before)
     return entry != SELECT || number == BOARD_BAD_TABLE || number == BOARD_BAD_CONFIG;
 }
 
-/* What no call does to the rows, whatever it answers. `alone`: the call has to do with the named thread's row alone. */
 /* The rows that a call has to do with: the named thread's, and of a queue's call those that links lead to from it, from
    the queue's words and from one another. */
 static bool reached[BOARD_MOST_RECORDS + 1];
@@ -611,22 +726,24 @@ static void find_reached(void)
     }
 }
 
+/* What no call does to the rows, whatever it answers. */
 static void judge_rows(void)
 {
     for (size_t i = 0; i < rows; i++) {
         const uint64_t *was = rows_before[i], *is = row(i);
-        if (!same(was, is, BOARD_ROW_RUNTIME)
-            || !same(was + PROCESSOR, is + PROCESSOR, BOARD_ROW_WORDS - PROCESSOR)) {
+        if (!same(was, is, RUNTIME)
+            || !same(was + PROCESSOR, is + PROCESSOR, ROW_WORDS - PROCESSOR)) {
             fault("parameters, processor or spare words of a row are changed", i);
         }
         if (!row_stored(was, is)) {
             fault("what is stored to a row is no record's encoding", i);
         }
-        if (!reached[i] && !same(was, is, BOARD_ROW_WORDS)) {
+        if (!reached[i] && !same(was, is, ROW_WORDS)) {
             fault("a row that the call has nothing to do with is changed", i);
         }
     }
 }
+
 static void judge_queue(void)
 {
     for (size_t k = 0; k < BOARD_QUEUE_ROWS; k++) {
@@ -636,7 +753,7 @@ static void judge_queue(void)
     }
 }
 
-static void judge(uint64_t got, uint64_t wanted, bool halted_before)
+static void judge_answer(uint64_t got, uint64_t wanted)
 {
     if (got >= ANSWERS - 1 || (allowed[entry] & BIT(got)) == 0) {
         fault("an answer that it does not have", got);
@@ -650,30 +767,49 @@ static void judge(uint64_t got, uint64_t wanted, bool halted_before)
     if (got == BOARD_HALTED && !is_halted()) {
         fault("a halt without its mark", got);
     }
+}
+
+static bool side_is_touched(const struct lent *thing)
+{
+    const uint64_t *side = watched(thing);
+    for (size_t k = 0; k < WATCHED; k++) {
+        if (side[k] != CANARY) {
+            return true;
+        }
+    }
+    return false;
+}
+
+/* A thing that was lent, this time or before. `refused`: the call was; `leaves`: and leaves queue and table. */
+static void judge_thing(size_t i, bool refused, bool leaves)
+{
+    const struct lent *thing = all[i];
+    if (thing->at == NULL) {
+        return;
+    }
+    bool everywhere = thing != &queue && thing != &table;
+    bool kept = !may_change(thing) || leaves || (refused && everywhere);
+    if (kept && thing != &path && !unchanged(thing)) {
+        fault("words that were to stay are changed", i);
+    }
+    if (side_is_touched(thing)) {
+        fault("a word outside is changed", i);
+    }
+}
+
+static void judge(uint64_t got, uint64_t wanted, bool halted_before)
+{
+    judge_answer(got, wanted);
     if (lends[entry] & LENDS_TABLE) {
         judge_rows();
     }
     if ((lends[entry] & LENDS_QUEUE) && entry != NEW) {
         judge_queue();
     }
-    bool leaves = got != BOARD_MADE && leaves_all(got, halted_before);
+    bool refused = got != BOARD_MADE;
+    bool leaves = refused && leaves_all(got, halted_before);
     for (size_t i = 0; i < sizeof all / sizeof *all; i++) {
-        const struct lent *thing = all[i];
-        if (thing->at == NULL) {
-            continue;
-        }
-        bool everywhere = thing != &queue && thing != &table;
-        bool kept = !may_change(thing) || leaves || (got != BOARD_MADE && everywhere);
-        if (kept && thing != &path && !unchanged(thing)) {
-            fault("words that were to stay are changed", i);
-        }
-        const uint64_t *side = watched(thing);
-        for (size_t k = 0; k < WATCHED; k++) {
-            if (side[k] != CANARY) {
-                fault("a word outside is changed", i);
-                break;
-            }
-        }
+        judge_thing(i, refused, leaves);
     }
 }
 
@@ -698,7 +834,8 @@ static void caught(int number)
     siglongjmp(out, number);
 }
 
-static void call(void)
+/* Which entry is called, of which thread and when. */
+static void choose_call(void)
 {
     entry = (enum entry)below(ENTRIES);
     if (entry == NEW && !one_in(16)) {
@@ -706,29 +843,47 @@ static void call(void)
     }
     id = a_thread();
     tick();
-    place(&path, BOARD_PATH_ROWS * BOARD_PATH_ROW_WORDS);
-    lent_to_entry(&window, own_window, BOARD_WINDOW_WORDS);
+}
+
+static void damage_config(void)
+{
+    uint64_t its_word = below(CONFIG_WORDS);
+    words_of(&own_config)[its_word] = number();
+}
+
+static void lend_all(void)
+{
+    place(&path, PATH_WORDS);
+    lent_to_entry(&window, &own_window, WINDOW_WORDS);
     if (entry == WINDOW && one_in(2)) {
-        own_config[below(BOARD_CONFIG_WORDS)] = number();
+        damage_config();
     }
-    lent_to_entry(&config, own_config, BOARD_CONFIG_WORDS);
-    lent_to_entry(&current, own_current, BOARD_ROW_WORDS);
-    lent_to_entry(&demand, own_demand, BOARD_DEMAND_WORDS);
-    lent_to_entry(&key, own_key, BOARD_KEY_WORDS);
-    lent_to_entry(&ready, own_selection, BOARD_KEY_WORDS);
-    lent_to_entry(&answer, own_selection, answer_length());
-    lent_to_entry(&turns, own_turns, BOARD_TURNS_WORDS);
+    lent_to_entry(&config, &own_config, CONFIG_WORDS);
+    lent_to_entry(&current, &own_current, ROW_WORDS);
+    lent_to_entry(&demand, &own_demand, DEMAND_WORDS);
+    lent_to_entry(&key, &own_key, KEY_WORDS);
+    lent_to_entry(&ready, &own_selection.ready, KEY_WORDS);
+    lent_to_entry(&answer, &own_selection, answer_length());
+    lent_to_entry(&turns, &own_turns, TURN_WORDS);
+}
+
+/* What a thing is before the call, and the words beside it. */
+static void watch(struct lent *thing)
+{
+    thing->before = hash(thing);
+    uint64_t *side = watched(thing);
+    for (size_t k = 0; k < WATCHED; k++) {
+        side[k] = CANARY;
+    }
+}
+
+static void watch_all(void)
+{
     for (size_t i = 0; i < sizeof all / sizeof *all; i++) {
         if (all[i]->at != NULL) {
-            all[i]->before = hash(all[i]);
-            uint64_t *side = watched(all[i]);
-            for (size_t n = 0; n < WATCHED; n++) {
-                side[n] = CANARY;
-            }
+            watch(all[i]);
         }
     }
-    uint64_t wanted = due();
-    bool halted_before = is_halted();
     if (lends[entry] & LENDS_TABLE) {
         memcpy(rows_before, table.at, table.words * sizeof(uint64_t));
         find_reached();
@@ -736,6 +891,28 @@ static void call(void)
     if (lends[entry] & LENDS_QUEUE) {
         memcpy(queue_before, queue.at, sizeof queue_before);
     }
+}
+
+static void take_all_back(void)
+{
+    take_back(&window, &own_window, WINDOW_WORDS);
+    take_back(&current, &own_current, ROW_WORDS);
+    take_back(&key, &own_key, KEY_WORDS);
+    take_back(&turns, &own_turns, TURN_WORDS);
+    if (entry == SELECT) {
+        take_back(&answer, &own_selection, SELECTION_WORDS);
+        own_demand = own_selection.demand;
+    }
+}
+
+static void call(void)
+{
+    choose_call();
+    lend_all();
+    watch_all();
+    uint64_t wanted = due();
+    bool halted_before = is_halted();
+    struct numbers with = drawn();
     static volatile uint64_t got;
     int signalled = sigsetjmp(out, 1);
     if (signalled != 0) {
@@ -745,18 +922,11 @@ static void call(void)
         return;
     }
     calling = 1;
-    got = made();
+    got = made(with);
     calling = 0;
     counts[entry][got < ANSWERS - 1 ? got : ANSWERS - 1]++;
     judge(got, wanted, halted_before);
-    take_back(&window, own_window, BOARD_WINDOW_WORDS);
-    take_back(&current, own_current, BOARD_ROW_WORDS);
-    take_back(&key, own_key, BOARD_KEY_WORDS);
-    take_back(&turns, own_turns, BOARD_TURNS_WORDS);
-    if (entry == SELECT) {
-        take_back(&answer, own_selection, BOARD_SELECTION_WORDS);
-        memcpy(own_demand, own_selection + BOARD_SELECTION_DEMAND, sizeof own_demand);
-    }
+    take_all_back();
 }
 
 /* ---- the run ---- */
@@ -775,19 +945,29 @@ static void prepare_signals(void)
     setitimer(ITIMER_REAL, &each, NULL);
 }
 
-static void report(void)
+static void report_entry(size_t its)
 {
-    printf("%-20s", "answers");
+    printf("%-20s", names[its]);
     for (size_t n = 0; n < ANSWERS - 1; n++) {
-        printf(" %8zu", n);
+        printf(" %8" PRIu64, counts[its][n]);
     }
     printf("\n");
-    for (size_t e = 0; e < ENTRIES; e++) {
-        printf("%-20s", names[e]);
-        for (size_t n = 0; n < ANSWERS - 1; n++) {
-            printf(" %8" PRIu64, counts[e][n]);
-        }
-        printf("\n");
+}
+
+static void report_heading(void)
+{
+    printf("%-20s", "answers");
+    for (unsigned n = 0; n < ANSWERS - 1; n++) {
+        printf(" %8u", n);
+    }
+    printf("\n");
+}
+
+static void report(void)
+{
+    report_heading();
+    for (size_t its = 0; its < ENTRIES; its++) {
+        report_entry(its);
     }
     printf("fuzz: %" PRIu64 " calls, %" PRIu64 " faults\n", calls, faults);
 }
@@ -799,27 +979,41 @@ const char *__asan_default_options(void)
     return "handle_segv=0:handle_sigbus=0:handle_sigfpe=0:handle_sigill=0:detect_leaks=0";
 }
 
-int main(int count, char **words)
+static uint64_t limit = 1000000, most_faults = UINT64_MAX;
+
+/* Whether the words of the command are understood. */
+static bool read_words(int count, char **words)
 {
-    uint64_t limit = 1000000, most_faults = UINT64_MAX;
-    for (int i = 1; i + 1 < count; i += 2) {
-        uint64_t n = strtoull(words[i + 1], NULL, 10);
-        if (strcmp(words[i], "--calls") == 0) {
+    for (int i = 1; i < count; i += 2) {
+        uint64_t n = i + 1 < count ? strtoull(words[i + 1], NULL, 10) : 0;
+        if (i + 1 < count && strcmp(words[i], "--calls") == 0) {
             limit = n;
-        } else if (strcmp(words[i], "--seed") == 0) {
+        } else if (i + 1 < count && strcmp(words[i], "--seed") == 0) {
             seed = n;
-        } else if (strcmp(words[i], "--faults") == 0) {
+        } else if (i + 1 < count && strcmp(words[i], "--faults") == 0) {
             most_faults = n;
         } else {
-            fprintf(stderr, "usage: fuzz [--calls N] [--seed S] [--faults F]\n");
-            return 2;
+            return false;
         }
     }
-    random_state = seed;
+    return true;
+}
+
+static void make_all_room(void)
+{
     for (size_t i = 0; i < sizeof all / sizeof *all; i++) {
-        make_room(all[i], all[i] == &table ? (BOARD_MOST_RECORDS + 1) * BOARD_ROW_WORDS
-                  : BOARD_QUEUE_ROWS * BOARD_QUEUE_ROW_WORDS);
+        make_room(all[i], all[i] == &table ? (BOARD_MOST_RECORDS + 1) * ROW_WORDS : QUEUE_WORDS);
     }
+}
+
+int main(int count, char **words)
+{
+    if (!read_words(count, words)) {
+        fprintf(stderr, "usage: fuzz [--calls N] [--seed S] [--faults F]\n");
+        return 2;
+    }
+    random_state = seed;
+    make_all_room();
     prepare_signals();
     uint64_t left = 0;
     for (calls = 0; calls < limit && faults < most_faults; calls++) {

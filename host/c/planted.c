@@ -1,80 +1,90 @@
 /* Faults between the program fuzz and the library, to see that it notices them: built with -DPLANT=N and the linker's
-   --wrap. */
+   --wrap of the entry that has the fault. */
 #include <stdbool.h>
 
 #include "board.h"
+
+/* How many calls a fault comes after. */
+enum { SELDOM = 1024, AT_TIMES = 64 };
 
 static unsigned number;
 
 #if PLANT == 1
 /* One word behind the answer is written at times. */
-uint64_t __real_board_switch(const uint64_t *, const uint64_t *, const uint64_t *, uint64_t, uint64_t, uint64_t,
-                             uint64_t *);
-uint64_t __wrap_board_switch(const uint64_t *ready, const uint64_t *key, const uint64_t *current, uint64_t expired,
-                             uint64_t yielding, uint64_t tail, uint64_t *answer);
-uint64_t __wrap_board_switch(const uint64_t *ready, const uint64_t *key, const uint64_t *current, uint64_t expired,
-                             uint64_t yielding, uint64_t tail, uint64_t *answer)
+uint64_t __real_board_switch(const board_ready_t *, const board_key_t *, const board_candidate_t *, uint64_t, uint64_t,
+                             uint64_t, board_choice_t *);
+uint64_t __wrap_board_switch(const board_ready_t *ready, const board_key_t *key, const board_candidate_t *current,
+                             uint64_t expired, uint64_t yielding, uint64_t tail, board_choice_t *choice);
+uint64_t __wrap_board_switch(const board_ready_t *ready, const board_key_t *key, const board_candidate_t *current,
+                             uint64_t expired, uint64_t yielding, uint64_t tail, board_choice_t *choice)
 {
-    uint64_t got = __real_board_switch(ready, key, current, expired, yielding, tail, answer);
-    if (++number % 1024 == 0) {
-        answer[BOARD_SWITCH_WORDS] = 1;
+    uint64_t got = __real_board_switch(ready, key, current, expired, yielding, tail, choice);
+    if (++number % SELDOM == 0) {
+        uint64_t *behind = (uint64_t *)(void *)(choice + 1);
+        *behind = 1;
     }
     return got;
 }
 #elif PLANT == 7
 /* A spare word of a root's row is changed at times, though the call was made. */
-uint64_t __real_board_enqueue(board_queue *, uint64_t (*)[BOARD_ROW_WORDS], size_t, board_path *, uint64_t, uint8_t);
-uint64_t __wrap_board_enqueue(board_queue *q, uint64_t (*t)[BOARD_ROW_WORDS], size_t rows, board_path *path,
-                              uint64_t id, uint8_t cpu);
-uint64_t __wrap_board_enqueue(board_queue *q, uint64_t (*t)[BOARD_ROW_WORDS], size_t rows, board_path *path,
-                              uint64_t id, uint8_t cpu)
+enum { A_ROOT = 260, ITS_LAST_WORD = BOARD_QUEUE_ROW_WORDS - 1 };
+
+uint64_t __real_board_enqueue(board_queue_t *, board_record_t *, uint64_t, board_path_t *, uint64_t, uint8_t);
+uint64_t __wrap_board_enqueue(board_queue_t *queue, board_record_t *table, uint64_t count, board_path_t *path,
+                              uint64_t thread, uint8_t cpu);
+uint64_t __wrap_board_enqueue(board_queue_t *queue, board_record_t *table, uint64_t count, board_path_t *path,
+                              uint64_t thread, uint8_t cpu)
 {
-    uint64_t got = __real_board_enqueue(q, t, rows, path, id, cpu);
-    if (got == 0 && ++number % 64 == 0) {
-        q->rows[260][4] += 1;
+    uint64_t got = __real_board_enqueue(queue, table, count, path, thread, cpu);
+    if (got == BOARD_MADE && ++number % AT_TIMES == 0) {
+        queue->rows[A_ROOT][ITS_LAST_WORD] += 1;
     }
     return got;
 }
 #elif PLANT == 8
-/* At each selection that is made an absent link with a number beside it becomes 0, 0, in any row. */
-uint64_t __real_board_select(board_queue *, uint64_t (*)[BOARD_ROW_WORDS], size_t, board_path *, uint8_t, uint64_t,
-                             uint64_t *, uint64_t, const uint64_t *, uint64_t *);
-uint64_t __wrap_board_select(board_queue *q, uint64_t (*t)[BOARD_ROW_WORDS], size_t rows, board_path *path, uint8_t cpu,
-                             uint64_t now, uint64_t *window, uint64_t running, const uint64_t *current,
-                             uint64_t *answer);
-uint64_t __wrap_board_select(board_queue *q, uint64_t (*t)[BOARD_ROW_WORDS], size_t rows, board_path *path, uint8_t cpu,
-                             uint64_t now, uint64_t *window, uint64_t running, const uint64_t *current,
-                             uint64_t *answer)
+/* At each selection that is made an absent link with a number beside it becomes 0, 0, in any record. */
+uint64_t __real_board_select(board_queue_t *, board_record_t *, uint64_t, board_path_t *, uint8_t, uint64_t,
+                             board_window_t *, uint64_t, const board_candidate_t *, board_selection_t *);
+uint64_t __wrap_board_select(board_queue_t *queue, board_record_t *table, uint64_t count, board_path_t *path,
+                             uint8_t cpu, uint64_t now_ns, board_window_t *window, uint64_t running,
+                             const board_candidate_t *current, board_selection_t *selection);
+uint64_t __wrap_board_select(board_queue_t *queue, board_record_t *table, uint64_t count, board_path_t *path,
+                             uint8_t cpu, uint64_t now_ns, board_window_t *window, uint64_t running,
+                             const board_candidate_t *current, board_selection_t *selection)
 {
-    uint64_t got = __real_board_select(q, t, rows, path, cpu, now, window, running, current, answer);
-    for (size_t i = 0; got == 0 && i < rows; i++) {
+    uint64_t got = __real_board_select(queue, table, count, path, cpu, now_ns, window, running, current, selection);
+    for (uint64_t thread = 0; got == BOARD_MADE && thread < count; thread++) {
         number++;
-        t[i][18] = t[i][17] == 0 ? 0 : t[i][18];
+        if (table[thread].left.is_set == 0) {
+            table[thread].left.thread = 0;
+        }
     }
     return got;
 }
 #else
-/* At times it answers 12 (PLANT 2), changes the table though it refuses (3), does not end (4), changes another
-   thread's row (5), or a spare word of its own (6), though it was made. */
-uint64_t __real_board_finish(uint64_t (*)[BOARD_ROW_WORDS], size_t, uint64_t);
-uint64_t __wrap_board_finish(uint64_t (*t)[BOARD_ROW_WORDS], size_t rows, uint64_t id);
-uint64_t __wrap_board_finish(uint64_t (*t)[BOARD_ROW_WORDS], size_t rows, uint64_t id)
+/* At times it answers a number that there is not (PLANT 2), changes the table though it refuses (3), does not end (4),
+   changes another thread's record (5), or a spare word of its own (6), though it was made. */
+enum { NO_ANSWER = BOARD_BAD_RECORD + 1 };
+
+uint64_t __real_board_finish(board_record_t *, uint64_t, uint64_t);
+uint64_t __wrap_board_finish(board_record_t *table, uint64_t count, uint64_t thread);
+uint64_t __wrap_board_finish(board_record_t *table, uint64_t count, uint64_t thread)
 {
-    uint64_t got = __real_board_finish(t, rows, id);
-    bool refused = got != 0 && rows != 0;
-    bool made = got == 0 && rows > 1;
-    if ((PLANT == 3 && !refused) || (PLANT > 4 && !made) || ++number % 64 != 0) {
+    uint64_t got = __real_board_finish(table, count, thread);
+    bool refused = got != BOARD_MADE && count != 0;
+    bool made = got == BOARD_MADE && count > 1;
+    if ((PLANT == 3 && !refused) || (PLANT > 4 && !made) || ++number % AT_TIMES != 0) {
         return got;
     }
     if (PLANT == 3) {
-        t[0][31] += 1;
+        table[0].spare[1] += 1;
     } else if (PLANT == 5) {
-        t[id == 0][16] += 1;
+        table[thread == 0].turn += 1;
     } else if (PLANT == 6) {
-        t[id][30] += 1;
+        table[thread].spare[0] += 1;
     }
     for (volatile int on = PLANT == 4; on;) {
     }
-    return PLANT == 2 ? 12 : got;
+    return PLANT == 2 ? NO_ANSWER : got;
 }
 #endif

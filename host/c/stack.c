@@ -1,7 +1,7 @@
 /* How much stack each entry takes: each is called on a stack of its own that was painted before, and the deepest byte
- * that is no longer paint tells. 4,095 threads are queued in one tree; the selection
- * at a change of period moves all of them. What the calling function itself takes is measured the same way and taken
- * off. Prints a line an entry, in bytes. */
+ * that is no longer paint tells. 4,095 threads are queued in one tree; the selection at a change of period moves all of
+ * them. What the calling function itself takes is measured the same way and taken off. Prints a line an entry, in
+ * bytes; the exit status is 0 where every call was made. */
 #define _XOPEN_SOURCE 700
 #include <inttypes.h>
 #include <stdio.h>
@@ -10,18 +10,20 @@
 
 #include "board.h"
 
-enum { THREADS = 4096, STACK = 1 << 18, PAINT = 0xA5, PERIOD = 10000000 };
+enum { THREADS = BOARD_MOST_RECORDS, FREE = 7, STACK = 1 << 18, PAINT = 0xA5, PERIOD = 10000000 };
 
-static board_queue queue;
-static board_path path;
-static uint64_t table[THREADS][BOARD_ROW_WORDS];
-static uint64_t window[BOARD_WINDOW_WORDS];
-static uint64_t turns[BOARD_TURNS_WORDS] = {BOARD_TURNS_START, BOARD_TURNS_START};
-static uint64_t current[BOARD_ROW_WORDS];
-static uint64_t selection[BOARD_SELECTION_WORDS];
-static uint64_t key[BOARD_KEY_WORDS];
-static uint64_t words[BOARD_LENGTHS_WORDS];
-static const uint64_t config[BOARD_CONFIG_WORDS] = {PERIOD, 2000000, 3000000, 0, 1, 2, 3, 0};
+static board_queue_t queue;
+static board_path_t path;
+static board_record_t table[THREADS];
+static board_window_t window;
+static board_turns_t turns = BOARD_TURNS;
+static board_candidate_t current;
+static board_selection_t selection;
+static board_key_t key;
+static board_lengths_t queued;
+static board_choice_t choice;
+static board_deadline_t armed;
+static uint64_t spent;
 
 static unsigned char stack[STACK];
 static ucontext_t here, there;
@@ -29,34 +31,40 @@ static uint64_t answer;
 
 static void nothing(void) { answer = 0; }
 static void new_queue(void) { answer = board_new(&queue); }
-static void enqueue(void) { answer = board_enqueue(&queue, table, THREADS, &path, 7, 0); }
-static void enqueue_front(void) { answer = board_enqueue_front(&queue, table, THREADS, &path, 7, 0); }
-static void remove_thread(void) { answer = board_remove(&queue, table, THREADS, &path, 7, 0); }
-static void lengths(void) { answer = board_lengths(&queue, words); }
-static void new_window(void) { answer = board_window(window, config); }
+static void enqueue(void) { answer = board_enqueue(&queue, table, THREADS, &path, FREE, 0); }
+static void enqueue_front(void) { answer = board_enqueue_front(&queue, table, THREADS, &path, FREE, 0); }
+static void remove_thread(void) { answer = board_remove(&queue, table, THREADS, &path, FREE, 0); }
+static void lengths(void) { answer = board_lengths(&queue, &queued); }
+
+static void new_window(void)
+{
+    static const board_config_t config =
+        BOARD_CONFIG(.period_ns = PERIOD, .allowance_ns = 2000000, .floor_ns = 3000000);
+    answer = board_window(&window, &config);
+}
 
 /* The first time at a change of period, from then on within it. */
 static void select_thread(void)
 {
-    answer = board_select(&queue, table, THREADS, &path, 0, 2 * PERIOD, window, 1, current, selection);
+    answer = board_select(&queue, table, THREADS, &path, 0, 2 * PERIOD, &window, 1, &current, &selection);
 }
 
-static void prepare(void) { answer = board_prepare(table, THREADS, 7, 0, PERIOD, turns); }
+static void prepare(void) { answer = board_prepare(table, THREADS, FREE, 0, PERIOD, &turns); }
+
 static void account(void)
 {
-    answer = board_account(table, THREADS, 7, window, BOARD_MODE_PROTECTED, PERIOD, PERIOD + 1000);
+    answer = board_account(table, THREADS, FREE, &window, BOARD_MODE_PROTECTED, PERIOD, PERIOD + 1000);
 }
 
-static void candidate(void) { answer = board_candidate(table, THREADS, 7, 1, PERIOD, current); }
-static void expired(void) { answer = board_expired(table, THREADS, 7, words); }
-static void finish(void) { answer = board_finish(table, THREADS, 7); }
-static void key_of(void) { answer = board_key(window, PERIOD, current, selection + BOARD_SELECTION_DEMAND, key); }
-static void choose(void) { answer = board_switch(selection, key, current, 0, 1, 0, words); }
+static void candidate(void) { answer = board_candidate(table, THREADS, FREE, 1, PERIOD, &current); }
+static void expired(void) { answer = board_expired(table, THREADS, FREE, &spent); }
+static void finish(void) { answer = board_finish(table, THREADS, FREE); }
+static void key_of(void) { answer = board_key(&window, PERIOD, &current, &selection.demand, &key); }
+static void choose(void) { answer = board_switch(&selection.ready, &key, &current, 0, 1, 0, &choice); }
 
 static void deadline(void)
 {
-    const uint64_t *demand = selection + BOARD_SELECTION_DEMAND;
-    answer = board_deadline(table, THREADS, 7, PERIOD, key, window, 1, 1, 1, demand, words);
+    answer = board_deadline(table, THREADS, FREE, PERIOD, &key, &window, 1, 1, 1, &selection.demand, &armed);
 }
 
 /* Bytes of the painted stack that a call used. */
@@ -76,18 +84,19 @@ static size_t used(void (*call)(void))
     return (sizeof stack - at + 7) / 8 * 8;
 }
 
-/* Budget threads without time left, all in one tree. */
+/* Budget threads without time left, all in one tree but for the one that is free to be called with. */
 static void fill(void)
 {
-    for (uint64_t id = 0; id < THREADS; id++) {
-        uint64_t *row = table[id];
-        row[BOARD_ROW_POLICY] = row[BOARD_ROW_RUNTIME] = BOARD_POLICY_BUDGET;
-        row[BOARD_ROW_ROLE] = BOARD_ROLE_PROTECTED;
-        row[BOARD_ROW_HAS_BUDGET] = row[BOARD_ROW_HAS_EPOCH] = row[BOARD_ROW_EPOCH] = 1;
-        row[BOARD_ROW_BUDGET] = row[BOARD_ROW_PERIOD] = row[BOARD_ROW_BURST] = PERIOD;
-        row[BOARD_ROW_TURN] = id;
-        if (id != 7) {
-            board_enqueue(&queue, table, THREADS, &path, id, 0);
+    for (uint64_t thread = 0; thread < THREADS; thread++) {
+        board_record_t *record = &table[thread];
+        *record = board_budget(PERIOD, PERIOD, PERIOD, BOARD_ROLE_PROTECTED);
+        record->runtime.budget.has_epoch = 1;
+        record->runtime.budget.epoch = 1;
+        record->runtime.budget.time_left_ns = 0;
+        record->runtime.budget.burst_left_ns = 0;
+        record->turn = thread;
+        if (thread != FREE) {
+            board_enqueue(&queue, table, THREADS, &path, thread, 0);
         }
     }
 }
