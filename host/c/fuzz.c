@@ -378,8 +378,13 @@ static void damage_root(void)
     queue.at[its_row * BOARD_QUEUE_ROW_WORDS + its_word] = one_in(2) ? below(rows + 2) : below(2);
 }
 
+/* The window's configuration is made sound again at times, so that a round goes on. */
 static void damage_window(void)
 {
+    if (one_in(2)) {
+        fill_config(&own_window.config);
+        return;
+    }
     uint64_t its_word = below(WINDOW_WORDS);
     words_of(&own_window)[its_word] = number();
 }
@@ -401,7 +406,7 @@ static void damage(void)
     if (one_in(2)) {
         damage_root();
     }
-    if (one_in(4)) {
+    if (one_in(3)) {
         damage_window();
     }
     if (one_in(4)) {
