@@ -270,11 +270,22 @@ static const char *grouped(uint64_t number, char text[GROUPED])
     return at;
 }
 
+static const char *mode_name(uint64_t its_mode)
+{
+    switch (its_mode) {
+    case BOARD_MODE_STRICT_FIFO: return "strict FIFO";
+    case BOARD_MODE_PRIORITY: return "priority";
+    case BOARD_MODE_PROTECTED: return "protected";
+    case BOARD_MODE_ORDINARY: return "ordinary";
+    case BOARD_MODE_BORROW: return "borrow";
+    default: return "unknown";
+    }
+}
+
 static void say_why(const board_key_t *key)
 {
-    static const char *const modes[] = {"strict FIFO", "priority", "protected", "ordinary", "borrow"};
     if (key->is_set) {
-        printf("%-16s%7" PRIu64 "%5" PRIu64, modes[key->mode], key->urgency, key->rank);
+        printf("%-16s%7" PRIu64 "%5" PRIu64, mode_name(key->mode), key->urgency, key->rank);
     } else {
         printf("%-16s%7s%5s", "no key", "-", "-");
     }

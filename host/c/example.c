@@ -49,6 +49,16 @@ static void choose(uint64_t now_ns)
     }
 }
 
+static const char *list_of(uint64_t thread)
+{
+    switch (table[thread].membership.kind) {
+    case BOARD_MEMBER_NONE: return "in no list";
+    case BOARD_MEMBER_READY_FIFO: return "in a list of FIFO threads";
+    case BOARD_MEMBER_READY_FAIR: return "in the list of Fair and Budget threads";
+    default: return "elsewhere";
+    }
+}
+
 static void enqueue_all(uint64_t now_ns)
 {
     enqueue(SWAY_B, now_ns);
@@ -71,6 +81,18 @@ static void refused(void)
            lengths.budget);
 }
 
+/* A board may note in a record that its thread waits or has ended: such a thread is not enqueued. */
+static void waits(void)
+{
+    say("brake removed", board_remove(&queue, table, THREADS, &path, BRAKE, 0));
+    printf("brake is %s\n", list_of(BRAKE));
+    table[BRAKE].membership.kind = BOARD_MEMBER_WAITING;
+    say("a thread that waits", board_enqueue(&queue, table, THREADS, &path, BRAKE, 0));
+    table[BRAKE].membership.kind = BOARD_MEMBER_TERMINATED;
+    say("a thread that has ended", board_enqueue(&queue, table, THREADS, &path, BRAKE, 0));
+    table[BRAKE].membership.kind = BOARD_MEMBER_NONE;
+}
+
 /* A halted queue takes no call any more. The way back: every record out of its list, a new queue, and whoever is ready
    enqueued again. */
 static void start_anew(uint64_t now_ns)
@@ -85,7 +107,6 @@ static void start_anew(uint64_t now_ns)
 static void halts(void)
 {
     enum { ROOT_OF_BRAKES = 258 }; /* the queue's row for the tree of FIFO threads of role Priority */
-    say("brake removed", board_remove(&queue, table, THREADS, &path, BRAKE, 0));
     queue.rows[ROOT_OF_BRAKES][0] = 1;
     queue.rows[ROOT_OF_BRAKES][1] = THREADS;
     say("a root that no record has", board_enqueue(&queue, table, THREADS, &path, BRAKE, 0));
@@ -102,9 +123,11 @@ int main(void)
     say("new window", board_window(&window, &config));
     choose(0);
     enqueue_all(5800000);
+    printf("brake is %s, %s is %s\n", list_of(BRAKE), names[SWAY_A], list_of(SWAY_A));
     choose(6999999);
     choose(7000000);
     refused();
+    waits();
     halts();
     return 0;
 }

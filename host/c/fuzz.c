@@ -709,25 +709,37 @@ static void reach(const uint64_t *link)
     }
 }
 
-static void find_reached(void)
+static void reach_from_queue(void)
 {
-    const uint64_t named[2] = {(lends[entry] & NAMES_A_THREAD) != 0, id};
-    memset(reached, 0, sizeof reached);
-    waiting_rows = 0;
-    reach(named);
-    for (size_t k = 0; (lends[entry] & LENDS_QUEUE) && k < MARK_ROW; k++) {
+    for (size_t k = 0; k < MARK_ROW; k++) {
         const uint64_t *words = queue.at + k * BOARD_QUEUE_ROW_WORDS;
         reach(words);
         if (k < ROOT_ROW) {
             reach(words + 2);
         }
     }
-    while ((lends[entry] & LENDS_QUEUE) && waiting_rows > 0) {
+}
+
+static void reach_from_rows(void)
+{
+    while (waiting_rows > 0) {
         const uint64_t *words = row(waiting[--waiting_rows]);
         reach(words + LEFT);
         reach(words + RIGHT);
         reach(words + PREVIOUS);
         reach(words + NEXT);
+    }
+}
+
+static void find_reached(void)
+{
+    const uint64_t named[2] = {(lends[entry] & NAMES_A_THREAD) != 0, id};
+    memset(reached, 0, sizeof reached);
+    waiting_rows = 0;
+    reach(named);
+    if (lends[entry] & LENDS_QUEUE) {
+        reach_from_queue();
+        reach_from_rows();
     }
 }
 

@@ -1,7 +1,8 @@
 /* How much stack each entry takes: each is called on a stack of its own that was painted before, and the deepest byte
  * that is no longer paint tells. 4,095 threads are queued in one tree; the selection at a change of period moves all of
- * them. What the calling function itself takes is measured the same way and taken off. Prints a line an entry, in
- * bytes; the exit status is 0 where every call was made. */
+ * them. What a function takes that calls nothing is measured the same way and taken off, so that the figure is what the
+ * caller gives for the call: arguments, return address, and all that the entry takes. Prints a line an entry, in bytes;
+ * the exit status is 0 where every call was made. */
 #define _XOPEN_SOURCE 700
 #include <inttypes.h>
 #include <stdio.h>
@@ -10,7 +11,7 @@
 
 #include "board.h"
 
-enum { THREADS = BOARD_MOST_RECORDS, FREE = 7, STACK = 1 << 18, PAINT = 0xA5, PERIOD = 10000000 };
+enum { THREADS = BOARD_MOST_RECORDS, FREE = 7, STACK = 1 << 18, GAP = 1 << 14, PAINT = 0xA5, PERIOD = 10000000 };
 
 static board_queue_t queue;
 static board_path_t path;
@@ -67,21 +68,33 @@ static void deadline(void)
     answer = board_deadline(table, THREADS, FREE, PERIOD, &key, &window, 1, 1, 1, &selection.demand, &armed);
 }
 
-/* Bytes of the painted stack that a call used. */
+/* The call, below a gap that starting and leaving the stack stay within, so that only the call goes below it. */
+static void (*below_gap)(void);
+
+static void deep(void)
+{
+    volatile unsigned char gap[GAP];
+    gap[0] = 0;
+    below_gap();
+    gap[GAP - 1] = gap[0];
+}
+
+/* Bytes of the painted stack that a call used, with the gap, in whole words. */
 static size_t used(void (*call)(void))
 {
     memset(stack, PAINT, sizeof stack);
+    below_gap = call;
     getcontext(&there);
     there.uc_stack.ss_sp = stack;
     there.uc_stack.ss_size = sizeof stack;
     there.uc_link = &here;
-    makecontext(&there, call, 0);
+    makecontext(&there, deep, 0);
     swapcontext(&here, &there);
     size_t at = 0;
     while (at < sizeof stack && stack[at] == PAINT) {
         at++;
     }
-    return (sizeof stack - at + 7) / 8 * 8;
+    return (sizeof stack - at + sizeof(uint64_t) - 1) / sizeof(uint64_t) * sizeof(uint64_t);
 }
 
 /* Budget threads without time left, all in one tree but for the one that is free to be called with. */
@@ -101,12 +114,17 @@ static void fill(void)
     }
 }
 
+/* Whether the call was made. What an enqueue changes is taken back. */
 static int measure(const char *name, void (*call)(void))
 {
-    size_t bytes = used(call) - used(nothing);
-    used(call == enqueue || call == enqueue_front ? remove_thread : nothing);
+    size_t bytes = used(call);
+    int made = answer == BOARD_MADE;
+    bytes -= used(nothing);
+    if (call == enqueue || call == enqueue_front) {
+        remove_thread();
+    }
     printf("%-24s %5zu\n", name, bytes);
-    return answer == 0;
+    return made;
 }
 
 int main(void)
