@@ -68,9 +68,9 @@ static inline const char *board_refusal_name(uint64_t refusal)
 #define BOARD_POLICY_BUDGET 2
 #define BOARD_POLICY_IDLE 3
 
-#define BOARD_ROLE_ORDINARY 0
-#define BOARD_ROLE_PRIORITY 1  /* may run on the window's allowance */
-#define BOARD_ROLE_PROTECTED 2 /* has the window's floor for sure */
+#define BOARD_ROLE_ORDINARY 0  /* of FIFO: comes before all others, whatever the window has left */
+#define BOARD_ROLE_PRIORITY 1  /* runs on the window's allowance */
+#define BOARD_ROLE_PROTECTED 2 /* the window's floor is kept for it */
 
 #define BOARD_BACKEND_STRIDE 0 /* the least pass comes first */
 #define BOARD_BACKEND_ROUND_ROBIN 1
@@ -187,8 +187,8 @@ typedef struct board_candidate_t {
    the period, and the four ranks, 0 to 255, rise in their order. */
 typedef struct board_config_t {
     uint64_t period_ns;    /* 1 to 1,000,000,000 */
-    uint64_t allowance_ns; /* how long threads of role Priority run before others in each period */
-    uint64_t floor_ns;     /* how long threads of role Protected have for sure in each period */
+    uint64_t allowance_ns; /* of each period, for how long threads of role Priority have the priority rank */
+    uint64_t floor_ns;     /* of each period, how much is kept for threads of role Protected: see docs/BOARD.md */
     uint64_t priority_rank;
     uint64_t budget_rank;
     uint64_t fair_rank;

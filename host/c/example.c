@@ -117,7 +117,7 @@ static void halts(void)
 
 int main(void)
 {
-    /* Period 10 ms, of which the brake may have 2 before others and the protected loops have 3 for sure. */
+    /* Period 10 ms, of which the brake may have 2 before others, and 3 are kept for the protected loops. */
     const board_config_t config = board_config(10000000, 2000000, 3000000);
     say("new queue", board_new(&queue));
     say("new window", board_window(&window, &config));
