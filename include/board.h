@@ -458,8 +458,8 @@ uint64_t board_key(board_window_t *window, uint64_t now_ns, const board_candidat
 uint64_t board_expired(const board_record_t *table, uint64_t count, uint64_t thread, uint64_t *expired);
 
 /* Whether the running thread, of key `key` and parameters `current`, gives way to `ready`, which a selection named, and
- * where it then goes. `expired`: its slice or burst is spent; `yielding`: it gives way by itself; `tail`: it was set to
- * the end of its list. Where nobody runs, the key is one that is not set. Changes the answer. Not refused. */
+ * where it then goes. `expired`: its slice or burst is spent; `yielding`: it gives way by itself; `tail`: it is to go
+ * to the end of its list. Where nobody runs, the key is one that is not set. Changes the answer. Not refused. */
 uint64_t board_switch(const board_ready_t *ready, const board_key_t *key, const board_candidate_t *current,
                       uint64_t expired, uint64_t yielding, uint64_t tail, board_choice_t *choice);
 

@@ -159,7 +159,8 @@ static board_deadline_t arm(board_key_t *key)
     return deadline;
 }
 
-/* A thread without a key is charged as the one before it. */
+/* A thread without a key is charged as the one before it. The core charges budgets and the window; slice and pass of a
+   Fair thread are the board's to keep (docs/BOARD.md): there is only one here, which needs neither. */
 static void run(const board_key_t *key, board_deadline_t deadline)
 {
     uint64_t start_ns = now_ns;
