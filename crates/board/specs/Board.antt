@@ -54,6 +54,10 @@ beside (left n a) b = left n (a, b)
 abbrev pub processor : ℕ → CpuIndex
 processor n = record { 0 = n }
 
+-- The version of the header that the entries go with.
+abbrev pub boardVersion : ℕ
+boardVersion = 1
+
 -- The queue and the table.
 unfoldable pub queueLeft : Out (Step (Unit {0})) → Left (CpuRunQueue × List ThreadRecord)
 queueLeft (out (step a q) t) = left (numbered a) (q, t)

@@ -4,6 +4,7 @@
 mod queueing;
 mod running;
 mod selecting;
+mod versions;
 mod windows;
 
 pub use queueing::board_enqueue;
@@ -19,5 +20,6 @@ pub use running::board_finish;
 pub use running::board_prepare;
 pub use running::board_switch;
 pub use selecting::board_select;
+pub use versions::board_version;
 pub use windows::board_key;
 pub use windows::board_window;
