@@ -22,8 +22,11 @@
 extern "C" {
 #endif
 
-/* Rises with every changed signature, length or struct of this header. */
+/* Rises with every changed signature, length or struct of this header. board_version answers that of the archive: a
+   board asks once whether the two are the same. */
 #define BOARD_VERSION 1
+
+uint64_t board_version(void);
 
 /* Why a call was not made. Where several hold, a call answers the first in the order that is named at each call. */
 enum board_refusal {

@@ -339,6 +339,10 @@ static void play(const struct lift *given)
 
 int main(void)
 {
+    if (board_version() != BOARD_VERSION) {
+        fprintf(stderr, "cycle: board.h and libboard.a are not of the same version\n");
+        return EXIT_FAILURE;
+    }
     play(&twin_hook);
     play(&change_of_period);
     return 0;

@@ -1,5 +1,5 @@
-/* Every entry of board.h on any words and tables of any length: fuzz [--calls N] [--seed S] [--faults F], which ends
- * after N calls, or after F faults.
+/* Every entry of board.h that is lent anything, on any words and tables of any length: fuzz [--calls N] [--seed S]
+ * [--faults F], which ends after N calls, or after F faults.
  *
  * Each lent thing stands in pages of its own between pages that nobody may touch, directly before the one behind or
  * directly behind the one before; on its other side words are watched. Tables have 0 to some hundred rows, at times

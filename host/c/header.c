@@ -1,7 +1,7 @@
 /* That include/board.h is what it says, in C99, C11, C++11 and C++17: each field of its structs has the place of the
  * word that the Rattle sources name so (host/c/run takes those numbers from crates/ into words.h), each initialiser
- * gives the same record as its function, and every refusal has its name. Prints what is wrong, and how much was asked;
- * the exit status is 0 where nothing is wrong. */
+ * gives the same record as its function, every refusal has its name, and the archive has the header's version. Prints
+ * what is wrong, and how much was asked; the exit status is 0 where nothing is wrong. */
 #include <inttypes.h>
 #include <stddef.h>
 #include <stdio.h>
@@ -256,6 +256,7 @@ static void others(void)
     ask("times", config.period_ns == 10000000 && config.allowance_ns == 2000000 && config.floor_ns == 3000000);
     ask("ranks that rise", config.priority_rank < config.budget_rank && config.budget_rank < config.fair_rank
         && config.fair_rank < config.borrow_rank && config.prefer_fair == 0);
+    ask("the archive's version", board_version() == BOARD_VERSION);
     ask("turns", turns.back == UINT64_C(1) << 63 && turns.front == UINT64_C(1) << 63);
 }
 

@@ -22,8 +22,8 @@ enum { KEPT = 4000, NEW_COUNT = 9 };
 static uint64_t rows[TABLE][WORDS];
 static uint64_t scratch[SCRATCH][WORDS];
 static uint64_t count;
-static board_queue queue;
-static board_path path;
+static board_queue_t queue;
+static board_path_t path;
 
 static uint64_t calls, sums, left_out, differs;
 static uint64_t line_number;
