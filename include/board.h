@@ -5,9 +5,9 @@
  * window, two turn counters. The core keeps nothing between calls, allocates nothing, and every call ends. Times are
  * nanoseconds of one clock that the board chooses.
  *
- * Every call answers a number: 0 (BOARD_MADE) where it was made, else one of the refusals below. Any words are taken,
- * whatever they are: a flag is set where its word is not 0, a byte is its word's remainder by 256, a number beyond the
- * last of a choice stands for the last.
+ * Every call but board_version answers 0 (BOARD_MADE) where it was made, else one of the refusals below. Any words are
+ * taken, whatever they are: a flag is set where its word is not 0, a byte is its word's remainder by 256, a number
+ * beyond the last of a choice stands for the last.
  *
  * Asked of the caller: each address is that of a whole struct, the table's of as many records as the count says (it is
  * an aligned address and not null also where the count is 0); what is lent to one call does not overlap, unless the
@@ -123,7 +123,7 @@ typedef struct board_parameters_t {
     uint64_t has_budget; /* set exactly where the policy is Budget */
     uint64_t budget_ns;  /* how long it may run in each period: 1 to the period */
     uint64_t period_ns;  /* 1 to 1,000,000,000; the window's, else the thread is never named */
-    uint64_t burst_ns;   /* how long at a stretch while others wait: 1 to the period */
+    uint64_t burst_ns;   /* how long at a stretch while another Budget thread waits: 1 to the period */
 } board_parameters_t;
 
 /* What a Fair thread has. The board keeps it, while the thread is not queued: no call changes it. */
@@ -405,7 +405,7 @@ uint64_t board_new(board_queue_t *queue);
 
 /* Puts a thread at the end of the list of its priority (FIFO) or of the fair list (Fair, Budget), and into its tree. A
  * board calls it for a thread that wakes, and for one that gives way and is not to go to the front, right after
- * board_prepare. Changes the queue and the records of this thread and its neighbours.
+ * board_prepare. Changes the queue, the thread's record, and the links of others in its list and its tree.
  * Refused: BadTable, Halted, NoThread, BadRecord, BadState (Idle), Already, BadState (another processor), Damaged: then
  * nothing is changed. Last, Halted for the first time, where the links mislead it halfway: then the stores up to there
  * stay, and the queue is marked. */
@@ -417,7 +417,7 @@ uint64_t board_enqueue_front(board_queue_t *queue, board_record_t *table, uint64
                              uint64_t thread, uint8_t cpu);
 
 /* Takes a thread out of its list and its tree. A board calls it for the thread that it lets run, and for one that is
- * stopped while it is queued. Changes the queue and the records of this thread and its neighbours.
+ * stopped while it is queued. Changes the queue, the thread's record, and the links of others in its list and its tree.
  * Refused: BadTable, Halted, NoThread, BadRecord, BadState (Idle), Damaged (also where it is not queued here): then
  * nothing is changed. Last, Halted for the first time, as with board_enqueue. */
 uint64_t board_remove(board_queue_t *queue, board_record_t *table, uint64_t count, board_path_t *path, uint64_t thread,
@@ -439,10 +439,11 @@ uint64_t board_window(board_window_t *window, const board_config_t *config);
 uint64_t board_candidate(board_record_t *table, uint64_t count, uint64_t thread, uint64_t running, uint64_t now_ns,
                          board_candidate_t *current);
 
-/* Names, of all queued threads, the one with the least key, or none. `current` counts where `running` is set, in what
- * is asked for (the demand); it is not queued and is not named. A board calls it whenever somebody woke, the running
- * thread's work or deadline ended, or the period changed: the first selection of a period refreshes every Budget thread
- * that had spent its time and files it as having time left. Changes the queue and the records of those threads and of
+/* Names the thread with the least key among the heads of the trees, or none; under the conditions of docs/BOARD.md that
+ * is the least of all queued threads. `current` counts where `running` is set, in what is asked for (the demand); it is
+ * not queued and is not named. A board calls it whenever somebody woke, the running thread's work or deadline ended, or
+ * the period changed: the first selection of a period refreshes every Budget thread that had spent its time and files
+ * it as having time left. Changes the queue and the records of those threads and of
  * the heads of the trees, the window, which is refreshed (not on an empty queue), and the answer.
  * Refused: BadTable, BadConfig, Halted: then nothing is changed. After that, where they are met, Damaged, BadRecord and
  * Halted for the first time: then window and answer are as they were, queue and table keep the stores so far (threads
@@ -469,8 +470,8 @@ uint64_t board_switch(const board_ready_t *ready, const board_key_t *key, const 
 /* ---- turns, deadlines, accounting ---- */
 
 /* Refreshes the thread's budget and gives it a turn: at the back, or where `front` is set at the front (a FIFO thread a
- * turn before all others; another keeps the one it has). A board calls it before each board_enqueue with front 0 and
- * each board_enqueue_front with front 1. Changes the thread's record and the counters.
+ * turn before all others; another keeps the one it has, if any). A board calls it before each board_enqueue with front
+ * 0 and each board_enqueue_front with front 1. Changes the thread's record and the counters.
  * Refused: BadTable, NoThread, BadRecord, Already, TurnsSpent, then nothing is changed. */
 uint64_t board_prepare(board_record_t *table, uint64_t count, uint64_t thread, uint64_t front, uint64_t now_ns,
                        board_turns_t *turns);
