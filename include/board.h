@@ -39,7 +39,7 @@ enum board_refusal {
     BOARD_BAD_BUDGET = 6,   /* a budget that cannot be made; no call of this header answers it: see BOARD_BAD_RECORD */
     BOARD_BACK_IN_TIME = 7, /* accounting with the end before the start */
     BOARD_TURNS_SPENT = 8,  /* a turn counter is at its end */
-    BOARD_HALTED = 9,       /* the queue cannot go on: it is marked, and every later call on it is refused so */
+    BOARD_HALTED = 9,       /* the queue cannot go on: it is marked, and refuses each enqueue, removal and selection */
     BOARD_BAD_TABLE = 10,   /* more than BOARD_MOST_RECORDS records; of an image, another count of bytes than it has */
     BOARD_BAD_RECORD = 11   /* policy, budget and runtime disagree, or the budget is bad */
 };
