@@ -1,5 +1,5 @@
-# Installs what a board needs: the proved libraries, the C header, and what pkg-config and CMake ask for. `make` by itself
-# says what there is. Everything below the folder of installation is found from where it stands, so that it can be moved.
+# Installs what a board needs: the proved libraries, the C header, and what pkg-config and CMake ask for. `make` by
+# itself says what there is. What is installed finds the rest from where it stands, so that the folder can be moved.
 PREFIX ?= /usr/local
 DESTDIR ?=
 
@@ -8,12 +8,15 @@ archives := $(names:%=target/staticlib/lib%.a)
 version := $(shell sed -n 's/^\#define BOARD_VERSION \([0-9][0-9]*\)$$/\1/p' include/board.h)
 
 place := $(DESTDIR)$(PREFIX)
-libraries := $(place)/lib
-headers := $(place)/include
-packages := $(libraries)/pkgconfig
-cmake := $(libraries)/cmake/board
+libraries := lib
+headers := include
+packages := lib/pkgconfig
+cmake := lib/cmake/board
 installed := $(names:%=$(libraries)/lib%.a) $(headers)/board.h $(packages)/board.pc \
     $(cmake)/boardConfig.cmake $(cmake)/boardConfigVersion.cmake
+# with_version FILE,FOLDER: a file with the version in it, made from FILE.in.
+with_version = sed 's/@VERSION@/$(version)/' host/installed/$(1).in > '$(place)/$(2)/$(1)' && \
+    chmod 644 '$(place)/$(2)/$(1)'
 
 .PHONY: help install uninstall libraries try
 
@@ -37,16 +40,16 @@ libraries:
 
 install: $(archives)
 	$(if $(version),,$(error include/board.h has no line with BOARD_VERSION))
-	install -d '$(headers)' '$(packages)' '$(cmake)'
-	install -m 644 $(archives) '$(libraries)'
-	install -m 644 include/board.h '$(headers)'
-	install -m 644 host/installed/boardConfig.cmake '$(cmake)'
-	sed 's/@VERSION@/$(version)/' host/installed/boardConfigVersion.cmake.in > '$(cmake)/boardConfigVersion.cmake'
-	sed 's/@VERSION@/$(version)/' host/installed/board.pc.in > '$(packages)/board.pc'
+	install -d '$(place)/$(headers)' '$(place)/$(packages)' '$(place)/$(cmake)'
+	install -m 644 $(archives) '$(place)/$(libraries)'
+	install -m 644 include/board.h '$(place)/$(headers)'
+	install -m 644 host/installed/boardConfig.cmake '$(place)/$(cmake)'
+	$(call with_version,boardConfigVersion.cmake,$(cmake))
+	$(call with_version,board.pc,$(packages))
 
 uninstall:
-	rm -f $(installed:%='%')
-	-rmdir '$(cmake)'
+	cd '$(place)/' && rm -f $(installed)
+	-cd '$(place)/' && rmdir $(cmake)
 
 try:
 	host/installed/run

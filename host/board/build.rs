@@ -12,12 +12,6 @@ fn main() {
     };
     let name = env::var("CARGO_PKG_NAME").expect("the package's name");
     let archive = place.join(format!("lib{name}.a"));
-    if !archive.exists() {
-        println!(
-            "cargo::warning={} is not there: `make libraries` builds it, or STATICLIB_DIR names its folder",
-            archive.display()
-        );
-    }
     println!("cargo::rerun-if-env-changed=STATICLIB_DIR");
     println!("cargo::rerun-if-changed={}", archive.display());
     println!("cargo::rustc-link-search=native={}", place.display());

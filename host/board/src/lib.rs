@@ -76,8 +76,9 @@
 //!
 //! # Linking
 //!
-//! The package links libboard.a and libimages.a from the folder that the variable `STATICLIB_DIR` names, such as `lib`
-//! of an installed copy, else from the repository's target/staticlib. It is `no_std` and has no other dependency.
+//! The package links libboard.a and libimages.a from the folder that the variable `STATICLIB_DIR` names, else from the
+//! repository's target/staticlib. Of an installed copy that folder is what `pkg-config --variable=libdir board` prints.
+//! The package is `no_std` and has no other dependency; counts go to the library as 64 bits on every target.
 
 #![no_std]
 #![deny(missing_docs)]

@@ -486,8 +486,3 @@ fn refusals_have_their_numbers_and_names() {
     let error: &dyn core::error::Error = &Refusal::Halted;
     assert_eq!(error.to_string(), "Halted (9): the queue is halted");
 }
-
-#[test]
-fn the_package_has_the_version_of_the_calls() {
-    assert_eq!(env!("CARGO_PKG_VERSION_MAJOR"), VERSION.to_string());
-}
