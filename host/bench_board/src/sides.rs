@@ -1,6 +1,7 @@
 //! The two sides of the benchmark: the port through its exported entries, and the kernel's Rust on its own queue and
 //! records, through its own access.
 
+use board::words;
 use kernel::oracle::*;
 use tables::rows::row_of;
 use tables::windows::window_words;
@@ -33,13 +34,13 @@ pub trait Side {
 
 /// What the board lends is kept from call to call and not cleared between.
 pub struct Port {
-    queue: board::QueueWords,
-    rows: Vec<board::Row>,
-    path: board::Path,
-    window: board::WindowWords,
-    current: board::Row,
-    answer: board::SelectionWords,
-    key: board::KeyWords,
+    queue: words::QueueWords,
+    rows: Vec<words::Row>,
+    path: words::Path,
+    window: words::WindowWords,
+    current: words::Row,
+    answer: words::SelectionWords,
+    key: words::KeyWords,
     turns: [u64; 2],
     running: u64,
     mode: u64,
@@ -54,22 +55,22 @@ impl Port {
     /// A selection with the running thread, and then its key.
     fn look(&mut self, now: u64) {
         let (rows, current) = (&mut self.rows, &mut self.current);
-        made(board::candidate(rows, self.running, 1, now, current));
+        made(words::candidate(rows, self.running, 1, now, current));
         let (queue, window) = (&mut self.queue, &mut self.window);
         let (path, answer) = (&mut self.path, &mut self.answer);
-        made(board::select(
+        made(words::select(
             queue, rows, path, 0, now, window, 1, current, answer,
         ));
-        let demand = board::demand_in(answer);
-        made(board::key(window, now, current, demand, &mut self.key));
+        let demand = words::demand_in(answer);
+        made(words::key(window, now, current, demand, &mut self.key));
     }
 
     /// The switch rule on a thread that yields, whose turn ends.
     fn choose(&mut self) -> [u64; 2] {
         let (mut expired, mut choice) = ([0], [0; 2]);
-        made(board::expired(&self.rows, self.running, &mut expired));
-        let (ready, current) = (board::ready_in(&self.answer), &self.current);
-        made(board::switch(
+        made(words::expired(&self.rows, self.running, &mut expired));
+        let (ready, current) = (words::ready_in(&self.answer), &self.current);
+        made(words::switch(
             ready,
             &self.key,
             current,
@@ -78,13 +79,13 @@ impl Port {
             0,
             &mut choice,
         ));
-        made(board::finish(&mut self.rows, self.running));
+        made(words::finish(&mut self.rows, self.running));
         choice
     }
 
     fn give_way(&mut self, now: u64, front: u64) {
         let (next, id) = (self.answer[1], self.running);
-        made(board::prepare(
+        made(words::prepare(
             &mut self.rows,
             id,
             front,
@@ -101,11 +102,11 @@ impl Port {
 
     fn deadline(&mut self, now: u64) -> u64 {
         let (mut lengths, mut due) = ([0; 3], [0; 2]);
-        made(board::lengths(&self.queue, &mut lengths));
+        made(words::lengths(&self.queue, &mut lengths));
         if self.key[0] != 0 {
             self.mode = self.key[1];
         }
-        made(board::deadline(
+        made(words::deadline(
             &mut self.rows,
             self.running,
             now,
@@ -114,7 +115,7 @@ impl Port {
             lengths[0] + lengths[1],
             lengths[2],
             self.answer[0],
-            board::demand_in(&self.answer),
+            words::demand_in(&self.answer),
             &mut due,
         ));
         due[1]
@@ -124,7 +125,7 @@ impl Port {
 impl Side for Port {
     fn of(records: &[Record]) -> Self {
         let mut queue = [[0; 5]; 270];
-        made(board::new(&mut queue));
+        made(words::new(&mut queue));
         Self {
             queue,
             rows: records.iter().map(row_of).collect(),
@@ -142,7 +143,7 @@ impl Side for Port {
 
     fn wake(&mut self, count: u64) {
         for id in 0..count {
-            made(board::prepare(
+            made(words::prepare(
                 &mut self.rows,
                 id,
                 0,
@@ -155,23 +156,23 @@ impl Side for Port {
 
     fn enqueue(&mut self, id: u64) {
         let (queue, rows) = (&mut self.queue, &mut self.rows);
-        made(board::enqueue(queue, rows, &mut self.path, id, 0));
+        made(words::enqueue(queue, rows, &mut self.path, id, 0));
     }
 
     fn enqueue_front(&mut self, id: u64) {
         let (queue, rows) = (&mut self.queue, &mut self.rows);
-        made(board::enqueue_front(queue, rows, &mut self.path, id, 0));
+        made(words::enqueue_front(queue, rows, &mut self.path, id, 0));
     }
 
     fn remove(&mut self, id: u64) {
         let (queue, rows) = (&mut self.queue, &mut self.rows);
-        made(board::remove(queue, rows, &mut self.path, id, 0));
+        made(words::remove(queue, rows, &mut self.path, id, 0));
     }
 
     fn select(&mut self, now: u64) -> u64 {
         let (queue, rows, path) = (&mut self.queue, &mut self.rows, &mut self.path);
         let (window, answer) = (&mut self.window, &mut self.answer);
-        made(board::select(
+        made(words::select(
             queue,
             rows,
             path,
@@ -187,7 +188,7 @@ impl Side for Port {
 
     fn cycle(&mut self, now: u64) -> (u64, u64) {
         let (start, window) = (core::mem::replace(&mut self.last, now), &mut self.window);
-        made(board::account(
+        made(words::account(
             &mut self.rows,
             self.running,
             window,

@@ -10,7 +10,7 @@ use std::env;
 use std::hint::black_box;
 use std::process::ExitCode;
 
-use board::{DemandWords, KeyWords, Row, WindowWords};
+use board::words::{self, DemandWords, KeyWords, Row, WindowWords};
 use kernel::oracle::{
     Backend, BudgetRt, DEFAULT_ORDER, Demand, KeptScheduler, Key, Policy, Ready, Record, Role,
     Runtime, Window, budget_new, config_new, params_budget, params_fair, params_fifo, window_new,
@@ -119,8 +119,8 @@ impl Port {
     /// The current candidate and its key, as a board asks for them.
     fn look(&mut self, reading: u64) {
         let (window, current) = (&mut self.window, &mut self.current);
-        board::candidate(&mut self.rows, 0, 1, reading, current);
-        board::key(window, reading, current, &self.demand, &mut self.key);
+        words::candidate(&mut self.rows, 0, 1, reading, current);
+        words::key(window, reading, current, &self.demand, &mut self.key);
     }
 
     // Apart from the small calls, as the source's are, so that these do not set up its frame.
@@ -128,11 +128,11 @@ impl Port {
     fn switch(&mut self, reading: u64) -> u64 {
         self.look(reading);
         let (mut expired, mut choice) = ([0; 1], [0; 2]);
-        board::expired(&self.rows, 0, &mut expired);
+        words::expired(&self.rows, 0, &mut expired);
         let row = &self.rows[0];
-        board::switch(&self.ready, &self.key, row, expired[0], 0, 0, &mut choice);
+        words::switch(&self.ready, &self.key, row, expired[0], 0, 0, &mut choice);
         if expired[0] != 0 {
-            board::finish(&mut self.rows, 0);
+            words::finish(&mut self.rows, 0);
         }
         choice[0]
     }
@@ -142,7 +142,9 @@ impl Port {
         self.look(reading);
         let mut due = [0; 2];
         let (rows, window, demand) = (&mut self.rows, &mut self.window, &self.demand);
-        board::deadline(rows, 0, reading, &self.key, window, 1, 1, 1, demand, &mut due);
+        words::deadline(
+            rows, 0, reading, &self.key, window, 1, 1, 1, demand, &mut due,
+        );
         due[1]
     }
 }
@@ -167,14 +169,14 @@ impl Side for Port {
 
     fn call(&mut self, call: Call, reading: u64) -> u64 {
         match call {
-            Call::Prepare => board::prepare(&mut self.rows, 0, 0, reading, &mut self.turns),
+            Call::Prepare => words::prepare(&mut self.rows, 0, 0, reading, &mut self.turns),
             Call::Account => {
                 let start = std::mem::replace(&mut self.last, reading);
-                board::account(&mut self.rows, 0, &mut self.window, 3, start, reading)
+                words::account(&mut self.rows, 0, &mut self.window, 3, start, reading)
             }
             Call::Switch => self.switch(reading),
             Call::Deadline => self.deadline(reading),
-            Call::Finish => board::finish(&mut self.rows, 0),
+            Call::Finish => words::finish(&mut self.rows, 0),
         }
     }
 }

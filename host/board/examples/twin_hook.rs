@@ -1,60 +1,94 @@
 //! The calls of a board from Rust: one protected sway loop of either hook and a drive loop on one processor. The drive
 //! runs first; from 7,000,000 on the floor of 3,000,000 is all that is left of the period, so the loops are due, and
-//! the one that waited longer is named. `cargo run --example twin_hook`; what it prints stands in twin_hook.txt beside
-//! it.
+//! the one that waited longer is named. Then calls that are refused. `cargo run --example twin_hook`; what it prints
+//! stands in twin_hook.txt beside it.
 
-use board::{Path, QueueWords, Row, SelectionWords, WindowWords};
+use board::{Budget, Config, Path, Queue, Ranks, Record, Refusal, Role, Selection, Turns, Window};
+
+const CPU: u8 = 0;
 
 const NAMES: [&str; 3] = ["drive", "sway of hook A", "sway of hook B"];
+const DRIVE: u64 = 0;
+const SWAY_A: u64 = 1;
+const SWAY_B: u64 = 2;
 
-/// A FIFO thread of a priority, on the window's allowance.
-fn drive(priority: u64) -> Row {
-    let mut row = [0; 32];
-    // Policy FIFO, its priority, band, role Priority.
-    row[..4].copy_from_slice(&[0, priority, 128, 1]);
-    row
+/// 2 ms in each 10, at most 1 at a stretch.
+const SWAY: Budget = Budget {
+    budget_ns: 2_000_000,
+    period_ns: 10_000_000,
+    burst_ns: 1_000_000,
+};
+
+/// In each period of 10 ms the drive has 2 before others, and the protected loops have 3 for sure.
+const CONFIG: Config = Config::new(10_000_000, 2_000_000, 3_000_000);
+
+/// What a board keeps.
+struct Board {
+    queue: Queue,
+    table: [Record; NAMES.len()],
+    path: Path,
 }
 
-/// A protected thread with a budget of 2,000,000 in each 10,000,000, at most 1,000,000 at a stretch.
-fn sway() -> Row {
-    let mut row = [0; 32];
-    // Policy Budget, band, role Protected; the budget; a runtime of that kind with all of it left.
-    [row[0], row[2], row[3]] = [2, 128, 2];
-    row[7..11].copy_from_slice(&[1, 2_000_000, 10_000_000, 1_000_000]);
-    [row[11], row[14], row[15]] = [2, 2_000_000, 1_000_000];
-    row
+impl Board {
+    fn enqueue(&mut self, id: u64) -> Result<(), Refusal> {
+        board::enqueue(&mut self.queue, &mut self.table, &mut self.path, id, CPU)
+    }
+
+    fn remove(&mut self, id: u64) -> Result<(), Refusal> {
+        board::remove(&mut self.queue, &mut self.table, &mut self.path, id, CPU)
+    }
+
+    fn select(&mut self, now: u64, window: &mut Window) -> Result<Selection, Refusal> {
+        let (queue, table, path) = (&mut self.queue, &mut self.table, &mut self.path);
+        board::select(queue, table, path, CPU, now, window, None)
+    }
 }
 
-fn main() {
-    let mut queue: QueueWords = [[0; 5]; 270];
-    let mut table: [Row; 3] = [drive(5), sway(), sway()];
-    let mut path: Path = [[0; 2]; 40];
-    let mut window: WindowWords = [0; 12];
-    let mut turns = [1 << 63; 2];
-    let mut answer: SelectionWords = [0; 19];
+fn tell(what: &str, answer: Result<(), Refusal>) {
+    match answer {
+        Ok(()) => println!("{what}: made"),
+        Err(refusal) => println!("{what}: refused, {refusal}"),
+    }
+}
 
-    board::new(&mut queue);
-    let config = [10_000_000, 2_000_000, 3_000_000, 0, 1, 2, 3, 0];
-    println!("window: {}", board::window(&mut window, &config));
-    for id in [2, 1, 0] {
-        let prepared = board::prepare(&mut table, id, 0, 0, &mut turns);
-        let queued = board::enqueue(&mut queue, &mut table, &mut path, id, 0);
-        println!(
-            "prepare and enqueue {}: {prepared} {queued}",
-            NAMES[id as usize]
-        );
+fn refused(board: &mut Board) {
+    tell("enqueue sway of hook A again", board.enqueue(SWAY_A));
+    tell(
+        "remove a thread that there is not",
+        board.remove(NAMES.len() as u64),
+    );
+    let falling = CONFIG.with_ranks(Ranks {
+        budget: 2,
+        fair: 1,
+        ..Ranks::USUAL
+    });
+    tell(
+        "a window whose ranks do not rise",
+        board::window(&falling).map(|_| ()),
+    );
+}
+
+fn main() -> Result<(), Refusal> {
+    let sway = Record::budget(SWAY, Role::Protected);
+    let table = [Record::fifo(5, Role::Priority), sway, sway];
+    let mut board = Board {
+        queue: Queue::EMPTY,
+        table,
+        path: Path::NEW,
+    };
+    let (mut window, mut turns) = (board::window(&CONFIG)?, Turns::START);
+    for id in [SWAY_B, SWAY_A, DRIVE] {
+        board::prepare(&mut board.table, id, false, 0, &mut turns)?;
+        board.enqueue(id)?;
+        println!("{}: enqueued", NAMES[id as usize]);
     }
     for now in [6_999_999, 7_000_000] {
-        let nobody = [0; 32];
-        let (q, t, p) = (&mut queue, &mut table, &mut path);
-        let number = board::select(q, t, p, 0, now, &mut window, 0, &nobody, &mut answer);
-        println!("select at {now}: {number}, {}", NAMES[answer[1] as usize]);
+        let named = board.select(now, &mut window)?.thread();
+        println!(
+            "select at {now}: {}",
+            named.map_or("nobody", |id| NAMES[id as usize])
+        );
     }
-    let again = board::enqueue(&mut queue, &mut table, &mut path, 1, 0);
-    println!("enqueue {} again: {again}", NAMES[1]);
-    let beyond = board::remove(&mut queue, &mut table, &mut path, 3, 0);
-    println!("remove thread 3: {beyond}");
-    let falling = [10_000_000, 2_000_000, 3_000_000, 0, 2, 1, 3, 0];
-    let unsound = board::window(&mut window, &falling);
-    println!("window whose ranks do not rise: {unsound}");
+    refused(&mut board);
+    Ok(())
 }

@@ -1,220 +1,151 @@
-//! The calls of crates/board as safe functions on slices and arrays. Each answers document 01's number, 0 where the
-//! call was made. What the words stand for: a row crates/codec/specs/Codec.antt; a window, candidate, demand and key
-//! crates/window_words/specs/WindowWords.antt; a selection, counters and a choice
-//! crates/board_words/specs/BoardWords.antt; a queue crates/lent_queue/specs/LentQueue.antt.
+//! The scheduling core of a hoist board: the proved C calls of libboard.a and libimages.a as safe functions.
+//!
+//! A board keeps, for each processor, a [`Queue`], a [`Window`] and a [`Path`]; for all of them a table of [`Record`]s,
+//! one a thread, and the [`Turns`]. It lends them to each call. The calls keep nothing, allocate nothing, and each of
+//! them ends with an answer or a [`Refusal`], whatever they were lent. One queue and its table serve one call at a
+//! time.
+//!
+//! # The loop
+//!
+//! Who wakes is prepared and enqueued. Then it is chosen who runs, that one is taken out of the queue, the timer is set
+//! to the deadline, and what ran is charged. `examples/cycle.rs` has the whole of it.
+//!
+//! ```
+//! use board::{Budget, Config, Path, Queue, Record, Refusal, Role, Turns};
+//!
+//! const CPU: u8 = 0;
+//! const SWAY: Budget = Budget { budget_ns: 2_000_000, period_ns: 10_000_000, burst_ns: 1_000_000 };
+//! const SWAY_A: u64 = 0;
+//! const SWAY_B: u64 = 1;
+//! const IDLE: u64 = 2;
+//!
+//! # fn main() -> Result<(), Refusal> {
+//! let sway = Record::budget(SWAY, Role::Protected);
+//! let mut table = [sway, sway, Record::idle()];
+//! let (mut queue, mut path, mut turns) = (Queue::EMPTY, Path::NEW, Turns::START);
+//! let mut window = board::window(&Config::new(10_000_000, 2_000_000, 3_000_000))?;
+//! let (now, mut current) = (0, IDLE);
+//!
+//! // Who wakes is prepared and enqueued.
+//! for id in [SWAY_B, SWAY_A] {
+//!     board::prepare(&mut table, id, false, now, &mut turns)?;
+//!     board::enqueue(&mut queue, &mut table, &mut path, id, CPU)?;
+//! }
+//!
+//! // Who runs: a selection beside the current thread, if it is running, and the switch rule.
+//! let running = board::candidate(&mut table, current, true, now)?;
+//! let selection = board::select(&mut queue, &mut table, &mut path, CPU, now, &mut window, running.as_ref())?;
+//! let key = match &running {
+//!     Some(running) => board::key(&mut window, now, running, &selection.demand())?,
+//!     None => None,
+//! };
+//! let expired = board::expired(&table, current)?;
+//! let choice = board::switch(&selection, key.as_ref(), running.as_ref(), expired, false, false)?;
+//! if expired {
+//!     board::finish(&mut table, current)?;
+//! }
+//! if let (true, Some(next)) = (choice.switches(), selection.thread()) {
+//!     if running.is_some() && current != IDLE {
+//!         // Whoever gives way is enqueued again; where `choice.to_front()` says so, by `enqueue_front`.
+//!         board::prepare(&mut table, current, choice.to_front(), now, &mut turns)?;
+//!         board::enqueue(&mut queue, &mut table, &mut path, current, CPU)?;
+//!     }
+//!     board::remove(&mut queue, &mut table, &mut path, next, CPU)?;
+//!     current = next;
+//! }
+//! assert_eq!(current, SWAY_B);
+//!
+//! // Until when: the same look at the thread that now runs, and the timer is set to the deadline.
+//! let running = board::candidate(&mut table, current, true, now)?;
+//! let selection = board::select(&mut queue, &mut table, &mut path, CPU, now, &mut window, running.as_ref())?;
+//! let key = match &running {
+//!     Some(running) => board::key(&mut window, now, running, &selection.demand())?,
+//!     None => None,
+//! };
+//! let lengths = board::lengths(&queue)?;
+//! let deadline = board::deadline(&mut table, current, now, key.as_ref(), &mut window, &lengths, &selection)?;
+//! assert_eq!(deadline, Some(1_000_000));
+//!
+//! // It ran until then, and is charged by the mode of its key.
+//! let mode = key.map_or(board::Mode::Ordinary, |key| key.mode());
+//! board::account(&mut table, current, &mut window, mode, now, 1_000_000)?;
+//! assert!(board::expired(&table, current)?);
+//! # Ok(())
+//! # }
+//! ```
+//!
+//! # Linking
+//!
+//! The package links libboard.a and libimages.a from the folder that the variable `STATICLIB_DIR` names, else from the
+//! repository's target/staticlib. Of an installed copy that folder is what `pkg-config --variable=libdir board` prints.
+//! The package is `no_std` and has no other dependency; counts go to the library as 64 bits on every target.
 
-mod declared;
+#![no_std]
+#![deny(missing_docs)]
 
-use declared::*;
+mod calls;
+mod choices;
+mod queue;
+mod record;
+mod refusal;
+mod saving;
+mod selection;
+mod window;
+pub mod words;
 
-/// Record, window, queue and table as bytes.
-pub use images::{
-    load_queue, load_record, load_table, load_window, store_queue, store_record, store_table, store_window,
+pub use calls::{
+    account, candidate, deadline, enqueue, enqueue_front, expired, finish, key, lengths, new,
+    prepare, remove, select, switch, window,
+};
+pub use choices::{Backend, Mode, Policy, Role};
+pub use queue::{Path, Queue};
+pub use record::{
+    Budget, Candidate, MOST_RECORDS, Membership, Record, Runtime, USUAL_BAND, USUAL_WEIGHT,
+};
+pub use refusal::Refusal;
+pub use saving::{
+    QUEUE_BYTES, RECORD_BYTES, WINDOW_BYTES, load_queue, load_record, load_table, load_window,
+    store_queue, store_record, store_table, store_window,
+};
+pub use selection::{Choice, Lengths, Ready, Selection, Turns};
+pub use window::{Config, Demand, Key, Ranks, Window};
+
+/// The version of the calls: it rises with every changed signature, length or layout, and is `BOARD_VERSION` of the C
+/// header.
+pub const VERSION: u64 = 1;
+
+// The types are the words that the entries take, and their images have as many bytes.
+const _: () = {
+    assert!(size_of::<Record>() == RECORD_BYTES && align_of::<Record>() == align_of::<u64>());
+    assert!(size_of::<Candidate>() == RECORD_BYTES);
+    assert!(size_of::<Window>() == WINDOW_BYTES);
+    assert!(size_of::<Queue>() == QUEUE_BYTES);
+    assert!(size_of::<Path>() == size_of::<words::Path>());
+    assert!(size_of::<Config>() == size_of::<words::ConfigWords>());
+    assert!(size_of::<Demand>() == size_of::<words::DemandWords>());
+    assert!(size_of::<Key>() == size_of::<words::KeyWords>());
+    assert!(size_of::<Selection>() == size_of::<words::SelectionWords>());
+    assert!(size_of::<Choice>() == size_of::<words::ChoiceWords>());
+    assert!(size_of::<Lengths>() == size_of::<words::LengthWords>());
+    assert!(size_of::<Turns>() == size_of::<words::TurnWords>());
 };
 
-/// A record, or a candidate.
-pub type Row = [u64; 32];
-/// The steps of one descent, lent for the time of a call.
-pub type Path = [[u64; 2]; 40];
-pub type QueueWords = [[u64; 5]; 270];
-/// Period, allowance, floor, four ranks, and whether fair threads are preferred.
-pub type ConfigWords = [u64; 8];
-pub type WindowWords = [u64; 12];
-pub type DemandWords = [u64; 5];
-pub type KeyWords = [u64; 9];
-/// Whether a thread is named, its number, its key in seven, its policy in two; the demand's five; whether there is a
-/// lowest fair pass, its two halves.
-pub type SelectionWords = [u64; 19];
-/// The counters at the back and at the front.
-pub type TurnWords = [u64; 2];
-/// How many FIFO threads, Fair and Budget ones together, and Budget ones are queued.
-pub type LengthWords = [u64; 3];
-/// Whether to switch, and whether the current thread then goes to the front.
-pub type ChoiceWords = [u64; 2];
-/// Whether there is a deadline, and when.
-pub type DeadlineWords = [u64; 2];
-pub type FlagWord = [u64; 1];
-
-/// A selection's thread as the ready thread of `switch`.
-#[inline]
-pub fn ready_in(selection: &SelectionWords) -> &KeyWords {
-    selection.first_chunk().expect("19 words begin with 9")
-}
-
-/// A selection's demand.
-#[inline]
-pub fn demand_in(selection: &SelectionWords) -> &DemandWords {
-    selection[11..].first_chunk().expect("5 words after 11 of 19")
-}
-
-// Each call takes plain numbers, arrays by address and the table by address and count; it keeps none of them and is
-// total.
-
-/// `CpuRunQueue::new`
-#[inline]
-pub fn new(q: &mut QueueWords) -> u64 {
-    // SAFETY: the address is that of the words.
-    unsafe { board_new(q) }
-}
-
-/// `CpuRunQueue::enqueue`
-#[inline]
-pub fn enqueue(q: &mut QueueWords, t: &mut [Row], path: &mut Path, id: u64, cpu: u8) -> u64 {
-    // SAFETY: addresses and count are those of what is lent.
-    unsafe { board_enqueue(q, t.as_mut_ptr(), t.len(), path, id, cpu) }
-}
-
-/// `CpuRunQueue::enqueue_front`
-#[inline]
-pub fn enqueue_front(q: &mut QueueWords, t: &mut [Row], path: &mut Path, id: u64, cpu: u8) -> u64 {
-    // SAFETY: addresses and count are those of what is lent.
-    unsafe { board_enqueue_front(q, t.as_mut_ptr(), t.len(), path, id, cpu) }
-}
-
-/// `CpuRunQueue::remove`
-#[inline]
-pub fn remove(q: &mut QueueWords, t: &mut [Row], path: &mut Path, id: u64, cpu: u8) -> u64 {
-    // SAFETY: addresses and count are those of what is lent.
-    unsafe { board_remove(q, t.as_mut_ptr(), t.len(), path, id, cpu) }
-}
-
-/// `CpuRunQueue::real_time_len`, `fair_len` and `budget_len`.
-#[inline]
-pub fn lengths(q: &QueueWords, answer: &mut LengthWords) -> u64 {
-    // SAFETY: addresses are those of what is lent.
-    unsafe { board_lengths(q, answer) }
-}
-
-/// `ArbitrationConfig::new`, then `CpuWindow::new`.
-#[inline]
-pub fn window(window: &mut WindowWords, config: &ConfigWords) -> u64 {
-    // SAFETY: addresses are those of what is lent.
-    unsafe { board_window(window, config) }
-}
-
-/// `CpuRunQueue::peek_next`, with a candidate where `running` is not 0.
-#[allow(clippy::too_many_arguments)]
-#[inline]
-pub fn select(
-    q: &mut QueueWords,
-    t: &mut [Row],
-    path: &mut Path,
-    cpu: u8,
-    now_ns: u64,
-    window: &mut WindowWords,
-    running: u64,
-    current: &Row,
-    answer: &mut SelectionWords,
-) -> u64 {
-    let (rows, count) = (t.as_mut_ptr(), t.len());
-    // SAFETY: addresses and count are those of what is lent.
-    unsafe {
-        board_select(
-            q, rows, count, path, cpu, now_ns, window, running, current, answer,
-        )
-    }
-}
-
-/// `prepare_enqueue`
-#[inline]
-pub fn prepare(t: &mut [Row], id: u64, front: u64, now_ns: u64, turns: &mut TurnWords) -> u64 {
-    // SAFETY: addresses and count are those of what is lent.
-    unsafe { board_prepare(t.as_mut_ptr(), t.len(), id, front, now_ns, turns) }
-}
-
-/// `account_current`
-#[inline]
-pub fn account(
-    t: &mut [Row],
-    id: u64,
-    window: &mut WindowWords,
-    mode: u64,
-    start: u64,
-    end: u64,
-) -> u64 {
-    // SAFETY: addresses and count are those of what is lent.
-    unsafe { board_account(t.as_mut_ptr(), t.len(), id, window, mode, start, end) }
-}
-
-/// `current_candidate`: the candidate's row stays where the thread is not running.
-#[inline]
-pub fn candidate(t: &mut [Row], id: u64, running: u64, now_ns: u64, current: &mut Row) -> u64 {
-    // SAFETY: addresses and count are those of what is lent.
-    unsafe { board_candidate(t.as_mut_ptr(), t.len(), id, running, now_ns, current) }
-}
-
-/// `expired`
-#[inline]
-pub fn expired(t: &[Row], id: u64, answer: &mut FlagWord) -> u64 {
-    // SAFETY: addresses and count are those of what is lent.
-    unsafe { board_expired(t.as_ptr(), t.len(), id, answer) }
-}
-
-/// `finish_turn`
-#[inline]
-pub fn finish(t: &mut [Row], id: u64) -> u64 {
-    // SAFETY: address and count are those of what is lent.
-    unsafe { board_finish(t.as_mut_ptr(), t.len(), id) }
-}
-
-/// `candidate_key`: the key of a candidate under a demand, by a window.
-#[inline]
-pub fn key(
-    window: &mut WindowWords,
-    now_ns: u64,
-    current: &Row,
-    demand: &DemandWords,
-    key: &mut KeyWords,
-) -> u64 {
-    // SAFETY: addresses are those of what is lent.
-    unsafe { board_key(window, now_ns, current, demand, key) }
-}
-
-/// The switch rule of `choose_ready` on two keys and the current thread's row.
-#[inline]
-pub fn switch(
-    ready: &KeyWords,
-    key: &KeyWords,
-    current: &Row,
-    expired: u64,
-    yielding: u64,
-    tail: u64,
-    answer: &mut ChoiceWords,
-) -> u64 {
-    // SAFETY: addresses are those of what is lent.
-    unsafe { board_switch(ready, key, current, expired, yielding, tail, answer) }
-}
-
-/// `refresh_deadline` with the current thread's key.
-#[allow(clippy::too_many_arguments)]
-#[inline]
-pub fn deadline(
-    t: &mut [Row],
-    id: u64,
-    now_ns: u64,
-    key: &KeyWords,
-    window: &mut WindowWords,
-    competition: u64,
-    budget_peer: u64,
-    ready: u64,
-    demand: &DemandWords,
-    answer: &mut DeadlineWords,
-) -> u64 {
-    let (rows, count) = (t.as_mut_ptr(), t.len());
-    // SAFETY: addresses and count are those of what is lent.
-    unsafe {
-        board_deadline(
-            rows,
-            count,
-            id,
-            now_ns,
-            key,
-            window,
-            competition,
-            budget_peer,
-            ready,
-            demand,
-            answer,
-        )
-    }
-}
+// Words that follow one another: the last of each shape, a configuration in front of a window, a key's parts and a
+// demand within a selection, and a candidate's turn where a record has its own.
+const _: () = {
+    use words::*;
+    assert!(SPARE + 2 == ROW_WORDS);
+    assert!(PREFER_FAIR + 1 == CONFIG_WORDS && EPOCH_TAG == CONFIG_WORDS);
+    assert!(FLOOR_LEFT + 1 == WINDOW_WORDS);
+    assert!(DEMAND_ANY + 1 == DEMAND_WORDS);
+    assert!(KEY_TURN + 1 == KEY_WORDS && SELECTED_POLICY == KEY_WORDS);
+    assert!(
+        SELECTION_PROTECTED + DEMAND_WORDS == MIN_PASS_TAG && MIN_PASS_LOW + 1 == SELECTION_WORDS
+    );
+    assert!(
+        FRONT_TURN + 1 == TURN_WORDS
+            && TO_FRONT + 1 == CHOICE_WORDS
+            && BUDGET_LENGTH + 1 == LENGTH_WORDS
+    );
+    assert!(CANDIDATE_TURN == READY_TURN && DEADLINE_AT + 1 == DEADLINE_WORDS);
+};

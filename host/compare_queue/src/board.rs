@@ -33,9 +33,9 @@ impl Call {
 
     fn of_port(self) -> QueueCall {
         match self {
-            Self::Enqueue => ::board::enqueue,
-            Self::EnqueueFront => ::board::enqueue_front,
-            Self::Remove => ::board::remove,
+            Self::Enqueue => ::board::words::enqueue,
+            Self::EnqueueFront => ::board::words::enqueue_front,
+            Self::Remove => ::board::words::remove,
         }
     }
 
@@ -61,7 +61,7 @@ impl Board {
     /// A new queue, made by the port over words of any kind.
     pub fn new(tally: &mut Tally, records: Vec<Record>) -> Self {
         let mut words = [[u64::MAX; 5]; 270];
-        let number = ::board::new(&mut words);
+        let number = ::board::words::new(&mut words);
         tally.compare("new", (), (number, queue_of(&words)), (0, MarkedQueue::NEW));
         Self::of(MarkedQueue::NEW, records)
     }
@@ -158,7 +158,7 @@ impl Board {
 
     fn lengths(&self) -> [u64; 3] {
         let mut answer = [u64::MAX; 3];
-        assert_eq!(::board::lengths(&self.words, &mut answer), 0);
+        assert_eq!(::board::words::lengths(&self.words, &mut answer), 0);
         answer
     }
 

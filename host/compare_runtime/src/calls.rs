@@ -1,6 +1,6 @@
 //! The types of words that the port's calls take.
 
-pub use board::{KeyWords, Row, WindowWords};
+pub use board::words::{KeyWords, Row, WindowWords};
 
 pub type ParametersWords = [u64; 11];
 pub type RuntimeWords = [u64; 5];

@@ -25,7 +25,7 @@ pub fn new_window(config: Config, window: &mut Window) -> Answer<()> {
     let mut words = window_words(*window);
     let given = window_words(Window { config, ..*window });
     let config = given.first_chunk().expect("12 words begin with 8");
-    let number = board::window(&mut words, config);
+    let number = board::words::window(&mut words, config);
     *window = window_of(words);
     answer(number, ())
 }
@@ -58,7 +58,7 @@ impl Rows {
         turns: &mut Turns,
     ) -> Answer<()> {
         let mut words = [turns.back, turns.front];
-        let number = board::prepare(&mut self.0, id, front.into(), now, &mut words);
+        let number = board::words::prepare(&mut self.0, id, front.into(), now, &mut words);
         [turns.back, turns.front] = words;
         answer(number, ())
     }
@@ -73,13 +73,13 @@ impl Rows {
     ) -> Answer<()> {
         let mut words = window_words(*window);
         let mode = mode_word(mode);
-        let number = board::account(&mut self.0, id, &mut words, mode, start, end);
+        let number = board::words::account(&mut self.0, id, &mut words, mode, start, end);
         *window = window_of(words);
         answer(number, ())
     }
 
     pub fn finish_turn(&mut self, id: u64) -> Answer<()> {
-        answer(board::finish(&mut self.0, id), ())
+        answer(board::words::finish(&mut self.0, id), ())
     }
 
     /// The candidate; none where the thread is not Running. Then, and at a refusal, its words must stay.
@@ -90,7 +90,7 @@ impl Rows {
         now: u64,
     ) -> Answer<Option<Candidate>> {
         let mut row = UNTOUCHED;
-        let number = board::candidate(&mut self.0, id, running.into(), now, &mut row);
+        let number = board::words::candidate(&mut self.0, id, running.into(), now, &mut row);
         if number != 0 || !running {
             assert_eq!(row, UNTOUCHED, "a candidate of a thread that has none");
         }
@@ -99,7 +99,7 @@ impl Rows {
 
     pub fn expired(&self, id: u64) -> Answer<bool> {
         let mut words = [0; 1];
-        let number = board::expired(&self.0, id, &mut words);
+        let number = board::words::expired(&self.0, id, &mut words);
         answer(number, flag_of(words[0]))
     }
 
@@ -113,14 +113,14 @@ impl Rows {
         demand: Demand,
     ) -> Answer<KeyWords> {
         let (mut row, mut key) = (UNTOUCHED, NO_KEY);
-        let number = board::candidate(&mut self.0, id, running.into(), now, &mut row);
+        let number = board::words::candidate(&mut self.0, id, running.into(), now, &mut row);
         answer(number, ())?;
         if !running {
             return Ok(NO_KEY);
         }
         let mut words = window_words(*window);
         let demand = demand_words(demand);
-        let number = board::key(&mut words, now, &row, &demand, &mut key);
+        let number = board::words::key(&mut words, now, &row, &demand, &mut key);
         *window = window_of(words);
         answer(number, key)
     }
@@ -139,7 +139,8 @@ impl Rows {
         let row = &self.0[id as usize];
         let [expired, yielding, tail] = [expired, yielding, tail].map(u64::from);
         let mut choice = [u64::MAX; 2];
-        let number = board::switch(&ready, current, row, expired, yielding, tail, &mut choice);
+        let number =
+            board::words::switch(&ready, current, row, expired, yielding, tail, &mut choice);
         assert_eq!(number, 0, "the switch rule refuses nothing");
         (flag_of(choice[0]), flag_of(choice[1]))
     }
@@ -155,7 +156,7 @@ impl Rows {
         let mut words = window_words(*window);
         let mut due = [0; 2];
         let demand = demand_words(others.demand);
-        let number = board::deadline(
+        let number = board::words::deadline(
             &mut self.0,
             id,
             now,

@@ -1,6 +1,6 @@
 //! The port's selection on the oracle's plain values.
 
-use board::SelectionWords;
+use board::words::SelectionWords;
 use kernel::oracle::*;
 use tables::queues::QueueWords;
 use tables::rows::{Path, Row};
@@ -47,7 +47,7 @@ pub fn peek_next(
     let mut answer = UNTOUCHED;
     let row = current.unwrap_or(&[u64::MAX; 32]);
     let running = current.is_some().into();
-    let number = board::select(q, t, path, cpu, now, window, running, row, &mut answer);
+    let number = board::words::select(q, t, path, cpu, now, window, running, row, &mut answer);
     match number {
         0 => Ok(selection_of(&answer)),
         number => {

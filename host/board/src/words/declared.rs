@@ -1,9 +1,9 @@
 //! The C calls as crates/board exports them. The table goes as its address and its count of rows, an array as its
-//! address.
+//! address. A count has 64 bits on every target: the library reads it so, also where an address has 32.
 
-use crate::{
-    ChoiceWords, ConfigWords, DeadlineWords, DemandWords, FlagWord, KeyWords, LengthWords, Path, QueueWords, Row,
-    SelectionWords, TurnWords, WindowWords,
+use super::{
+    ChoiceWords, ConfigWords, DeadlineWords, DemandWords, FlagWord, KeyWords, LengthWords, Path,
+    QueueWords, Row, SelectionWords, TurnWords, WindowWords,
 };
 
 unsafe extern "C" {
@@ -11,7 +11,7 @@ unsafe extern "C" {
     pub fn board_enqueue(
         q: *mut QueueWords,
         t: *mut Row,
-        rows: usize,
+        rows: u64,
         path: *mut Path,
         id: u64,
         cpu: u8,
@@ -19,7 +19,7 @@ unsafe extern "C" {
     pub fn board_enqueue_front(
         q: *mut QueueWords,
         t: *mut Row,
-        rows: usize,
+        rows: u64,
         path: *mut Path,
         id: u64,
         cpu: u8,
@@ -27,7 +27,7 @@ unsafe extern "C" {
     pub fn board_remove(
         q: *mut QueueWords,
         t: *mut Row,
-        rows: usize,
+        rows: u64,
         path: *mut Path,
         id: u64,
         cpu: u8,
@@ -37,7 +37,7 @@ unsafe extern "C" {
     pub fn board_select(
         q: *mut QueueWords,
         t: *mut Row,
-        rows: usize,
+        rows: u64,
         path: *mut Path,
         cpu: u8,
         now_ns: u64,
@@ -48,7 +48,7 @@ unsafe extern "C" {
     ) -> u64;
     pub fn board_prepare(
         t: *mut Row,
-        rows: usize,
+        rows: u64,
         id: u64,
         front: u64,
         now_ns: u64,
@@ -56,7 +56,7 @@ unsafe extern "C" {
     ) -> u64;
     pub fn board_account(
         t: *mut Row,
-        rows: usize,
+        rows: u64,
         id: u64,
         window: *mut WindowWords,
         mode: u64,
@@ -65,14 +65,14 @@ unsafe extern "C" {
     ) -> u64;
     pub fn board_candidate(
         t: *mut Row,
-        rows: usize,
+        rows: u64,
         id: u64,
         running: u64,
         now_ns: u64,
         current: *mut Row,
     ) -> u64;
-    pub fn board_expired(t: *const Row, rows: usize, id: u64, answer: *mut FlagWord) -> u64;
-    pub fn board_finish(t: *mut Row, rows: usize, id: u64) -> u64;
+    pub fn board_expired(t: *const Row, rows: u64, id: u64, answer: *mut FlagWord) -> u64;
+    pub fn board_finish(t: *mut Row, rows: u64, id: u64) -> u64;
     pub fn board_key(
         window: *mut WindowWords,
         now_ns: u64,
@@ -91,7 +91,7 @@ unsafe extern "C" {
     ) -> u64;
     pub fn board_deadline(
         t: *mut Row,
-        rows: usize,
+        rows: u64,
         id: u64,
         now_ns: u64,
         key: *const KeyWords,
