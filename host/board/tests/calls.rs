@@ -8,6 +8,11 @@ use board::*;
 const CPU: u8 = 0;
 /// Where a queue has the roots of its trees (crates/lent_queue/specs/LentQueue.antt): first FIFO's, by role.
 const ROOT_ROWS: usize = 257;
+/// Where a list of a queue has its head and its tail.
+const HEAD: usize = 1;
+const TAIL: usize = 3;
+/// Of the FIFO thread.
+const PRIORITY: u8 = 7;
 const SWAY: Budget = Budget {
     budget_ns: 2_000_000,
     period_ns: 10_000_000,
@@ -22,7 +27,7 @@ const FAIR: u64 = 1;
 const BUDGET: u64 = 2;
 const IDLE: u64 = 3;
 const TABLE: [Record; 4] = [
-    Record::fifo(7, Role::Priority),
+    Record::fifo(PRIORITY, Role::Priority),
     Record::fair(Backend::RoundRobin, 32, 4_000_000, Role::Ordinary),
     Record::budget(SWAY, Role::Protected),
     Record::idle(),
@@ -90,7 +95,7 @@ fn new_records_have_the_parts_that_they_were_given() {
             Role::Ordinary
         ]
     );
-    assert_eq!(fifo.priority(), 7);
+    assert_eq!((fifo.priority(), fifo.weight()), (7, USUAL_WEIGHT));
     let parts = (fair.backend(), fair.weight(), fair.quantum_ns());
     assert_eq!(parts, (Backend::RoundRobin, 32, 4_000_000));
     let budgets = [fifo, fair, budget, idle].map(|record| record.budget_parameters());
@@ -202,14 +207,10 @@ fn a_thread_at_the_front_comes_first() {
     prepare(&mut board.table, FIFO, false, 0, &mut board.turns).expect("prepared");
     board.enqueue(FIFO).expect("enqueued");
     prepare(&mut board.table, FAIR, true, 0, &mut board.turns).expect("prepared");
-    enqueue_front(
-        &mut board.queue,
-        &mut board.table,
-        &mut board.path,
-        FAIR,
-        CPU,
-    )
-    .expect("enqueued");
+    let (queue, table, path) = (&mut board.queue, &mut board.table, &mut board.path);
+    enqueue_front(queue, table, path, FAIR, CPU).expect("enqueued");
+    let list = board.queue.words()[PRIORITY as usize];
+    assert_eq!((list[HEAD], list[TAIL]), (FAIR, FIFO));
     assert_eq!(
         board.select(0, None).expect("a selection").thread(),
         Some(FAIR)
@@ -295,34 +296,111 @@ fn the_running_thread_has_a_deadline_and_is_charged() {
 }
 
 #[test]
+fn only_who_runs_takes_part_in_a_selection() {
+    let mut board = Board::new();
+    let demand = board.select(0, None).expect("a selection").demand();
+    assert_eq!(demand, Demand::from_words([0; words::DEMAND_WORDS]));
+    let candidate = candidate(&mut board.table, FAIR, true, 0).expect("answered");
+    let demand = board
+        .select(0, candidate.as_ref())
+        .expect("a selection")
+        .demand();
+    assert!(demand.fair() && demand.window_sensitive() && !demand.any_budget());
+}
+
+/// Two FIFO threads of one priority, of which one runs: whether it gives way, and whether to the front.
+fn between_equals(expired: bool, yielding: bool, tail: bool) -> (bool, bool) {
+    let mut board = Board::new();
+    board.table[FAIR as usize] = TABLE[FIFO as usize];
+    prepare(&mut board.table, FIFO, false, 0, &mut board.turns).expect("prepared");
+    board.enqueue(FIFO).expect("enqueued");
+    let candidate = candidate(&mut board.table, FAIR, true, 0).expect("answered");
+    let current = candidate.expect("a thread that runs");
+    let selection = board.select(0, Some(&current)).expect("a selection");
+    let its = key(&mut board.window, 0, &current, &selection.demand()).expect("answered");
+    let choice = switch(
+        &selection,
+        its.as_ref(),
+        Some(&current),
+        expired,
+        yielding,
+        tail,
+    );
+    let choice = choice.expect("a choice");
+    (choice.switches(), choice.to_front())
+}
+
+#[test]
+fn each_flag_of_a_switch_counts() {
+    assert_eq!(between_equals(false, false, false), (false, true));
+    assert_eq!(between_equals(true, false, false), (false, false));
+    assert_eq!(between_equals(false, true, false), (true, false));
+    assert_eq!(between_equals(false, false, true), (true, true));
+}
+
+/// The deadline of the Fair thread, which runs beside whoever is queued.
+fn deadline_of_fair(board: &mut Board, now: u64) -> Option<u64> {
+    let candidate = candidate(&mut board.table, FAIR, true, now).expect("answered");
+    let current = candidate.expect("a thread that runs");
+    let selection = board.select(now, Some(&current)).expect("a selection");
+    let its = key(&mut board.window, now, &current, &selection.demand()).expect("answered");
+    let counted = lengths(&board.queue).expect("lengths");
+    let (table, window) = (&mut board.table, &mut board.window);
+    deadline(table, FAIR, now, its.as_ref(), window, &counted, &selection).expect("answered")
+}
+
+#[test]
+fn a_slice_counts_where_a_thread_is_ready() {
+    let mut board = Board::new();
+    assert_eq!(deadline_of_fair(&mut board, 0), None);
+    let (table, window) = (&mut board.table, &mut board.window);
+    account(table, BUDGET, window, Mode::Ordinary, 0, SWAY.budget_ns).expect("charged");
+    prepare(table, BUDGET, false, SWAY.budget_ns, &mut board.turns).expect("prepared");
+    board.enqueue(BUDGET).expect("enqueued");
+    // The budget is exhausted, so nobody is ready before the next period.
+    assert_eq!(
+        deadline_of_fair(&mut board, SWAY.budget_ns),
+        Some(SWAY.period_ns)
+    );
+    board.remove(BUDGET).expect("removed");
+    board.table[IDLE as usize] = TABLE[FAIR as usize];
+    prepare(&mut board.table, IDLE, false, 0, &mut board.turns).expect("prepared");
+    board.enqueue(IDLE).expect("enqueued");
+    assert_eq!(deadline_of_fair(&mut board, 0), Some(4_000_000));
+}
+
+#[test]
+fn the_mode_says_what_is_charged() {
+    for (mode, left) in [(Mode::Ordinary, 2_000_000), (Mode::Priority, 1_900_000)] {
+        let mut board = Board::new();
+        account(&mut board.table, FAIR, &mut board.window, mode, 0, 100_000).expect("charged");
+        assert_eq!(board.window.allowance_left_ns(), left);
+    }
+}
+
+/// The deadline where the idle thread, which has no key, runs beside the queued.
+fn deadline_of_idle(board: &mut Board, now: u64) -> Option<u64> {
+    let selection = board.select(now, None).expect("a selection");
+    let counted = lengths(&board.queue).expect("lengths");
+    let (table, window) = (&mut board.table, &mut board.window);
+    deadline(table, IDLE, now, None, window, &counted, &selection).expect("answered")
+}
+
+#[test]
 fn nobody_runs() {
     let mut board = Board::full();
     assert_eq!(candidate(&mut board.table, IDLE, false, 0), Ok(None));
     let selection = board.select(0, None).expect("a selection");
     let choice = switch(&selection, None, None, false, false, false).expect("a choice");
     assert!(choice.switches());
-    let counted = lengths(&board.queue).expect("lengths");
-    let due = deadline(
-        &mut board.table,
-        IDLE,
-        9,
-        None,
-        &mut board.window,
-        &counted,
-        &selection,
-    );
-    assert_eq!(due, Ok(Some(9)));
-    let none = lengths(&Queue::EMPTY).expect("lengths");
-    let due = deadline(
-        &mut board.table,
-        IDLE,
-        9,
-        None,
-        &mut board.window,
-        &none,
-        &selection,
-    );
-    assert_eq!(due, Ok(None));
+    assert_eq!(deadline_of_idle(&mut board, 9), Some(9));
+    board
+        .remove(FAIR)
+        .and(board.remove(BUDGET))
+        .expect("removed");
+    assert_eq!(deadline_of_idle(&mut board, 9), Some(9));
+    board.remove(FIFO).expect("removed");
+    assert_eq!(deadline_of_idle(&mut board, 9), None);
 }
 
 #[test]
