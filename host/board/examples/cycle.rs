@@ -316,6 +316,10 @@ fn stretch(board: &Board, armed: &Armed, reading: u64) -> String {
 }
 
 fn main() -> ExitCode {
+    if board::version() != board::VERSION {
+        eprintln!("cycle: package board and libboard.a are not of the same version");
+        return ExitCode::FAILURE;
+    }
     for lift in &LIFTS {
         println!("{}\n{HEADING}", lift.file);
         // A board that is refused goes on where it can: after Halted or Damaged with a new queue, into which it

@@ -12,6 +12,12 @@ use crate::words::{
     LENGTH_WORDS, SELECTED_TAG, SELECTION_WORDS,
 };
 
+/// The version of the linked library, to be asked once: it is [`VERSION`](crate::VERSION) where package and library go
+/// together, and with another one no call is to be made.
+pub fn version() -> u64 {
+    words::version()
+}
+
 /// Makes the queue empty, whatever its words were: also one that halted. The records of threads that were queued in it
 /// are to be made anew. No refusals.
 pub fn new(queue: &mut Queue) -> Result<(), Refusal> {

@@ -95,7 +95,7 @@ pub mod words;
 
 pub use calls::{
     account, candidate, deadline, enqueue, enqueue_front, expired, finish, key, lengths, new,
-    prepare, remove, select, switch, window,
+    prepare, remove, select, switch, version, window,
 };
 pub use choices::{Backend, Mode, Policy, Role};
 pub use queue::{Path, Queue};
@@ -111,7 +111,7 @@ pub use selection::{Choice, Lengths, Ready, Selection, Turns};
 pub use window::{Config, Demand, Key, Ranks, Window};
 
 /// The version of the calls: it rises with every changed signature, length or layout, and is `BOARD_VERSION` of the C
-/// header.
+/// header. [`version`] answers that of the linked library.
 pub const VERSION: u64 = 1;
 
 // The types are the words that the entries take, and their images have as many bytes.

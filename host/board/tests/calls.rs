@@ -564,3 +564,8 @@ fn refusals_have_their_numbers_and_names() {
     let error: &dyn core::error::Error = &Refusal::Halted;
     assert_eq!(error.to_string(), "Halted (9): the queue is halted");
 }
+
+#[test]
+fn package_and_library_are_of_one_version() {
+    assert_eq!(version(), VERSION);
+}

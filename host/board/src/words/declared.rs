@@ -7,6 +7,7 @@ use super::{
 };
 
 unsafe extern "C" {
+    pub fn board_version() -> u64;
     pub fn board_new(q: *mut QueueWords) -> u64;
     pub fn board_enqueue(
         q: *mut QueueWords,

@@ -1,5 +1,5 @@
-//! The C calls on words: each takes plain numbers, arrays and slices, and answers document 01's number, 0 where it was
-//! made.
+//! The C calls on words: each takes plain numbers, arrays and slices, and each but [`version`] answers document 01's
+//! number, 0 where it was made.
 //!
 //! For whoever has words of any kind, such as the programs that compare the entries with the Rust. Any words are taken:
 //! a flag is set where its word is not 0, a byte is its word's remainder by 256, a number beyond the last of a choice
@@ -83,6 +83,13 @@ pub fn demand_in(selection: &SelectionWords) -> &DemandWords {
     selection[SELECTION_PROTECTED..]
         .first_chunk()
         .expect("5 words after 11 of 19")
+}
+
+/// The version of the linked library.
+#[inline]
+pub fn version() -> u64 {
+    // SAFETY: nothing is lent.
+    unsafe { board_version() }
 }
 
 /// `CpuRunQueue::new`

@@ -7,6 +7,7 @@ const CPU: u8 = 0;
 const BRAKE: u64 = 0;
 
 fn main() -> Result<(), Refusal> {
+    assert_eq!(board::version(), board::VERSION);
     let mut table = [Record::fifo(1, Role::Ordinary), Record::idle()];
     let (mut queue, mut path, mut turns) = (Queue::EMPTY, Path::NEW, Turns::START);
     let mut window = board::window(&Config::new(10_000_000, 2_000_000, 3_000_000))?;
