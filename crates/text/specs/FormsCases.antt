@@ -1,4 +1,4 @@
--- Forms and lines as they are written, on which the definitions are judged.
+-- Forms, lines and times as they are written, on which the definitions are judged.
 use Prim.Native.String.{String}
 use mathlib.Core.Path.{_≡_, refl}
 use mathlib.Core.List.{[], _∷_}

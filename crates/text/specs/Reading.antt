@@ -1,4 +1,4 @@
--- The pieces of a text, and the number that digits denote.
+-- The pieces of a text, and the numbers and times that words denote.
 use Prim.Native.Nat.{ℕ, zero, suc, _+_, _-_, _*_}
 use mathlib.Core.Bool.{Bool, true, false}
 use mathlib.Core.List.{List, [], _∷_}

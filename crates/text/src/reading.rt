@@ -1,4 +1,4 @@
-// Pieces of a text, and the numbers that they are.
+// Pieces of a text, and the numbers and times that they are.
 ghost use mathlib.Core.Path.{_≡_};
 ghost use Prim.Native.Nat.{_+_, _-_, _*_, _≤_};
 ghost use lib.ListN.{take, drop, getD, length};

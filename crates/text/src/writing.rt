@@ -91,7 +91,7 @@ fn put_right(out: &mut [u8], at: usize, n: u64, width: usize) -> usize
     put(out, end, &digits[..k])
 }
 
-// What stands before the last so many digits, of which more stand before.
+// Between digits, by how many of them follow: an underline before whole groups.
 fn put_separator(out: &mut [u8], at: usize, left: usize) -> usize
     ensures { λ r. ⌜ page (now (out .exit)) r ≡ written (page (now (out .entry)) at) (separator left) ⌝ }
 {

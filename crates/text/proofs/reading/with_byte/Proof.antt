@@ -6,7 +6,9 @@ use Rattle.text.proofs.reading.with_byte.Statement.{statement}
 use Rattle.text.proofs.reading.with_byte.Tie as tie
 
 returns : tie.Need-returns
-returns c = left-alone _ _ (search needs) (omega arith)
+returns c =
+    let args = c .before .args in
+    search (left-alone (args .value) (args .byte) (search needs) (omega arith))
 
 digit-requires : tie.Need-digit-requires
 digit-requires c κs = search needs
