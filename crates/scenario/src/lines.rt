@@ -7,12 +7,12 @@ use crate::printing::SPACE;
 use crate::printing::plain;
 use crate::printing::put_one;
 use crate::printing::refusal;
-use crate::run::COUNTS;
 use crate::run::NOT_UNDERSTOOD;
 use crate::run::REFUSED;
 use crate::run::Run;
 use crate::run::STATEMENTS;
 use crate::run::TEXT;
+use crate::run::counted;
 use crate::statements;
 use crate::statements::Statement;
 
@@ -62,14 +62,6 @@ fn answer(x: Run, statement: u64) {
 fn quote(number: u64, line: &[u8]) {
     put_one(b"line %a: ", number);
     plain(line);
-}
-
-fn counted(given: Run, kind: usize) -> Run {
-    let mut x = given;
-    if kind < COUNTS {
-        x.counts[kind] = text::saturating_add(x.counts[kind], 1);
-    }
-    x
 }
 
 // A line that cannot be performed.

@@ -137,6 +137,15 @@ pub fn new(output: u64) -> Run {
     }
 }
 
+// With one more of what is counted.
+pub fn counted(given: Run, kind: usize) -> Run {
+    let mut x = given;
+    if kind < COUNTS {
+        x.counts[kind] = text::saturating_add(x.counts[kind], 1);
+    }
+    x
+}
+
 // The word of a thread or of a wake; 0 of none.
 pub fn at(words: Each, k: u64) -> u64 {
     if k < MOST_THREADS {

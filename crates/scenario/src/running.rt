@@ -8,13 +8,16 @@ use crate::printing::name;
 use crate::printing::plain;
 use crate::printing::put;
 use crate::printing::put_one;
+use crate::printing::refusal;
 use crate::printing::say_one;
 use crate::printing::tell;
 use crate::run::NO_IDLE;
 use crate::run::NOBODY;
+use crate::run::REFUSED;
 use crate::run::Run;
 use crate::run::TEXT;
 use crate::run::at;
+use crate::run::counted;
 use crate::run::with;
 use codec::Row;
 use lent_queue::QueueRows;
@@ -225,16 +228,22 @@ fn cycles(q: &mut QueueRows, t: &mut [Row], given: Run) -> Run {
     x
 }
 
-// A refusal ends a run, with its line named again, and so does its length.
-fn closed(x: Run) -> Run {
+// A refusal ends a run, with its line named again, and is counted; so does its length. After this the line has its end.
+fn closed(given: Run) -> Run {
+    let mut x = given;
     if x.number == 0 && x.until <= x.now {
         return x;
     }
     say_one(x.output, b"line %a", x.line);
     if x.number == 0 {
         tell(x.output, b": stopped\n");
+        return x;
     }
-    x
+    if x.output == TEXT {
+        refusal(x.number);
+    }
+    x.number = 0;
+    counted(x, REFUSED)
 }
 
 // Without an idle thread there is nobody to run first.

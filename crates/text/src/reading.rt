@@ -21,14 +21,22 @@ const DIGIT: u64 = 1;
 
 const NO_NUMERAL: u64 = 2;
 
-// The letters of the units of time.
-const SECOND: u8 = 115;
+// The units of time, which end in an `s`: the letter before that, if there is one, and the nanoseconds.
+const SMALL_S: u8 = 115;
 
 const MILLI: u8 = 109;
 
 const MICRO: u8 = 117;
 
 const NANO: u8 = 110;
+
+const SECOND: u64 = 1_000_000_000;
+
+const MILLISECOND: u64 = 1_000_000;
+
+const MICROSECOND: u64 = 1_000;
+
+const NANOSECOND: u64 = 1;
 
 // A number that fits, one above 18,446,744,073,709,551,615, or what is no number.
 pub enum Decimal {
@@ -238,18 +246,18 @@ pub fn nanoseconds(word: &[u8]) -> Decimal
     ensures { λ r. ⌜ r ≡ nanosecondsOf (now (word .entry)) ⌝ }
 {
     let last = from_end(word, 1);
-    if last != SECOND {
+    if last != SMALL_S {
         return number(word);
     }
     let prefix = from_end(word, 2);
     if prefix == NANO {
-        return in_unit(word, 2, 1);
+        return in_unit(word, 2, NANOSECOND);
     }
     if prefix == MICRO {
-        return in_unit(word, 2, 1_000);
+        return in_unit(word, 2, MICROSECOND);
     }
     if prefix == MILLI {
-        return in_unit(word, 2, 1_000_000);
+        return in_unit(word, 2, MILLISECOND);
     }
-    in_unit(word, 1, 1_000_000_000)
+    in_unit(word, 1, SECOND)
 }
