@@ -126,7 +126,7 @@ fn window(x: Run) {
     }
     say(
         x.output,
-        b", allowance left %a, floor left %b\n",
+        b", allowance left %A, floor left %B\n",
         &[
             x.window[window_words::ALLOWANCE_LEFT],
             x.window[window_words::FLOOR_LEFT],

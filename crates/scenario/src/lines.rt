@@ -1,13 +1,20 @@
-// A line is read, quoted with its number, and performed. A `#` that no digit follows starts a comment.
+// A line is read, quoted with its number, performed and counted. A `#` that no digit follows starts a comment.
+use crate::causes;
+use crate::mistakes;
 use crate::performing::performed;
 use crate::performing::told;
 use crate::printing::SPACE;
 use crate::printing::plain;
 use crate::printing::put_one;
 use crate::printing::refusal;
+use crate::run::NOT_UNDERSTOOD;
+use crate::run::REFUSED;
 use crate::run::Run;
+use crate::run::STATEMENTS;
 use crate::run::TEXT;
+use crate::run::counted;
 use crate::statements;
+use crate::statements::Statement;
 
 const MARK: u8 = 35;
 
@@ -52,37 +59,68 @@ fn answer(x: Run, statement: u64) {
     refusal(x.number);
 }
 
-fn quote(number: u64, line: &[u8], statement: u64) {
+fn quote(number: u64, line: &[u8]) {
     put_one(b"line %a: ", number);
-    if statement == statements::NONE {
-        plain(b"not understood: ");
-    }
     plain(line);
-    if statement == statements::NONE {
-        plain(b"\n");
-    }
 }
 
-// A line of words.
-fn worded(q: &mut lent_queue::QueueRows, t: &mut [codec::Row], given: Run, line: &[u8]) -> Run {
-    let said = statements::said(given, line);
-    let statement = said.number;
-    if given.output == TEXT {
-        quote(given.line, line, statement);
+// A line that cannot be performed.
+fn mistaken(x: Run, forms: &[u8], line: &[u8], said: Statement, mistake: u64) -> Run {
+    if x.output == TEXT {
+        mistakes::told(forms, x.line, line, said, mistake);
     }
-    if statement == statements::NONE {
-        return given;
+    if mistakes::is_refused(mistake) {
+        return counted(x, REFUSED);
+    }
+    counted(x, NOT_UNDERSTOOD)
+}
+
+fn understood(
+    q: &mut lent_queue::QueueRows,
+    t: &mut [codec::Row],
+    given: Run,
+    line: &[u8],
+    said: Statement,
+) -> Run {
+    if given.output == TEXT {
+        quote(given.line, line);
     }
     let mut before = given;
     before.number = 0;
     let x = performed(q, t, before, line, said);
     if x.output == TEXT {
-        answer(x, statement);
+        answer(x, said.number);
+    }
+    if x.number != 0 {
+        return counted(x, REFUSED);
     }
     x
 }
 
-pub fn line(q: &mut lent_queue::QueueRows, t: &mut [codec::Row], given: Run, line: &[u8]) -> Run {
+// A line of words, by the forms of all statements.
+fn worded(
+    q: &mut lent_queue::QueueRows,
+    t: &mut [codec::Row],
+    given: Run,
+    forms: &[u8],
+    line: &[u8],
+) -> Run {
+    let said = statements::said(given, forms, line);
+    let x = counted(given, STATEMENTS);
+    let mistake = mistakes::mistake(said, given.wakes);
+    if mistake != causes::NONE {
+        return mistaken(x, forms, line, said, mistake);
+    }
+    understood(q, t, x, line, said)
+}
+
+pub fn line(
+    q: &mut lent_queue::QueueRows,
+    t: &mut [codec::Row],
+    given: Run,
+    forms: &[u8],
+    line: &[u8],
+) -> Run {
     let mut x = given;
     x.line = text::saturating_add(given.line, 1);
     let start = text::start_of(line, 0, SPACE);
@@ -90,5 +128,5 @@ pub fn line(q: &mut lent_queue::QueueRows, t: &mut [codec::Row], given: Run, lin
     if end <= start || line.len() < end {
         return x;
     }
-    worded(q, t, x, &line[start..end])
+    worded(q, t, x, forms, &line[start..end])
 }

@@ -1,9 +1,11 @@
 // Runs scenarios, lines of threads, a window and calls, on the proved core, and prints each answer, or a picture of the
 // run. FORMAT.md has the lines.
 mod calls;
+mod causes;
 mod drawing;
 mod explaining;
 mod lines;
+mod mistakes;
 mod performing;
 mod printing;
 mod run;
@@ -16,14 +18,21 @@ const STDIN: i32 = 0;
 
 const STDOUT: i32 = 1;
 
+const TAB: u8 = 9;
+
 const NEW_LINE: u8 = 10;
+
+const RETURN: u8 = 13;
+
+// One byte more than a file may have.
+const ROOM: usize = 65_537;
 
 fn new_queue(q: &mut lent_queue::QueueRows) {
     board::board_new(q);
 }
 
-// Each line in turn, on a new board.
-fn lines_of(given: run::Run, text: &[u8]) -> run::Run {
+// Each line in turn, by the forms of the statements, on a new board.
+fn lines_by(given: run::Run, forms: &[u8], text: &[u8]) -> run::Run {
     let mut q = [[0u64; lent_queue::QUEUE_ROW_WORDS]; lent_queue::QUEUE_ROWS];
     let mut t = [[0u64; policy_words::ROW_WORDS]; run::TABLE_ROWS];
     new_queue(&mut q);
@@ -31,14 +40,20 @@ fn lines_of(given: run::Run, text: &[u8]) -> run::Run {
     let mut at: usize = 0;
     while at < text.len() {
         let end = text::end_of(text, at, NEW_LINE);
-        x = lines::line(&mut q, &mut t, x, &text[at..end]);
+        x = lines::line(&mut q, &mut t, x, forms, &text[at..end]);
         at = end + 1;
     }
     x
 }
 
+// (The forms are long, and stand in one place of the program, which is cheaper to check.)
+fn lines_of(given: run::Run, text: &[u8]) -> run::Run {
+    lines_by(given, &statements::FORMS, text)
+}
+
 fn print(text: &[u8]) {
-    lines_of(run::new(run::TEXT), text);
+    let x = lines_of(run::new(run::TEXT), text);
+    printing::put(b"%a statements, %b refused, %c not understood\n", &x.counts);
 }
 
 // Twice: the first run tells how long the second one is, and how many threads it has.
@@ -62,33 +77,130 @@ fn shown(name: &[u8], text: &[u8], drawn: bool) {
     print(text);
 }
 
+// A tab and a carriage return are blanks.
+fn blank(byte: u8) -> u8 {
+    if byte == TAB || byte == RETURN {
+        return printing::SPACE;
+    }
+    byte
+}
+
+fn blanked(text: &mut [u8]) {
+    let mut i: usize = 0;
+    while i < text.len() {
+        text[i] = blank(text[i]);
+        i += 1;
+    }
+}
+
+// What is read of a file: all, in so many bytes; more than there is room for; or the system says why not.
+enum Got {
+    All(usize),
+    Longer,
+    Failed,
+}
+
+// Up to the end of the file.
+fn read(fd: i32, text: &mut [u8]) -> Got {
+    let mut n: usize = 0;
+    while n < text.len() {
+        let got = libc::read(fd, &mut text[n..]);
+        if got < 0 {
+            return Got::Failed;
+        }
+        let more = io::count(got, &text[n..]);
+        if more == 0 {
+            return Got::All(n);
+        }
+        n += more;
+    }
+    Got::Longer
+}
+
+fn complain(name: &[u8], words: &[u8]) {
+    io::write_all(libc::STDERR_FILENO, name);
+    io::write_all(libc::STDERR_FILENO, words);
+}
+
+// How much of the text is a file's; nothing, and why not, where it is not read whole.
+fn whole(fd: i32, name: &[u8], text: &mut [u8]) -> Got {
+    let got = read(fd, text);
+    match got {
+        Got::All(_) => blanked(text),
+        Got::Longer => complain(name, b": more than 65,536 bytes, not run\n"),
+        Got::Failed => os::fail(name),
+    }
+    got
+}
+
 fn file(name: &[u8], drawn: bool) {
-    let mut text = io::large_buffer();
+    let mut text = [0u8; ROOM];
     let fd = os::open_read(name);
     if fd < 0 {
         os::fail(name);
         return;
     }
-    let n = io::read_full(fd, &mut text);
+    let got = whole(fd, name, &mut text);
     libc::close(fd);
-    shown(name, &text[..n], drawn);
+    if let Got::All(n) = got {
+        if n <= ROOM {
+            shown(name, &text[0..n], drawn);
+        }
+    }
 }
 
 fn input() {
-    let mut text = io::large_buffer();
-    let n = io::read_full(STDIN, &mut text);
-    print(&text[..n]);
+    let mut text = [0u8; ROOM];
+    let got = whole(STDIN, b"standard input", &mut text);
+    if let Got::All(n) = got {
+        if n <= ROOM {
+            print(&text[0..n]);
+        }
+    }
 }
 
-// Whether the file after this argument is drawn.
-fn argument(i: usize, drawn: bool) -> bool {
-    let mut name = io::buffer();
-    let n = os::arg(i, &mut name);
-    if text::same(&name[..n], b"--picture") {
+fn help() {
+    io::write_all(
+        STDOUT,
+        b"scenario FILE..: runs each file on a board of its own, and prints each answer below the file's name.\n\
+        scenario: the same of standard input.\n\
+        scenario --picture FILE: the run of the file as a picture, in SVG.\n\
+        scenario --help: this text.\n\
+        A file has threads, a window, calls and runs, one statement a line. crates/scenario/FORMAT.md has them,\n\
+        their answers, and what is said of mistakes.\n",
+    );
+}
+
+fn is_option(word: &[u8]) -> bool {
+    if word.len() < 2 {
+        return false;
+    }
+    text::same(&word[0..2], b"--")
+}
+
+// A word of the call; whether the file after it is drawn.
+fn said(word: &[u8], drawn: bool) -> bool {
+    if text::same(word, b"--picture") {
         return true;
     }
-    file(&name[..n], drawn);
+    if text::same(word, b"--help") {
+        help();
+    } else if is_option(word) {
+        complain(word, b": unknown option, --help names all\n");
+    } else {
+        file(word, drawn);
+    }
     false
+}
+
+fn argument(i: usize, drawn: bool) -> bool {
+    let mut word = io::buffer();
+    let n = os::arg(i, &mut word);
+    if os::errno() != 0 {
+        os::fail(b"an argument");
+        return drawn;
+    }
+    said(&word[..n], drawn)
 }
 
 fn main() {
@@ -98,6 +210,9 @@ fn main() {
     while i < count {
         drawn = argument(i, drawn);
         i += 1;
+    }
+    if drawn {
+        complain(b"--picture", b": a file has to follow\n");
     }
     if count < 2 {
         input();

@@ -5,7 +5,6 @@ use crate::printing::listed;
 use crate::printing::say;
 use crate::printing::say_one;
 use crate::printing::tell;
-use crate::run::MOST_RECORDS;
 use crate::run::MOST_THREADS;
 use crate::run::Run;
 use crate::run::with;
@@ -17,9 +16,6 @@ use crate::threads::thread;
 use crate::words;
 use codec::Row;
 use lent_queue::QueueRows;
-
-// A wake that finds no room.
-const NO_ROOM: u64 = 1;
 
 // A selection, explained; then the running thread's key, which the switch rule compares with it.
 fn select(q: &mut QueueRows, t: &mut [Row], given: Run, now: u64, id: u64, runs: u64) -> Run {
@@ -36,12 +32,11 @@ fn switch(given: Run, expired: u64, yielding: u64, tail: u64) -> Run {
     calls::switch(x, yielding, tail)
 }
 
-// A wake is kept for the next run.
+// A wake is kept for the next run. (A line that finds no room for it is not performed.)
 fn wake(given: Run, id: u64, work: u64, reading: u64) -> Run {
     let n = given.wakes;
     let mut x = given;
     if MOST_THREADS <= n {
-        x.former = NO_ROOM;
         return x;
     }
     let readings = given.wake_at;
@@ -54,13 +49,12 @@ fn wake(given: Run, id: u64, work: u64, reading: u64) -> Run {
     x.wake_who = who;
     x.wake_work = how_long;
     x.wakes = n + 1;
-    x.former = 0;
     x
 }
 
 fn records(given: Run, n: u64) -> Run {
     let mut x = given;
-    x.records = time::min_of(n, MOST_RECORDS);
+    x.records = n;
     x
 }
 
@@ -157,7 +151,7 @@ fn told_deadline(x: Run) {
         tell(x.output, b": none\n");
         return;
     }
-    say_one(x.output, b": %a\n", x.deadline[calls::WHEN]);
+    say_one(x.output, b": %A\n", x.deadline[calls::WHEN]);
 }
 
 fn told_lengths(x: Run) {
@@ -181,7 +175,7 @@ pub fn told(x: Run, statement: u64) {
         statements::SWITCH => told_choice(x),
         statements::DEADLINE => told_deadline(x),
         statements::LENGTHS => told_lengths(x),
-        statements::WAKE => listed(b": %@\n", b"noted|no room", x.former),
+        statements::WAKE => tell(x.output, b": noted\n"),
         statements::WINDOW_WORD | statements::TURNS_WORD => told_word(x),
         statements::RECORD_WORD | statements::QUEUE_WORD => told_word(x),
         _ => told_other(x, statement),

@@ -1,4 +1,5 @@
 // What is printed: words of lists and names of threads. Templates are those of crate text.
+use crate::run::NO_IDLE;
 use crate::run::Run;
 use crate::run::TEXT;
 use text::print;
@@ -12,6 +13,9 @@ const UNDERLINE: u8 = 95;
 
 // Between the words of a list.
 const BAR: u8 = 124;
+
+// No words that are printed have as many bytes.
+const WORDS: usize = 64;
 
 // No list has as many words.
 const BEYOND: u64 = 63;
@@ -66,6 +70,14 @@ fn spaced(name: &mut [u8]) {
     }
 }
 
+// Words whose underlines stand for spaces.
+pub fn words(its: &[u8]) {
+    let mut out = [0u8; WORDS];
+    let n = text::fill(&mut out, 0, b"%@", &[0], its);
+    spaced(&mut out);
+    text::print_page(&out, n);
+}
+
 fn part(template: &[u8], list: &[u8], start: usize, end: usize) {
     if start <= end && end <= list.len() {
         print(template, &[0], &list[start..end]);
@@ -98,12 +110,16 @@ pub fn mode(n: u64, template: &[u8]) {
     );
 }
 
-// A refusal by its name and document 01's number.
+// A refusal by its name and document 01's number; one of the program itself in words.
 pub fn refusal(number: u64) {
     listed(
-        b": refused, %@ ",
-        b"made|Damaged|BadState|Already|NoThread|BadConfig|BadBudget|BackInTime|TurnsSpent|Halted|BadTable|BadRecord",
+        b": refused, %@",
+        b"made|Damaged|BadState|Already|NoThread|BadConfig|BadBudget|BackInTime|TurnsSpent|Halted|BadTable|BadRecord\
+            |there is no idle thread: a line 'thread NAME idle' makes one|the table has no such record",
         number,
     );
-    put_one(b"(%a)\n", number);
+    if number < NO_IDLE {
+        put_one(b" (%a)", number);
+    }
+    plain(b"\n");
 }

@@ -4,8 +4,6 @@
 // The table has one record more than a call takes.
 pub const TABLE_ROWS: usize = 4097;
 
-pub const MOST_RECORDS: u64 = 4097;
-
 // A word for each thread, or for each wake.
 pub const MOST_THREADS: u64 = 32;
 
@@ -22,6 +20,21 @@ pub const TEXT: u64 = 0;
 pub const NOTHING: u64 = 1;
 
 pub const PICTURE: u64 = 2;
+
+// Refusals of the program itself, behind document 01's numbers: a run without an idle thread, and a word of a record
+// that the table does not have.
+pub const NO_IDLE: u64 = 12;
+
+pub const NO_RECORD: u64 = 13;
+
+// What is counted: the statements, and of these the refused ones and those that are not understood.
+pub const STATEMENTS: usize = 0;
+
+pub const REFUSED: usize = 1;
+
+pub const NOT_UNDERSTOOD: usize = 2;
+
+pub const COUNTS: usize = 3;
 
 // The number of no thread.
 pub const NOBODY: u64 = 18_446_744_073_709_551_615;
@@ -56,10 +69,11 @@ pub struct Run {
     pub wake_at: Each,
     pub wake_who: Each,
     pub wake_work: Each,
-    // Whether a run explains its selections; what becomes of the output; the line.
+    // Whether a run explains its selections; what becomes of the output; the line; how many statements there were.
     pub explains: u64,
     pub output: u64,
     pub line: u64,
+    pub counts: [u64; COUNTS],
     // What the last calls left: document 01's number; the running thread as a candidate; a selection, and its demand; a
     // key; whether a turn is spent; whether to switch; the lengths; a deadline.
     pub number: u64,
@@ -105,6 +119,7 @@ pub fn new(output: u64) -> Run {
         explains: 0,
         output,
         line: 0,
+        counts: [0; COUNTS],
         number: 0,
         candidate: [0; policy_words::ROW_WORDS],
         selected: [0; board_words::SELECTION_WORDS],
@@ -120,6 +135,15 @@ pub fn new(output: u64) -> Run {
         lanes: 0,
         shaded: 0,
     }
+}
+
+// With one more of what is counted.
+pub fn counted(given: Run, kind: usize) -> Run {
+    let mut x = given;
+    if kind < COUNTS {
+        x.counts[kind] = text::saturating_add(x.counts[kind], 1);
+    }
+    x
 }
 
 // The word of a thread or of a wake; 0 of none.

@@ -11,9 +11,13 @@ use crate::printing::put_one;
 use crate::printing::refusal;
 use crate::printing::say_one;
 use crate::printing::tell;
+use crate::run::NO_IDLE;
+use crate::run::NOBODY;
+use crate::run::REFUSED;
 use crate::run::Run;
 use crate::run::TEXT;
 use crate::run::at;
+use crate::run::counted;
 use crate::run::with;
 use codec::Row;
 use lent_queue::QueueRows;
@@ -57,7 +61,7 @@ fn selected(q: &mut QueueRows, t: &mut [Row], x: Run) -> Run {
     if b.number != 0 || b.explains == 0 {
         return b;
     }
-    say_one(b.output, b"at %a", b.now);
+    say_one(b.output, b"at %A", b.now);
     explain(q, t, b, b.now)
 }
 
@@ -156,15 +160,15 @@ fn why(x: Run) {
 
 fn until(x: Run, length: u64) {
     if x.deadline[calls::IS_THERE] == 0 {
-        put_one(b"%10a      none\n", length);
+        put_one(b"%15A           none\n", length);
         return;
     }
-    put(b"%10a%10b\n", &[length, x.deadline[calls::WHEN]]);
+    put(b"%15A%15B\n", &[length, x.deadline[calls::WHEN]]);
 }
 
 // A line: who runs from when, why, for how long, and until which deadline at the latest.
 fn told(x: Run, length: u64) {
-    put_one(b"%9a  ", x.now);
+    put_one(b"%14A  ", x.now);
     name(x, x.current, b"%16@");
     why(x);
     until(x, length);
@@ -224,7 +228,7 @@ fn cycles(q: &mut QueueRows, t: &mut [Row], given: Run) -> Run {
     x
 }
 
-// A refusal ends a run, with its line named again; so does its length. After this the line has its end.
+// A refusal ends a run, with its line named again, and is counted; so does its length. After this the line has its end.
 fn closed(given: Run) -> Run {
     let mut x = given;
     if x.number == 0 && x.until <= x.now {
@@ -233,19 +237,26 @@ fn closed(given: Run) -> Run {
     say_one(x.output, b"line %a", x.line);
     if x.number == 0 {
         tell(x.output, b": stopped\n");
-    } else if x.output == TEXT {
+        return x;
+    }
+    if x.output == TEXT {
         refusal(x.number);
     }
     x.number = 0;
-    x
+    counted(x, REFUSED)
 }
 
+// Without an idle thread there is nobody to run first.
 pub fn run(q: &mut QueueRows, t: &mut [Row], given: Run, until: u64) -> Run {
     let mut x = given;
+    if x.idle == NOBODY {
+        x.number = NO_IDLE;
+        return x;
+    }
     x.until = until;
     tell(
         x.output,
-        b":\n  reading  thread          why             urgency rank       for  deadline\n",
+        b":\n       reading  thread          why             urgency rank            for       deadline\n",
     );
     closed(cycles(q, t, x))
 }

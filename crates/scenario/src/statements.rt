@@ -1,5 +1,6 @@
 // The statements with their forms (crate text says what stands in a form), in the order of their numbers, in which a
-// line is tried.
+// line is tried. An underline in a field's name is printed as a space.
+use crate::causes;
 use crate::run::MOST_THREADS;
 use crate::run::Run;
 
@@ -56,36 +57,64 @@ pub const BUDGET: u64 = 22;
 
 pub const IDLE: u64 = 23;
 
-// A line that is no statement.
-pub const NONE: u64 = 24;
+// How many there are.
+const COUNT: u64 = 24;
 
 // Between the forms.
-const NEW_LINE: u8 = 10;
+pub const NEW_LINE: u8 = 10;
 
 // More than the words of a form, which give a value each.
 const VALUES: usize = 12;
 
 pub type Values = [u64; VALUES];
 
+// By the form of its number a line goes furthest: why it goes no further (causes.rt), the place of the form's word
+// there, how much of the line is left, and the values.
 pub struct Statement {
     pub number: u64,
+    pub cause: u64,
+    pub place: usize,
+    pub left: usize,
     pub values: Values,
 }
 
-// Whether a line goes with a form, and the values then.
-struct Fit {
-    goes: bool,
-    values: Values,
-}
+// The limits are those of crate board's entries, and of the words that there are.
+pub const FORMS: [u8; 1090] =
+    *b"window period:~ allowance:~ floor:~ priority_rank:#255 budget_rank:#255 fair_rank:#255 borrow_rank:#255 \
+    .. prefer-fair\n\
+    switch expired:# yielding:# tail:#\n\
+    wake thread:@ work:~ the_word_at:at reading:~\n\
+    records number_of_records:#4_097\n\
+    explain on_or_off:off|on\n\
+    word window,_turns,_record_or_queue:window place:#11 value:#\n\
+    word turns place:#1 value:#\n\
+    prepare thread:@ back_or_front:back|front reading:~\n\
+    account thread:@ mode:strict|priority|protected|ordinary|borrow start:~ end:~\n\
+    finish thread:@\n\
+    expired thread:@\n\
+    word record thread:@ place:#31 value:#\n\
+    enqueue thread:@\n\
+    enqueue-front thread:@\n\
+    remove thread:@\n\
+    lengths\n\
+    word queue row:#269 place:#4 value:#\n\
+    select reading:~ .. current thread:@\n\
+    deadline thread:@ reading:~\n\
+    run end_of_the_run:~\n\
+    thread name:= policy:fifo priority:#255 role:ordinary|priority|protected .. hook hook:^\n\
+    thread name:= policy:fair backend:stride|round-robin weight:#65_535 slice:~ role:ordinary|priority|protected \
+    .. hook hook:^\n\
+    thread name:= policy:budget budget:~ period:~ burst:~ role:ordinary|priority|protected .. hook hook:^\n\
+    thread name:= policy:idle .. hook hook:^";
 
 // By the n-th of some forms.
-fn by(x: Run, forms: &[u8], n: u64, line: &[u8]) -> Fit {
+fn by(x: Run, forms: &[u8], n: u64, line: &[u8]) -> Statement {
     let names = x.names;
     let mut values = [0u64; VALUES];
     let form = text::nth(forms, NEW_LINE, n as usize);
     let start = form.start;
     let end = form.end;
-    let goes = text::fit(
+    let stop = text::fit(
         &forms[start..end],
         line,
         &names,
@@ -93,55 +122,37 @@ fn by(x: Run, forms: &[u8], n: u64, line: &[u8]) -> Fit {
         MOST_THREADS,
         &mut values,
     );
-    Fit { goes, values }
+    let cause = stop.cause;
+    Statement {
+        number: n,
+        cause: causes::number_of(cause),
+        place: stop.place,
+        left: stop.left,
+        values,
+    }
 }
 
-// By the form of the n-th statement.
-fn by_form(x: Run, n: u64, line: &[u8]) -> Fit {
-    by(
-        x,
-        b"window # # # # # # # .. prefer-fair\n\
-            switch # # #\n\
-            wake @ # at #\n\
-            records #\n\
-            explain off|on\n\
-            word window # #\n\
-            word turns # #\n\
-            prepare @ back|front #\n\
-            account @ strict|priority|protected|ordinary|borrow # #\n\
-            finish @\n\
-            expired @\n\
-            word record @ # #\n\
-            enqueue @\n\
-            enqueue-front @\n\
-            remove @\n\
-            lengths\n\
-            word queue # # #\n\
-            select # .. current @\n\
-            deadline @ #\n\
-            run #\n\
-            thread = fifo # ordinary|priority|protected .. hook ^\n\
-            thread = fair stride|round-robin # # ordinary|priority|protected .. hook ^\n\
-            thread = budget # # # ordinary|priority|protected .. hook ^\n\
-            thread = idle .. hook ^",
-        n,
-        line,
-    )
+// The one that goes, or goes further; the first of two.
+fn further(a: Statement, b: Statement) -> Statement {
+    if a.cause == causes::NONE {
+        return a;
+    }
+    if b.cause == causes::NONE {
+        return b;
+    }
+    if b.left < a.left {
+        return b;
+    }
+    a
 }
 
-// What a line says.
-pub fn said(x: Run, line: &[u8]) -> Statement {
-    let mut number: u64 = 0;
-    while number < NONE {
-        let fit = by_form(x, number, line);
-        let values = fit.values;
-        if fit.goes {
-            return Statement { number, values };
-        }
+// What a line says by the forms.
+pub fn said(x: Run, forms: &[u8], line: &[u8]) -> Statement {
+    let mut best = by(x, forms, 0, line);
+    let mut number: u64 = 1;
+    while number < COUNT {
+        best = further(best, by(x, forms, number, line));
         number += 1;
     }
-    Statement {
-        number,
-        values: [0; VALUES],
-    }
+    best
 }

@@ -1,5 +1,6 @@
-// Words that a scenario overwrites, to damage or to prepare. What was there is kept; where there is no such word, what
-// is given.
+// Words that a scenario overwrites, to damage or to prepare. What was there is kept. (A statement's form has limits, so
+// that a place that does not exist is not come to.)
+use crate::run::NO_RECORD;
 use crate::run::Run;
 use codec::Row;
 use lent_queue::QUEUE_ROW_WORDS;
@@ -11,7 +12,6 @@ const BOTH: u64 = 2;
 
 pub fn set_queue(q: &mut QueueRows, given: Run, row: u64, k: u64, value: u64) -> Run {
     let mut x = given;
-    x.former = value;
     let i = row as usize;
     let j = k as usize;
     if i < QUEUE_ROWS {
@@ -25,21 +25,21 @@ pub fn set_queue(q: &mut QueueRows, given: Run, row: u64, k: u64, value: u64) ->
 
 pub fn set_record(t: &mut [Row], given: Run, id: u64, k: u64, value: u64) -> Run {
     let mut x = given;
-    x.former = value;
     let i = id as usize;
     let j = k as usize;
-    if i < t.len() {
-        if j < policy_words::ROW_WORDS {
-            x.former = t[i][j];
-            t[i][j] = value;
-        }
+    if t.len() <= i {
+        x.number = NO_RECORD;
+        return x;
+    }
+    if j < policy_words::ROW_WORDS {
+        x.former = t[i][j];
+        t[i][j] = value;
     }
     x
 }
 
 pub fn set_window(given: Run, k: u64, value: u64) -> Run {
     let mut x = given;
-    x.former = value;
     let i = k as usize;
     if i < window_words::WINDOW_WORDS {
         x.former = x.window[i];

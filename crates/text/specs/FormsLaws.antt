@@ -6,32 +6,18 @@ use mathlib.Core.Bool.{Bool, true, false}
 use mathlib.Core.List.{List, [], _∷_}
 use lib.ListN.{length, take, drop, getD, set, length-drop}
 use lib.Seq.{take-all, drop-drop, set-out}
-use Rattle.refusal.specs.Cases.{choose, given, cases, equal}
-use Rattle.text.specs.Reading.{before, run, sameBytes, decimalOf}
+use Rattle.refusal.specs.Cases.{choose, ifEqual, given, holds, fails, less, not-less, is}
+use Rattle.text.specs.Reading.{before, run, sameBytes, stateOf, decimalOf}
 use Rattle.text.specs.Lists.{part, namesOf, namesFrom, placeIn}
 use Rattle.text.specs.ListsLaws.{names-at, all-names, no-names}
 use Rattle.text.specs.declared.reading.Decimal.{Decimal}
 use Rattle.text.specs.declared.reading.Decimal.the-variants as decimal
+use Rattle.text.specs.declared.forms.Cause.{Cause}
+use Rattle.text.specs.declared.forms.Cause.the-variants as cause
 use Rattle.text.specs.declared.forms.Step.{Step}
 use Rattle.text.specs.declared.forms.Step.the-variants as step
-use Rattle.text.specs.Forms.{Fitted, fitted, onDecimal, isEmpty, nextWord, behindWord, oneOf, stepBy, onStep}
-use Rattle.text.specs.Forms.{fitFrom}
-
--- By what a number turned out to be: r is what a call gave, x what its contract says of it.
-module _ {A : Type 0} {y : A} {r x : Decimal} (f : ℕ → A) (a b : A) where
-  pub was-number : {n : ℕ} → r ≡ x → r ≡ decimal.Number n → y ≡ f n → y ≡ onDecimal x f a b
-  unfolding onDecimal
-  was-number e m h = rw (sym e ∙ m) h
-
-  pub was-above : r ≡ x → r ≡ decimal.Above → y ≡ a → y ≡ onDecimal x f a b
-  unfolding onDecimal
-  was-above e m h = rw (sym e ∙ m) h
-
-  pub was-none : r ≡ x → r ≡ decimal.None → y ≡ b → y ≡ onDecimal x f a b
-  unfolding onDecimal
-  was-none e m h = rw (sym e ∙ m) h
-
-pub ruleset decimals = (cases, was-number, was-above, was-none)
+use Rattle.text.specs.Forms.{Fitted, fitted, isEmpty, nextWord, behindWord, limited, oneOf, valueOf, askedOf}
+use Rattle.text.specs.Forms.{endOf, stepBy, onStep, lastOf, fitFrom}
 
 -- An empty word has no byte.
 pub no-byte : (word : List ℕ) (i : ℕ) → length word ≡ 0 → 0 ≡ getD word i 0
@@ -41,26 +27,27 @@ no-byte (x ∷ rest) i h = absurd (omega arith)
 -- The word at the place that was found, if it is there.
 module _ (list word : List ℕ) (n start end : ℕ) {r : Bool} (place : n ≡ placeIn word (namesOf 124 list))
     (found : part start end list ≡ getD (namesOf 124 list) n []) (is : r ≡ sameBytes (part start end list) word) where
-  there : oneOf list word ≡ choose r (decimal.Number n) decimal.None
+  there : oneOf list word ≡ choose r (step.Taken n) (step.Over cause.OtherWord)
   unfolding oneOf given
   there = rw (is, found, place)
 
-  pub one-found : r ≡ true → decimal.Number n ≡ oneOf list word
+  pub one-found : r ≡ true → step.Taken n ≡ oneOf list word
   unfolding choose
-  one-found t = sym (there ∙ ap (λ b. choose b (decimal.Number n) decimal.None) t)
+  one-found t = sym (there ∙ ap (λ b. choose b (step.Taken n) (step.Over cause.OtherWord)) t)
 
-  pub none-found : r ≡ false → decimal.None ≡ oneOf list word
+  pub none-found : r ≡ false → step.Over cause.OtherWord ≡ oneOf list word
   unfolding choose
-  none-found t = sym (there ∙ ap (λ b. choose b (decimal.Number n) decimal.None) t)
+  none-found t = sym (there ∙ ap (λ b. choose b (step.Taken n) (step.Over cause.OtherWord)) t)
 
 pub ruleset findings = (one-found, none-found)
 
 -- The number behind the first byte.
-module _ (word : List ℕ) where
-  pub none-behind : length word ≡ 0 → decimal.None ≡ decimalOf (drop 1 word)
-  unfolding decimalOf
-  none-behind h = equal _ _ _ _ (rw (length-drop 1 word) (omega arith)) refl
+pub none-behind : (word : List ℕ) → length word ≡ 0 → decimal.None ≡ decimalOf (drop 1 word)
+unfolding decimalOf given stateOf ifEqual choose
+none-behind [] h = refl
+none-behind (x ∷ rest) h = absurd (omega arith)
 
+module _ (word : List ℕ) where
   pub all-behind : {r : Decimal} → r ≡ decimalOf (take (length word - 1) (drop 1 word)) → r ≡ decimalOf (drop 1 word)
   all-behind e = e ∙ ap decimalOf (take-all (length word - 1) (drop 1 word) (rw (length-drop 1 word) (omega arith)))
 
@@ -87,8 +74,49 @@ module _ (line : List ℕ) (from start end : ℕ) (starts : start ≡ from + run
   unfolding behindWord given
   behind-word = rw at-start (ap (λ i. drop i line) ends ∙ sym (drop-drop (before 32 (drop start line)) start line))
 
-pub no-word : (word : List ℕ) {r : Bool} {next : List ℕ} → r ≡ isEmpty word → word ≡ next → r ≡ isEmpty next
-no-word word e f = e ∙ ap isEmpty f
+-- Of a form that ends, by that word.
+module _ (word : List ℕ) {r : Bool} {next : List ℕ} (is : r ≡ isEmpty word) (found : word ≡ next) where
+  pub no-word : r ≡ true → cause.Goes ≡ lastOf next
+  unfolding lastOf
+  no-word t = holds _ _ (is ∙ ap isEmpty found) t refl
+
+  pub one-word : r ≡ false → cause.TooMany ≡ lastOf next
+  unfolding lastOf
+  one-word t = fails _ _ (is ∙ ap isEmpty found) t refl
+
+pub ruleset lasts = (no-word, one-word)
+
+-- What a word of a form asks for starts behind its colon.
+module _ (form : List ℕ) (n : ℕ) (colon : n ≡ 0 + before 58 (drop 0 form)) where
+  its-colon : n ≡ before 58 form
+  its-colon = omega arith
+
+  pub asked-behind : n < length form → drop (n + 1) form ≡ askedOf form
+  unfolding askedOf
+  asked-behind h = is _ its-colon (less _ _ _ _ h refl)
+
+  pub asked-whole : length form ≤ n → drop 0 form ≡ askedOf form
+  unfolding askedOf
+  asked-whole h = is _ its-colon (not-less _ _ _ _ h refl)
+
+pub ruleset askings = (asked-behind, asked-whole)
+
+pub of-asked : (names : List ℕ) (count room : ℕ) (form word : List ℕ) (start : ℕ) {r : Step}
+    → r ≡ valueOf names count room (take (length form - start) (drop start form)) word
+    → drop start form ≡ askedOf form → r ≡ valueOf names count room (askedOf form) word
+of-asked names count room form word start e f =
+    e
+    ∙ ap (λ l. valueOf names count room l word)
+    (take-all (length form - start) (drop start form) (rw (length-drop start form) (omega arith)) ∙ f)
+
+-- Of a line that ends.
+pub over-end : {c : Cause} {rest x : Bool} → c ≡ endOf rest → rest ≡ x → step.Over c ≡ step.Over (endOf x)
+over-end e f = ap step.Over (e ∙ ap endOf f)
+
+-- A number up to the limit that was found.
+pub up-to : (limit : ℕ) (none : Cause) {d x : Decimal} {r : Step} → r ≡ limited limit none d → d ≡ x
+    → r ≡ limited limit none x
+up-to limit none e f = e ∙ ap (limited limit none) f
 
 -- From word to word, where so much of the line is left.
 module _ (names : List ℕ) (count room : ℕ) (form : List ℕ) where
@@ -103,7 +131,8 @@ module _ (names : List ℕ) (count room : ℕ) (form : List ℕ) where
         (is : r ≡ stepBy names count room (part at end form) word) where
       stepped : onStep r
           (λ n. fitFrom names count room (namesFrom 32 (end + 1) form) (behindWord left) (k + 1) (set values k n))
-          (fitFrom names count room (namesFrom 32 (end + 1) form) left (k + 1) (set values k 1)) (λ b. fitted b values)
+          (fitFrom names count room (namesFrom 32 (end + 1) form) left (k + 1) (set values k 1))
+          (λ c. fitted c k (length left) values)
           ≡ w
       unfolding fitFrom
       stepped = rw (is, next) (rw (names-at 32 at end form inside ends) at so-far)
@@ -118,10 +147,15 @@ module _ (names : List ℕ) (count room : ℕ) (form : List ℕ) where
       unfolding onStep
       fits-rest e s = rw s (rw e at stepped)
 
-      pub fits-over : {b : Bool} → r ≡ step.Over b → fitted b values ≡ w
+      pub fits-over : {c : Cause} {n : ℕ} → r ≡ step.Over c → n ≡ length left → fitted c k n values ≡ w
       unfolding onStep
-      fits-over e = rw e at stepped
+      fits-over e l = rw l (rw e at stepped)
 
-    pub fits-all : {b : Bool} → length form < at → b ≡ isEmpty (nextWord left) → fitted b values ≡ w
+    pub fits-all : {c : Cause} {n : ℕ} → length form < at → c ≡ lastOf (nextWord left) → n ≡ length left
+        → fitted c k n values ≡ w
     unfolding fitFrom
-    fits-all h e = rw e (rw (no-names 32 at form h) at so-far)
+    fits-all h e l = rw (e, l) (rw (no-names 32 at form h) at so-far)
+
+-- How much of a line is left from a place on.
+pub left-over : (from : ℕ) (line : List ℕ) → length line - from ≡ length (drop from line)
+left-over from line = sym (length-drop from line)

@@ -1,6 +1,6 @@
 -- A text as bytes.
 pub mod Ascii
--- The pieces of a text, and the number that digits denote.
+-- The pieces of a text, and the numbers and times that words denote.
 pub mod Reading
 -- Their laws, and that texts are the same just where the lists of their bytes are equal.
 pub mod ReadingLaws
@@ -12,7 +12,7 @@ pub mod ListsLaws
 pub mod Forms
 -- Their laws.
 pub mod FormsLaws
--- Forms and lines as they are written, judged.
+-- Forms, lines and times as they are written, judged.
 pub mod FormsCases
 -- A page, a number's digits, columns and templates.
 pub mod Writing

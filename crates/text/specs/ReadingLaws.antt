@@ -1,16 +1,18 @@
 -- Laws of pieces and numbers: how each loop goes from byte to byte, and what it comes to.
-use Prim.Native.Nat.{ℕ, zero, suc, _+_, _-_, _*_, _<_, _≤_}
+use Prim.Native.Nat.{ℕ, zero, suc, _+_, _-_, _*_, _/_, _<_, _≤_}
 use native.Mathlib.Omega.{arith}
 use native.Mathlib.Numerals.{add-one}
+use native.Mathlib.Nat.{mul-comm, le-div-iff-mul-le, div-lt-iff-lt-mul}
 use mathlib.Core.Path.{_≡_, refl, sym, ap, _∙_}
 use mathlib.Core.Bool.{Bool, true, false}
 use mathlib.Core.List.{List, [], _∷_}
 use lib.Dec.{eqb, ltb}
-use lib.ListN.{length, drop, getD, drop-of-length-le}
+use lib.ListN.{length, take, drop, getD, drop-of-length-le, List·getD-eq-default}
 use lib.Seq.{drop-cons}
 use borrow.Author.Tests.{ltb-true, eqb-true}
-use Rattle.refusal.specs.Cases.{choose, ifLess, ifEqual, never, less, not-less, equal, not-equal}
-use Rattle.text.specs.Reading.{before, run, sameBytes, digitsOnly, denoted, most, fitting}
+use Rattle.refusal.specs.Cases.{choose, ifLess, ifEqual, never, less, not-less, equal, not-equal, cases}
+use Rattle.text.specs.Reading.{before, run, sameBytes, stateAfter, stateOf, withByte, denoted, most, fitting}
+use Rattle.text.specs.Reading.{decimalOf, onDecimal, scaled}
 use Rattle.text.specs.declared.reading.Decimal.{Decimal}
 use Rattle.text.specs.declared.reading.Decimal.the-variants as decimal
 
@@ -92,32 +94,32 @@ module _ (a b : List ℕ) (i : ℕ) {w : Bool} (so-far : sameBytes (drop i a) (d
 
 pub ruleset samenesses = (other-length, differs-here, same-later, same-throughout)
 
--- Digits one by one.
-module _ (l : List ℕ) (i : ℕ) {w : Bool} (so-far : digitsOnly (drop i l) ≡ w) where
-  pub below-digits : i < length l → getD l i 0 < 48 → false ≡ w
-  unfolding digitsOnly
-  below-digits h e = (rw (drop-cons l i 0 h) (less _ _ _ _ e refl)) ∙ so-far
+-- What a numeral is so far, byte by byte.
+module _ (l : List ℕ) (i n : ℕ) {w : ℕ} (so-far : stateOf n (drop i l) ≡ w) where
+  pub states-next : {m : ℕ} → i < length l → m ≡ stateAfter n (getD l i 0) → stateOf m (drop (i + 1) l) ≡ w
+  unfolding stateOf
+  states-next h e = rw (e, add-one) (rw (drop-cons l i 0 h) at so-far)
 
-  pub above-digits : i < length l → 48 ≤ getD l i 0 → 57 < getD l i 0 → false ≡ w
-  unfolding digitsOnly
-  above-digits h k e = (rw (drop-cons l i 0 h) (not-less _ _ _ _ k (less _ _ _ _ e refl))) ∙ so-far
+  pub states-all : length l ≤ i → n ≡ w
+  unfolding stateOf
+  states-all h = rw (drop-of-length-le l h) at so-far
 
-  pub digits-later : i < length l → 48 ≤ getD l i 0 → getD l i 0 ≤ 57 → digitsOnly (drop (i + 1) l) ≡ w
-  unfolding digitsOnly
-  digits-later h k e =
-      (rw (drop-cons l i 0 h, add-one) (not-less _ _ _ _ k (not-less _ _ _ _ e refl))) ∙ so-far
+pub ruleset states = (states-next, states-all)
 
-  pub digits-throughout : length l ≤ i → true ≡ w
-  unfolding digitsOnly
-  digits-throughout h = (rw (drop-of-length-le l h)) ∙ so-far
+-- More bytes denote no less.
+more-by : (n m : ℕ) (t : Bool) → n ≤ m → n ≤ choose t n m
+unfolding choose
+more-by n m true h = omega arith
+more-by n m false h = h
 
-pub ruleset digitings = (below-digits, above-digits, digits-later, digits-throughout)
+more-with : (n b : ℕ) → n ≤ withByte n b
+unfolding withByte ifEqual
+more-with n b = more-by n (10 * n + (b - 48)) (eqb b 95) (omega arith)
 
--- More digits denote no less.
 pub denotes-more : (n : ℕ) (l : List ℕ) → n ≤ denoted n l
 unfolding denoted
 denotes-more n [] = omega arith
-denotes-more n (d ∷ rest) = omega (arith, denotes-more (10 * n + (d - 48)) rest)
+denotes-more n (b ∷ rest) = omega (arith, more-with n b, denotes-more (withByte n b) rest)
 
 -- Whether a number fits, from the answer.
 fitted-by : (n : ℕ) (t : Bool) {m : ℕ} → choose t decimal.Above (decimal.Number n) ≡ decimal.Number m → m ≡ n
@@ -147,22 +149,32 @@ some : (n : ℕ) {A : Type 0} → fitting n ≡ decimal.None → A
 unfolding fitting ifLess
 some n e = some-by n (ltb most n) e
 
+-- A number with one byte more: an underline leaves it, and a digit goes behind the others.
+module _ (n b : ℕ) where
+  pub left-alone : b ≡ 95 → n ≤ most → decimal.Number n ≡ fitting (withByte n b)
+  unfolding withByte fitting
+  left-alone e h = rw (sym (equal n (10 * n + (b - 48)) b 95 e refl)) (not-less _ _ _ _ h refl)
+
+  pub with-digit : {d : ℕ} {r : Decimal} → (b ≡ 95 → ⊥) → d ≡ b - 48 → r ≡ fitting (10 * n + d)
+      → r ≡ fitting (withByte n b)
+  unfolding withByte
+  with-digit e f h = rw (sym (not-equal n (10 * n + (b - 48)) b 95 e refl), sym f) h
+
 module _ (l : List ℕ) (i n : ℕ) {w : ℕ} (so-far : denoted n (drop i l) ≡ w) where
-  next : i < length l → denoted (10 * n + (getD l i 0 - 48)) (drop (i + 1) l) ≡ w
+  next : i < length l → denoted (withByte n (getD l i 0)) (drop (i + 1) l) ≡ w
   unfolding denoted
   next h = rw add-one (rw (drop-cons l i 0 h) at so-far)
 
-  module _ {d : ℕ} {r : Decimal} (inside : i < length l) (digit : d ≡ getD l i 0 - 48)
-      (more : r ≡ fitting (10 * n + d)) where
+  module _ {r : Decimal} (inside : i < length l) (more : r ≡ fitting (withByte n (getD l i 0))) where
     pub denotes-next : {m : ℕ} → r ≡ decimal.Number m → denoted m (drop (i + 1) l) ≡ w
-    denotes-next e = rw (fitted _ (sym more ∙ e), digit) (next inside)
+    denotes-next e = rw (fitted _ (sym more ∙ e)) (next inside)
 
     pub denotes-above : r ≡ decimal.Above → decimal.Above ≡ fitting w
     unfolding fitting
     denotes-above e =
         less _ _ _ _
         (omega
-        (arith, over _ (sym more ∙ e), denotes-more (10 * n + (getD l i 0 - 48)) (drop (i + 1) l), next inside))
+        (arith, over _ (sym more ∙ e), denotes-more (withByte n (getD l i 0)) (drop (i + 1) l), next inside))
         refl
 
     pub denotes-some : r ≡ decimal.None → decimal.None ≡ fitting w
@@ -175,6 +187,62 @@ module _ (l : List ℕ) (i n : ℕ) {w : ℕ} (so-far : denoted n (drop i l) ≡
       rw (sym all) (not-less _ _ _ _ k refl)
 
 pub ruleset denotings = (denotes-next, denotes-above, denotes-some, denotes-all)
+
+-- By what a number turned out to be: r is what a call gave, x what its contract says of it.
+module _ {A : Type 0} {y : A} {r x : Decimal} (f : ℕ → A) (a b : A) where
+  pub was-number : {n : ℕ} → r ≡ x → r ≡ decimal.Number n → y ≡ f n → y ≡ onDecimal x f a b
+  unfolding onDecimal
+  was-number e m h = rw (sym e ∙ m) h
+
+  pub was-above : r ≡ x → r ≡ decimal.Above → y ≡ a → y ≡ onDecimal x f a b
+  unfolding onDecimal
+  was-above e m h = rw (sym e ∙ m) h
+
+  pub was-none : r ≡ x → r ≡ decimal.None → y ≡ b → y ≡ onDecimal x f a b
+  unfolding onDecimal
+  was-none e m h = rw (sym e ∙ m) h
+
+pub ruleset decimals = (cases, was-number, was-above, was-none)
+
+-- So many units, where the product fits.
+module _ (unit n : ℕ) where
+  pub no-units : unit ≡ 0 → decimal.Number 0 ≡ fitting (unit * n)
+  unfolding fitting
+  no-units e = rw e (not-less _ _ _ _ (omega arith) (ap decimal.Number (omega arith)))
+
+  pub units-within : (unit ≡ 0 → ⊥) → n ≤ most / unit → unit * n ≤ most
+  units-within z h =
+      rw (mul-comm unit n) (le-div-iff-mul-le {k = unit} {x = n} {y = most} (omega arith) .0 h)
+
+  pub units-fit : (unit ≡ 0 → ⊥) → n ≤ most / unit → decimal.Number (unit * n) ≡ fitting (unit * n)
+  unfolding fitting
+  units-fit z h = not-less _ _ _ _ (units-within z h) refl
+
+  pub units-above : (unit ≡ 0 → ⊥) → most / unit < n → decimal.Above ≡ fitting (unit * n)
+  unfolding fitting
+  units-above z h =
+      less _ _ _ _
+      (rw (mul-comm unit n) (div-lt-iff-lt-mul {k = unit} {x = most} {y = n} (omega arith) .0 h)) refl
+
+pub ruleset units = (no-units, units-fit, units-above)
+
+-- So many units, by the number before the letters.
+pub units-before : (unit letters : ℕ) (word : List ℕ) {d r : Decimal} → r ≡ scaled unit d
+    → d ≡ decimalOf (take (length word - letters - 0) (drop 0 word))
+    → r ≡ scaled unit (decimalOf (take (length word - letters) word))
+units-before unit letters word e f =
+    let all : length word - letters - 0 ≡ length word - letters = omega arith in
+    e ∙ ap (scaled unit) (f ∙ ap (λ n. decimalOf (take n word)) all)
+
+-- A byte by its place.
+module _ (l : List ℕ) (i j : ℕ) (place : i ≡ j) where
+  pub byte-there : getD l i 0 ≡ getD l j 0
+  byte-there = ap (λ k. getD l k 0) place
+
+  pub no-byte-there : length l ≤ i → 0 ≡ getD l j 0
+  no-byte-there h = sym (List·getD-eq-default l 0 {n = i} h) ∙ byte-there
+
+pub ruleset places = (byte-there, no-byte-there)
 
 -- Texts are the same just where the lists of their bytes are equal.
 both-same : (x y : ℕ) (t : Bool) {r : Bool} → eqb x y ≡ t → choose t r false ≡ true → (x ≡ y) × (r ≡ true)

@@ -24,6 +24,14 @@ digitsWithin (suc k) n = ifLess n 10 ((48 + n) ∷ []) (digitsWithin k (n / 10) 
 unfoldable pub digitsOf : ℕ → List ℕ
 digitsOf n = digitsWithin 20 n
 
+-- Digits in groups of three: an underline stands before the last three, six and so on, where there are more.
+unfoldable pub separator : ℕ → List ℕ
+separator left = ifEqual left 0 [] (ifEqual (left % 3) 0 (95 ∷ []) [])
+
+unfoldable pub grouped : List ℕ → List ℕ
+grouped [] = []
+grouped (d ∷ rest) = d ∷ (separator (length rest) ++ grouped rest)
+
 -- So many spaces.
 abbrev pub spaces : ℕ → List ℕ
 spaces n = replicate n 32
@@ -36,15 +44,17 @@ unfoldable pub rightIn : ℕ → List ℕ → List ℕ
 rightIn width word = spaces (width - length word) ++ word
 
 -- In a template `%` starts an escape. Digits in it are a column's width, of two at most; then `@` is the word, at the
--- left,
--- and a letter the value of its place, at the right. The state is 0 outside an escape, in one its width so far and 1.
+-- left, a small letter the value of its place, at the right, and a capital letter the same with its digits in groups.
+-- The state is 0 outside an escape, in one its width so far and 1.
 unfoldable pub after : ℕ → ℕ → ℕ
 after state b =
     ifEqual state 0 (ifEqual b 37 1 0) (ifLess b 48 0 (ifLess 57 b 0 ((state - 1) % 10 * 10 + (b - 48) + 1)))
 
 unfoldable pub item : List ℕ → List ℕ → ℕ → ℕ → List ℕ
 item values word width b =
-    ifEqual b 64 (leftIn width word) (rightIn width (digitsOf (getD values (b - 97) 0)))
+    ifEqual b 64 (leftIn width word)
+    (ifLess b 97 (rightIn width (grouped (digitsOf (getD values (b - 65) 0))))
+    (rightIn width (digitsOf (getD values (b - 97) 0))))
 
 unfoldable pub piece : List ℕ → List ℕ → ℕ → ℕ → List ℕ
 piece values word state b =

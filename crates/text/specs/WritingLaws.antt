@@ -7,16 +7,16 @@ use native.Mathlib.Numerals.{add-one, sub-one, unary-clauses}
 use mathlib.Core.Path.{_≡_, refl, sym, ap, _∙_}
 use mathlib.Core.Bool.{Bool, true, false}
 use mathlib.Core.List.{List, [], _∷_, _++_}
-use lib.Dec.{leb}
-use lib.ListN.{length, take, drop, getD, set, replicate, length-append, length-set}
+use lib.Dec.{leb, eqb}
+use lib.ListN.{length, take, drop, getD, set, replicate, length-append, length-drop, length-set}
 use lib.ListN.{drop-of-length-le, List·getD-eq-default}
 use lib.Seq.{drop-cons, sets, sets-eq}
-use borrow.Author.Tests.{lt-ltb, leb-true, leb-false}
+use borrow.Author.Tests.{lt-ltb, leb-true, leb-false, eqb-true, eqb-false}
 use Rattle.io.specs.Digits.{digits, glyph, Fewest}
 use Rattle.refusal.specs.Cases.{choose, ifLess, ifEqual, less, not-less, equal, not-equal}
 use Rattle.text.specs.Reading.{most}
 use Rattle.text.specs.Writing.{Page, page, stored, written, digitsWithin, digitsOf}
-use Rattle.text.specs.Writing.{spaces, leftIn, rightIn, after, piece, filled}
+use Rattle.text.specs.Writing.{separator, grouped, spaces, leftIn, rightIn, after, piece, filled}
 
 -- One after the other.
 pub written-append : (p : Page) (a b : List ℕ) → written p (a ++ b) ≡ written (written p a) b
@@ -117,6 +117,49 @@ pub word-left : (p : Page) {q r : Page} (width m : ℕ) (word : List ℕ) → m 
 unfolding leftIn
 word-left p width m word i f g = rw (sym i) (then-written p word (spaces m) f g)
 
+-- How many underlines stand between digits.
+separator-by : (n : ℕ) (t u : Bool) → eqb n 0 ≡ t → eqb (n % 3) 0 ≡ u
+    → length {A = ℕ} (choose t [] (choose u (95 ∷ []) [])) ≡ n / 3 - (n - 1) / 3
+unfolding choose
+separator-by n true u e f = omega (arith, eqb-true n 0 e)
+separator-by n false true e f = omega (arith, eqb-false n 0 e, eqb-true (n % 3) 0 f)
+separator-by n false false e f = omega (arith, eqb-false n 0 e, eqb-false (n % 3) 0 f)
+
+length-separator : (n : ℕ) → length (separator n) ≡ n / 3 - (n - 1) / 3
+unfolding separator ifEqual
+length-separator n = separator-by n (eqb n 0) (eqb (n % 3) 0) refl refl
+
+pub length-grouped : (l : List ℕ) → length (grouped l) ≡ length l + (length l - 1) / 3
+unfolding grouped
+length-grouped [] = refl
+length-grouped (d ∷ rest) =
+    simp (length-append, length-separator, length-grouped rest, unary-clauses) (omega arith)
+
+-- Digit by digit.
+module _ (digits : List ℕ) (i : ℕ) (p : Page) {w : Page} (so-far : written p (grouped (drop i digits)) ≡ w) where
+  pub groups-next : {q r : Page} → i < length digits → q ≡ stored p (getD digits i 0)
+      → r ≡ written q (separator (length digits - (i + 1))) → written r (grouped (drop (i + 1) digits)) ≡ w
+  unfolding grouped written
+  groups-next h e f =
+      rw (f, e, add-one, sym (length-drop (suc i) digits))
+      (sym
+      (written-append (stored p (getD digits i 0)) (separator (length (drop (suc i) digits)))
+      (grouped (drop (suc i) digits)))
+      ∙ (rw (drop-cons digits i 0 h) at so-far))
+
+  pub groups-all : length digits ≤ i → p ≡ w
+  unfolding grouped written
+  groups-all h = rw (drop-of-length-le digits h) at so-far
+
+pub ruleset groupings = (groups-next, groups-all)
+
+-- At the right of a column, as spaces and groups of digits.
+pub groups-right : (p : Page) {q r : Page} (width k j room m : ℕ) {own bytes : List ℕ} → bytes ≡ own
+    → k ≡ length bytes → j ≡ k - 1 → room ≡ width - k → m ≡ room - j / 3 → q ≡ written p (spaces m)
+    → r ≡ written q (grouped bytes) → r ≡ written p (rightIn width (grouped own))
+groups-right p width k j room m {own} {bytes} d l b i h f g =
+    word-right p width (length (grouped bytes)) m (ap grouped d) refl (omega (arith, length-grouped bytes)) f g
+
 -- Of a template: nothing, and one byte.
 pub nothing-written : (p : Page) → p ≡ written p []
 unfolding written
@@ -140,9 +183,14 @@ module _ (p : Page) {r : Page} (a b : List ℕ) (n m : ℕ) where
   pub not-less-written : m ≤ n → r ≡ written p b → r ≡ written p (ifLess n m a b)
   not-less-written h e = e ∙ ap (λ x. written p x) (not-less a b n m h refl)
 
-pub value-written : (p : Page) {r : Page} (width v i b : ℕ) (values : List ℕ) → v ≡ getD values i 0 → i ≡ b - 97
-    → r ≡ written p (rightIn width (digitsOf v)) → r ≡ written p (rightIn width (digitsOf (getD values (b - 97) 0)))
-value-written p width v i b values e f h = rw (sym (e ∙ ap (λ x. getD values x 0) f)) h
+module _ (p : Page) {r : Page} (width v i b : ℕ) (values : List ℕ) (is : v ≡ getD values i 0) where
+  pub value-written : i ≡ b - 97 → r ≡ written p (rightIn width (digitsOf v))
+      → r ≡ written p (rightIn width (digitsOf (getD values (b - 97) 0)))
+  value-written f h = rw (sym (is ∙ ap (λ x. getD values x 0) f)) h
+
+  pub groups-written : i ≡ b - 65 → r ≡ written p (rightIn width (grouped (digitsOf v)))
+      → r ≡ written p (rightIn width (grouped (digitsOf (getD values (b - 65) 0))))
+  groups-written f h = rw (sym (is ∙ ap (λ x. getD values x 0) f)) h
 
 pub ruleset choices = (
   nothing-written,
@@ -152,6 +200,7 @@ pub ruleset choices = (
   less-written,
   not-less-written,
   value-written,
+  groups-written,
 )
 
 -- Byte by byte.

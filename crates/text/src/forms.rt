@@ -1,24 +1,28 @@
-// Lines read by a form: the words of a line against those of the form, and the value of each.
+// Lines read by a form: the words of a line against those of the form, the value of each, and where and why it ends.
 ghost use mathlib.Core.Path.{_≡_};
 ghost use Prim.Native.Nat.{_≤_};
 ghost use lib.ListN.{drop, length, set};
 ghost use Rattle.text.specs.Reading.{decimalOf};
 ghost use Rattle.text.specs.Lists.{part, namesOf};
-ghost use Rattle.text.specs.Forms.{fitted, isEmpty, nextWord, behindWord, nameOf, knownOf, isName};
-ghost use Rattle.text.specs.Forms.{newName, letterOf, oneOf, valueOf, stepBy, fitFrom};
-ghost use Rattle.text.specs.Forms.{first as Forms·first, last as Forms·last};
+ghost use Rattle.text.specs.Forms.{fitted, isEmpty, isRest, nextWord, behindWord, askedOf, limitOf, limited};
+ghost use Rattle.text.specs.Forms.{nameOf, knownOf, isName, newName, letterOf, oneOf, quantityOf, valueOf};
+ghost use Rattle.text.specs.Forms.{endOf, stepBy, lastOf, fitFrom};
+ghost use Rattle.text.specs.Forms.{first as Forms·first};
 use crate::listing::Span;
 use crate::listing::nth;
 use crate::listing::place_of;
 use crate::listing::word_after;
 use crate::reading::Decimal;
 use crate::reading::end_of;
+use crate::reading::nanoseconds;
 use crate::reading::number;
 use crate::reading::same;
 use crate::reading::wide;
 
 // The marks of a form. A name's number has the first one before it, too.
 const NUMBER: u8 = 35;
+
+const TIME: u8 = 126;
 
 const NAME: u8 = 64;
 
@@ -30,16 +34,47 @@ const BAR: u8 = 124;
 
 const SPACE: u8 = 32;
 
+const COLON: u8 = 58;
+
 const NAME_BYTES: usize = 15;
+
+const BIG_A: u8 = 65;
+
+const BIG_Z: u8 = 90;
 
 const MOST: u64 = 18_446_744_073_709_551_615;
 
+// Why a line goes no further by a form: it goes to its end; it ends too early; its next word is another than the
+// form's; is no number, no time, or above the limit; is none of the names, a name that is there already, no name, or a
+// name more than there may be; is no letter; or is one word too many.
+pub enum Cause {
+    Goes,
+    Missing,
+    OtherWord,
+    NoNumber,
+    NoTime,
+    AboveLimit,
+    NoSuchName,
+    NameTaken,
+    NoName,
+    NoRoom,
+    NoLetter,
+    TooMany,
+}
+
+// Where and why a line goes no further: the place of the form's word, and how many bytes of the line are left.
+pub struct Stop {
+    pub cause: Cause,
+    pub place: usize,
+    pub left: usize,
+}
+
 // What the next word of a line does by a word of a form: it is taken, with a value; it is the first of the rest, which
-// might have been left out; or the line goes with the form or does not.
+// might have been left out; or the line goes no further.
 enum Step {
     Taken(u64),
     Rest,
-    Over(bool),
+    Over(Cause),
 }
 
 fn is_empty(word: &[u8]) -> bool
@@ -57,15 +92,6 @@ fn first(word: &[u8]) -> u8
     word[0]
 }
 
-fn last(word: &[u8]) -> u64
-    ensures { λ r. ⌜ r ≡ Forms·last (now (word .entry)) ⌝ }
-{
-    if word.len() == 0 {
-        return 0;
-    }
-    wide(word[word.len() - 1])
-}
-
 // The number behind the first byte.
 fn number_behind(word: &[u8]) -> Decimal
     ensures { λ r. ⌜ r ≡ decimalOf (drop 1 (now (word .entry))) ⌝ }
@@ -76,22 +102,49 @@ fn number_behind(word: &[u8]) -> Decimal
     number(&word[1..])
 }
 
-fn name(names: &[u8], count: u64, word: &[u8]) -> Decimal
+// The limit behind the mark of a form's word; the greatest number where there is none.
+fn limit(form: &[u8]) -> u64
+    ensures { λ r. ⌜ r ≡ limitOf (now (form .entry)) ⌝ }
+{
+    match number_behind(form) {
+        Decimal::Number(n) => n,
+        Decimal::Above => MOST,
+        Decimal::None => MOST,
+    }
+}
+
+// A number up to a limit; what is none is told by its cause.
+fn up_to(limit: u64, none: Cause, found: Decimal) -> Step
+    ensures { λ r. ⌜ r ≡ limited limit none found ⌝ }
+{
+    match found {
+        Decimal::Number(n) => {
+            if limit < n {
+                return Step::Over(Cause::AboveLimit);
+            }
+            Step::Taken(n)
+        }
+        Decimal::Above => Step::Over(Cause::AboveLimit),
+        Decimal::None => Step::Over(none),
+    }
+}
+
+fn name(names: &[u8], count: u64, word: &[u8]) -> Step
     ensures { λ r. ⌜ r ≡ nameOf (now (names .entry)) count (now (word .entry)) ⌝ }
 {
     let n = place_of(names, SPACE, word) as u64;
     if n < count {
-        return Decimal::Number(n);
+        return Step::Taken(n);
     }
-    Decimal::None
+    Step::Over(Cause::NoSuchName)
 }
 
-fn known(names: &[u8], count: u64, word: &[u8]) -> Decimal
+fn known(names: &[u8], count: u64, word: &[u8]) -> Step
     ensures { λ r. ⌜ r ≡ knownOf (now (names .entry)) count (now (word .entry)) ⌝ }
 {
     let mark = first(word);
     if mark == NUMBER {
-        return number_behind(word);
+        return up_to(MOST, Cause::NoSuchName, number_behind(word));
     }
     name(names, count, word)
 }
@@ -113,32 +166,39 @@ fn is_name(word: &[u8]) -> bool
     }
 }
 
-fn new_name(names: &[u8], count: u64, most: u64, word: &[u8]) -> Decimal
+fn new_name(names: &[u8], count: u64, most: u64, word: &[u8]) -> Step
     ensures { λ r. ⌜ r ≡ newName (now (names .entry)) count most (now (word .entry)) ⌝ }
 {
     if most <= count {
-        return Decimal::None;
+        return Step::Over(Cause::NoRoom);
     }
     if !is_name(word) {
-        return Decimal::None;
+        return Step::Over(Cause::NoName);
     }
-    match known(names, count, word) {
-        Decimal::Number(_) => Decimal::None,
-        Decimal::Above => Decimal::None,
-        Decimal::None => Decimal::Number(0),
+    let n = place_of(names, SPACE, word) as u64;
+    if n < count {
+        return Step::Over(Cause::NameTaken);
     }
+    Step::Taken(0)
 }
 
-fn letter(word: &[u8]) -> Decimal
+fn letter(word: &[u8]) -> Step
     ensures { λ r. ⌜ r ≡ letterOf (now (word .entry)) ⌝ }
 {
-    if is_name(word) {
-        return Decimal::Number(last(word));
+    if word.len() != 1 {
+        return Step::Over(Cause::NoLetter);
     }
-    Decimal::None
+    let byte = first(word);
+    if byte < BIG_A {
+        return Step::Over(Cause::NoLetter);
+    }
+    if BIG_Z < byte {
+        return Step::Over(Cause::NoLetter);
+    }
+    Step::Taken(wide(byte))
 }
 
-fn one_of(list: &[u8], word: &[u8]) -> Decimal
+fn one_of(list: &[u8], word: &[u8]) -> Step
     ensures { λ r. ⌜ r ≡ oneOf (now (list .entry)) (now (word .entry)) ⌝ }
 {
     let n = place_of(list, BAR, word);
@@ -146,18 +206,32 @@ fn one_of(list: &[u8], word: &[u8]) -> Decimal
     let start = found.start;
     let end = found.end;
     if same(&list[start..end], word) {
-        return Decimal::Number(n as u64);
+        return Step::Taken(n as u64);
     }
-    Decimal::None
+    Step::Over(Cause::OtherWord)
 }
 
-fn value(names: &[u8], count: u64, most: u64, form: &[u8], word: &[u8]) -> Decimal
+// A time or a number, up to the form's limit.
+fn quantity(mark: u8, form: &[u8], word: &[u8]) -> Step
+    ensures { λ r. ⌜ r ≡ quantityOf mark (now (form .entry)) (now (word .entry)) ⌝ }
+{
+    let most = limit(form);
+    if mark == TIME {
+        return up_to(most, Cause::NoTime, nanoseconds(word));
+    }
+    up_to(most, Cause::NoNumber, number(word))
+}
+
+fn value(names: &[u8], count: u64, most: u64, form: &[u8], word: &[u8]) -> Step
     ensures { λ r. ⌜ r
         ≡ valueOf (now (names .entry)) count most (now (form .entry)) (now (word .entry)) ⌝ }
 {
     let mark = first(form);
     if mark == NUMBER {
-        return number(word);
+        return quantity(mark, form, word);
+    }
+    if mark == TIME {
+        return quantity(mark, form, word);
     }
     if mark == NAME {
         return known(names, count, word);
@@ -171,22 +245,48 @@ fn value(names: &[u8], count: u64, most: u64, form: &[u8], word: &[u8]) -> Decim
     one_of(form, word)
 }
 
+// Where what a form's word asks for starts: behind the field's name and a colon.
+fn asked(form: &[u8]) -> usize
+    ensures { λ r. ⌜ drop r (now (form .entry)) ≡ askedOf (now (form .entry)) ⌝ }
+    ensures { λ r. ⌜ r ≤ length (now (form .entry)) ⌝ }
+{
+    let colon = end_of(form, 0, COLON);
+    if colon < form.len() {
+        return colon + 1;
+    }
+    0
+}
+
+fn asked_value(names: &[u8], count: u64, most: u64, form: &[u8], word: &[u8]) -> Step
+    ensures { λ r. ⌜ r
+        ≡ valueOf (now (names .entry)) count most (askedOf (now (form .entry))) (now (word .entry)) ⌝ }
+{
+    let start = asked(form);
+    value(names, count, most, &form[start..], word)
+}
+
+// Of a line that ends: whether the rest may be left out.
+fn ending(rest: bool) -> Cause
+    ensures { λ r. ⌜ r ≡ endOf rest ⌝ }
+{
+    if rest {
+        return Cause::Goes;
+    }
+    Cause::Missing
+}
+
 fn step_by(names: &[u8], count: u64, most: u64, form: &[u8], word: &[u8]) -> Step
     ensures { λ r. ⌜ r
         ≡ stepBy (now (names .entry)) count most (now (form .entry)) (now (word .entry)) ⌝ }
 {
     let rest = same(form, b"..");
     if is_empty(word) {
-        return Step::Over(rest);
+        return Step::Over(ending(rest));
     }
     if rest {
         return Step::Rest;
     }
-    match value(names, count, most, form, word) {
-        Decimal::Number(n) => Step::Taken(n),
-        Decimal::Above => Step::Taken(MOST),
-        Decimal::None => Step::Over(false),
-    }
+    asked_value(names, count, most, form, word)
 }
 
 // The k-th value; one behind the last is left out.
@@ -209,21 +309,25 @@ fn next_word(line: &[u8], from: usize) -> Span
     word_after(line, from, SPACE)
 }
 
-// Whether a line has no word from a place on.
-fn no_word(line: &[u8], from: usize) -> bool
+// Of a form that ends: whether the line has a word from a place on.
+fn after_last(line: &[u8], from: usize) -> Cause
     requires { ⌜ from ≤ length (now line) ⌝ }
-    ensures { λ r. ⌜ r ≡ isEmpty (nextWord (drop from (now (line .entry)))) ⌝ }
+    ensures { λ r. ⌜ r ≡ lastOf (nextWord (drop from (now (line .entry)))) ⌝ }
 {
     let word = next_word(line, from);
     let start = word.start;
     let end = word.end;
-    is_empty(&line[start..end])
+    if is_empty(&line[start..end]) {
+        return Cause::Goes;
+    }
+    Cause::TooMany
 }
 
-// Whether a line goes with a form, and the value of each word of the form. In a form `#` is a number, `@` one of the
-// first `count` names or its number behind a `#`, `=` a new name where there are fewer than `most`, `^` a letter, `a|b`
-// one of these words and any other itself; what follows `..` may be left out. Count no more names than are lent: with a
-// greater count a word that is no name has the place behind the last.
+// How far a line goes by a form, and the value of each word of the form. A word of a form is what it asks for, or the
+// name of a field and that behind a colon. In a form `#` is a number, `~` a time, each up to the limit that follows it,
+// `@` one of the first `count` names or its number behind a `#`, `=` a new name where there are fewer than `most`, `^`
+// a letter from A to Z, `a|b` one of these words and any other itself; what follows `..` may be left out. Count no more
+// names than are lent: with a greater count a word that is no name has the place behind the last.
 pub fn fit(
     form: &[u8],
     line: &[u8],
@@ -231,31 +335,42 @@ pub fn fit(
     count: u64,
     most: u64,
     values: &mut [u64],
-) -> bool
-    ensures { λ r. ⌜ fitted r (now (values .exit))
+) -> Stop
+    ensures { λ r. ⌜ fitted (r .cause) (r .place) (r .left) (now (values .exit))
         ≡ fitFrom (now (names .entry)) count most (namesOf 32 (now (form .entry))) (now (line .entry)) 0
         (now (values .entry)) ⌝ }
 {
     let mut at: usize = 0;
     let mut from: usize = 0;
-    let mut k: usize = 0;
+    let mut place: usize = 0;
     while at <= form.len() {
         let form_end = end_of(form, at, SPACE);
         let word = next_word(line, from);
         let start = word.start;
         let end = word.end;
         let step = step_by(names, count, most, &form[at..form_end], &line[start..end]);
-        let place = k;
+        let k = place;
+        let left = line.len() - from;
         at = form_end + 1;
-        k += 1;
+        place += 1;
         match step {
             Step::Taken(value) => {
-                store(values, place, value);
+                store(values, k, value);
                 from = end;
             }
-            Step::Rest => store(values, place, 1),
-            Step::Over(goes) => return goes,
+            Step::Rest => store(values, k, 1),
+            Step::Over(cause) => {
+                return Stop {
+                    cause,
+                    place: k,
+                    left,
+                };
+            }
         }
     }
-    no_word(line, from)
+    Stop {
+        cause: after_last(line, from),
+        place,
+        left: line.len() - from,
+    }
 }

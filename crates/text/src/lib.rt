@@ -1,6 +1,6 @@
-// Text in and out, for programs: the pieces of a line, lists of names, decimal numbers, lines read by a form, columns,
-// templates and shapes, in bytes that the caller lends, and sums that stay in range. Only `print` writes to a file,
-// which is standard output.
+// Text in and out, for programs: the pieces of a line, lists of names, decimal numbers and times, lines read by a form,
+// columns, templates and shapes, in bytes that the caller lends, and sums that stay in range. Only `print` writes to a
+// file, which is standard output.
 mod counting;
 mod forms;
 mod listing;
@@ -10,6 +10,8 @@ mod svg;
 mod writing;
 
 pub use counting::saturating_add;
+pub use forms::Cause;
+pub use forms::Stop;
 pub use forms::fit;
 pub use listing::Span;
 pub use listing::nth;

@@ -5,8 +5,9 @@ ghost use Prim.Native.Nat.{_-_};
 ghost use Rattle.refusal.specs.Cases.{ifEqual};
 ghost use lib.ListN.{take, getD};
 ghost use Rattle.io.specs.Counts.{Counts};
-ghost use Rattle.text.specs.Writing.{page, stored, written, spaces, digitsOf, leftIn, rightIn};
-ghost use Rattle.text.specs.Writing.{item, piece, after, filled};
+ghost use Rattle.text.specs.Writing.{page, stored, written, digitsOf, separator, grouped, spaces, leftIn};
+ghost use Rattle.text.specs.Writing.{rightIn, item, piece, after, filled};
+use crate::counting::minus;
 
 const SPACE: u8 = 32;
 
@@ -19,6 +20,13 @@ const ZERO: u8 = 48;
 const NINE: u8 = 57;
 
 const SMALL_A: u8 = 97;
+
+const BIG_A: u8 = 65;
+
+const UNDERLINE: u8 = 95;
+
+// As many digits stand together.
+const GROUP: usize = 3;
 
 fn put_byte(out: &mut [u8], at: usize, byte: u8) -> usize
     ensures { λ r. ⌜ page (now (out .exit)) r ≡ stored (page (now (out .entry)) at) byte ⌝ }
@@ -55,16 +63,6 @@ fn put_spaces(out: &mut [u8], at: usize, count: usize) -> usize
     end
 }
 
-// The difference, 0 where it would be below.
-fn minus(a: usize, b: usize) -> usize
-    ensures { λ r. ⌜ r ≡ a - b ⌝ }
-{
-    if a < b {
-        return 0;
-    }
-    a - b
-}
-
 // A word at the left of a column.
 fn put_left(out: &mut [u8], at: usize, word: &[u8], width: usize) -> usize
     ensures { λ r. ⌜ page (now (out .exit)) r
@@ -93,6 +91,45 @@ fn put_right(out: &mut [u8], at: usize, n: u64, width: usize) -> usize
     put(out, end, &digits[..k])
 }
 
+// Between digits, by how many of them follow: an underline before whole groups.
+fn put_separator(out: &mut [u8], at: usize, left: usize) -> usize
+    ensures { λ r. ⌜ page (now (out .exit)) r ≡ written (page (now (out .entry)) at) (separator left) ⌝ }
+{
+    if left == 0 {
+        return at;
+    }
+    if left % GROUP == 0 {
+        return put_byte(out, at, UNDERLINE);
+    }
+    at
+}
+
+// Digits in groups.
+fn put_grouped(out: &mut [u8], at: usize, digits: &[u8]) -> usize
+    ensures { λ r. ⌜ page (now (out .exit)) r ≡ written (page (now (out .entry)) at) (grouped (now (digits .entry))) ⌝ }
+{
+    let mut end = at;
+    let mut i: usize = 0;
+    while i < digits.len() {
+        end = put_byte(out, end, digits[i]);
+        i += 1;
+        end = put_separator(out, end, digits.len() - i);
+    }
+    end
+}
+
+// A number at the right of a column, its digits in groups.
+fn put_groups(out: &mut [u8], at: usize, n: u64, width: usize) -> usize
+    ensures { λ r. ⌜ page (now (out .exit)) r
+        ≡ written (page (now (out .entry)) at) (rightIn width (grouped (digitsOf n))) ⌝ }
+{
+    let mut digits = [0u8; 20];
+    let k = spell(n, &mut digits);
+    let separators = minus(k, 1) / GROUP;
+    let end = put_spaces(out, at, minus(minus(width, k), separators));
+    put_grouped(out, end, &digits[..k])
+}
+
 // How far a byte is above another.
 fn above(byte: u8, other: u8) -> usize
     ensures { λ r. ⌜ r ≡ byte - other ⌝ }
@@ -118,6 +155,9 @@ fn put_item(out: &mut [u8], at: usize, values: &[u64], word: &[u8], width: usize
 {
     if byte == AT {
         return put_left(out, at, word, width);
+    }
+    if byte < SMALL_A {
+        return put_groups(out, at, value_at(values, above(byte, BIG_A)), width);
     }
     put_right(out, at, value_at(values, above(byte, SMALL_A)), width)
 }

@@ -57,14 +57,27 @@ fn shown(number: Option<u64>, none: &str) -> String {
     number.map_or(none.to_string(), |number| number.to_string())
 }
 
+/// A time in nanoseconds, with an underline between groups of three digits.
+fn grouped(time: u64) -> String {
+    let digits = time.to_string();
+    let mut text = String::new();
+    for (place, digit) in digits.chars().enumerate() {
+        if place > 0 && (digits.len() - place) % 3 == 0 {
+            text.push('_');
+        }
+        text.push(digit);
+    }
+    text
+}
+
 fn line(running: &Running, until: u64) -> String {
     let name = NAMES[running.thread as usize];
     let mode = running.key.map_or("no key", |(_, mode)| why(mode));
     let urgency = shown(running.key.map(|(key, _)| key.urgency.into()), "-");
     let rank = shown(running.key.map(|(key, _)| key.rank.into()), "-");
-    let deadline = shown(running.deadline, "none");
-    let (at, ran) = (running.at, until - running.at);
-    format!("{at:>9}  {name:<16}{mode:<16}{urgency:>7}{rank:>5}{ran:>10}{deadline:>10}")
+    let deadline = running.deadline.map_or("none".to_string(), grouped);
+    let (at, ran) = (grouped(running.at), grouped(until - running.at));
+    format!("{at:>14}  {name:<16}{mode:<16}{urgency:>7}{rank:>5}{ran:>15}{deadline:>15}")
 }
 
 /// Wakes at their readings, and between them a timer at each deadline and a wait at each end of work.
@@ -92,10 +105,10 @@ fn run(wakes: &[Wake], end: u64) -> Answer<Vec<String>> {
     Ok(lines)
 }
 
-/// A stretch's line starts with its reading, in nine columns.
+/// A stretch's line starts with its reading, in fourteen columns.
 fn is_stretch(line: &str) -> bool {
-    let reading = line.get(..9).map_or("", str::trim_start);
-    !reading.is_empty() && reading.bytes().all(|byte| byte.is_ascii_digit())
+    let reading = line.get(..14).map_or("", str::trim_start);
+    !reading.is_empty() && reading.bytes().all(|byte| byte.is_ascii_digit() || byte == b'_')
 }
 
 /// What is stored of a scenario's stretches, below its file's name.

@@ -5,10 +5,10 @@ use Rattle.scenario.proofs.statements.said.Statement.{statement}
 use Rattle.scenario.proofs.statements.said.Tie as tie
 
 abbrev Inv-loop : tie.InvT-loop
-Inv-loop x line number₀ number = Unit {0}
+Inv-loop x forms line best₀ number₀ best number = Unit {0}
 
 abbrev μ-loop : tie.MeasureT-loop
-μ-loop x line number₀ number = 24 - number
+μ-loop x forms line best₀ number₀ best number = 24 - number
 
 pub said-spec : {M : Type 1} → statement M
 said-spec =
@@ -16,9 +16,10 @@ said-spec =
     (tie.spec
     Inv-loop
     μ-loop
-    (λ c. search needs)
     (λ c κs. search needs)
     (λ c. search needs)
+    (λ c κs. search needs)
+    (λ c κs. search needs)
     (λ c. search needs)
     (λ c. search needs)
     (λ c. search needs)

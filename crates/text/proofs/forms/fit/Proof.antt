@@ -5,19 +5,19 @@ use mathlib.Core.Path.{_≡_}
 use lib.ListN.{length, drop}
 use Rattle.text.specs.Lists.{namesOf, namesFrom}
 use Rattle.text.specs.Forms.{fitFrom}
-use Rattle.text.specs.FormsLaws.{fits-first, fits-taken, fits-rest, fits-over, fits-all}
+use Rattle.text.specs.FormsLaws.{fits-first, fits-taken, fits-rest, fits-over, fits-all, left-over}
 use borrow.Author.Needs.{needs}
 use Rattle.text.proofs.forms.fit.Statement.{statement}
 use Rattle.text.proofs.forms.fit.Tie as tie
 
 abbrev Inv-loop : tie.InvT-loop
-Inv-loop form line names count most values₀ at₀ from₀ k₀ values at from k =
-    (k ≤ at) × (from ≤ length line) × (length values ≡ length values₀)
-    × (fitFrom names count most (namesFrom 32 at form) (drop from line) k values
+Inv-loop form line names count most values₀ at₀ from₀ place₀ values at from place =
+    (place ≤ at) × (from ≤ length line) × (length values ≡ length values₀)
+    × (fitFrom names count most (namesFrom 32 at form) (drop from line) place values
     ≡ fitFrom names count most (namesOf 32 form) line 0 values₀)
 
 abbrev μ-loop : tie.MeasureT-loop
-μ-loop form line names count most values₀ at₀ from₀ k₀ values at from k = length form + 1 - at
+μ-loop form line names count most values₀ at₀ from₀ place₀ values at from place = length form + 1 - at
 
 loop-holds : tie.Need-loop-holds Inv-loop μ-loop
 loop-holds c = (search needs, search needs, search needs, search fits-first)
@@ -49,11 +49,14 @@ part-step-by-end-2 c = search needs
 step-by-requires : tie.Need-step-by-requires Inv-loop μ-loop
 step-by-requires c κs = search needs
 
+sub-left : tie.Need-sub-left Inv-loop μ-loop
+sub-left c = search needs
+
 add-at : tie.Need-add-at Inv-loop μ-loop
 add-at c = search needs
 
-add-k : tie.Need-add-k Inv-loop μ-loop
-add-k c = search needs
+add-place : tie.Need-add-place Inv-loop μ-loop
+add-place c = search needs
 
 enum-known-step : tie.Need-enum-known-step Inv-loop μ-loop
 enum-known-step c = search needs
@@ -90,16 +93,21 @@ same-length : tie.Need-same-length Inv-loop μ-loop
 same-length c = search needs
 
 returns : tie.Need-returns Inv-loop μ-loop
-returns c = search fits-over
+returns c =
+    let before = c .before .before .before .before .before .before .before .before .before in
+    search (fits-over _ _ _ _ _ _ _ _ (before .loop .inv .3), left-over)
 
-no-word-requires : tie.Need-no-word-requires Inv-loop μ-loop
-no-word-requires c κs = search needs
+after-last-requires : tie.Need-after-last-requires Inv-loop μ-loop
+after-last-requires c κs = search needs
+
+sub-t36 : tie.Need-sub-t36 Inv-loop μ-loop
+sub-t36 c = search needs
 
 same-length-2 : tie.Need-same-length-2 Inv-loop μ-loop
 same-length-2 c = search needs
 
 returns-2 : tie.Need-returns-2 Inv-loop μ-loop
-returns-2 c = search fits-all
+returns-2 c = search (fits-all, left-over)
 
 pub fit-spec : {M : Type 1} → statement M
 fit-spec =
@@ -117,8 +125,9 @@ fit-spec =
     part-step-by-start-2
     part-step-by-end-2
     step-by-requires
+    sub-left
     add-at
-    add-k
+    add-place
     enum-known-step
     store-requires
     loop-less
@@ -130,6 +139,7 @@ fit-spec =
     enum-known-step-2
     same-length
     returns
-    no-word-requires
+    after-last-requires
+    sub-t36
     same-length-2
     returns-2)

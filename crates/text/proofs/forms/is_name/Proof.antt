@@ -1,6 +1,6 @@
 -- By the length, the mark and whether it is a number.
 use Rattle.text.specs.Forms.{isName}
-use Rattle.text.specs.FormsLaws.{decimals}
+use Rattle.text.specs.ReadingLaws.{decimals}
 use borrow.Author.Needs.{needs}
 use Rattle.text.proofs.forms.is_name.Statement.{statement}
 use Rattle.text.proofs.forms.is_name.Tie as tie

@@ -3,17 +3,17 @@ use Prim.Native.Nat.{_-_}
 use mathlib.Core.Path.{_≡_}
 use lib.ListN.{length}
 use borrow.Author.Needs.{needs}
-use Rattle.scenario.proofs.lines_of.Statement.{statement}
-use Rattle.scenario.proofs.lines_of.Tie as tie
+use Rattle.scenario.proofs.lines_by.Statement.{statement}
+use Rattle.scenario.proofs.lines_by.Tie as tie
 
 abbrev Inv-loop : tie.InvT-loop
-Inv-loop text q₀ t₀ x₀ at₀ q t x at = length t ≡ length t₀
+Inv-loop forms text q₀ t₀ x₀ at₀ q t x at = length t ≡ length t₀
 
 abbrev μ-loop : tie.MeasureT-loop
-μ-loop text q₀ t₀ x₀ at₀ q t x at = length text - at
+μ-loop forms text q₀ t₀ x₀ at₀ q t x at = length text - at
 
-pub lines-of-spec : {M : Type 1} → statement M
-lines-of-spec =
+pub lines-by-spec : {M : Type 1} → statement M
+lines-by-spec =
     tie.close
     (tie.spec
     Inv-loop

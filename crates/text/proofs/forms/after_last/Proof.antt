@@ -1,8 +1,8 @@
--- The word that was found is the next one.
-use Rattle.text.specs.FormsLaws.{no-word}
+-- By whether the word that was found is empty.
+use Rattle.text.specs.FormsLaws.{lasts}
 use borrow.Author.Needs.{needs}
-use Rattle.text.proofs.forms.no_word.Statement.{statement}
-use Rattle.text.proofs.forms.no_word.Tie as tie
+use Rattle.text.proofs.forms.after_last.Statement.{statement}
+use Rattle.text.proofs.forms.after_last.Tie as tie
 
 next-word-requires : tie.Need-next-word-requires
 next-word-requires c κs = search needs
@@ -20,10 +20,13 @@ is-empty-requires : tie.Need-is-empty-requires
 is-empty-requires c κs = search needs
 
 returns : tie.Need-returns
-returns c = search no-word
+returns c = search lasts
 
-pub no-word-spec : {M : Type 1} → statement M
-no-word-spec =
+returns-2 : tie.Need-returns-2
+returns-2 c = search lasts
+
+pub after-last-spec : {M : Type 1} → statement M
+after-last-spec =
     tie.close
     (tie.spec
     next-word-requires
@@ -31,4 +34,5 @@ no-word-spec =
     part-is-empty-start
     part-is-empty-end
     is-empty-requires
-    returns)
+    returns
+    returns-2)
