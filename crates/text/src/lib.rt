@@ -2,14 +2,17 @@
 // templates and shapes, in bytes that the caller lends, and sums that stay in range. Only `print` writes to a file,
 // which is standard output.
 mod counting;
+mod escaping;
 mod forms;
 mod listing;
 mod printing;
 mod reading;
 mod svg;
+mod times;
 mod writing;
 
 pub use counting::saturating_add;
+pub use escaping::escape;
 pub use forms::fit;
 pub use listing::Span;
 pub use listing::nth;
@@ -26,4 +29,5 @@ pub use svg::dashes;
 pub use svg::label;
 pub use svg::mark;
 pub use svg::rectangle;
+pub use times::milliseconds;
 pub use writing::fill;

@@ -1,22 +1,23 @@
 -- The loop ends: what is left falls.
 use borrow.Author.Needs.{needs}
-use Rattle.scenario.proofs.drawing.edges.Statement.{statement}
-use Rattle.scenario.proofs.drawing.edges.Tie as tie
+use Rattle.scenario.proofs.sheet.step.Statement.{statement}
+use Rattle.scenario.proofs.sheet.step.Tie as tie
 
 abbrev Inv-loop : tie.InvT-loop
-Inv-loop unit bottom period span reading₀ left₀ reading left = Unit {0}
+Inv-loop x length n₀ left₀ n left = Unit {0}
 
 abbrev μ-loop : tie.MeasureT-loop
-μ-loop unit bottom period span reading₀ left₀ reading left = left
+μ-loop x length n₀ left₀ n left = left
 
-pub edges-spec : {M : Type 1} → statement M
-edges-spec =
+pub step-spec : {M : Type 1} → statement M
+step-spec =
     tie.close
     (tie.spec
     Inv-loop
     μ-loop
     (λ c. search needs)
     (λ c κs. search needs)
+    (λ c. search needs)
     (λ c κs. search needs)
     (λ c. search needs)
     (λ c. search needs)
