@@ -3,7 +3,6 @@
 use crate::legend::painted;
 use crate::printing::listed;
 use crate::printing::mode;
-use crate::printing::plain;
 use crate::printing::put;
 use crate::printing::put_one;
 use crate::run;
@@ -16,8 +15,10 @@ use crate::scale::TOP;
 use crate::scale::across;
 use crate::scale::down;
 use crate::scale::period_end;
-use crate::sheet::in_milliseconds;
-use crate::sheet::time_width;
+use crate::shapes::in_milliseconds;
+use crate::shapes::mark;
+use crate::shapes::rectangle;
+use crate::shapes::time_width;
 use text::saturating_add;
 use time::saturating_sub;
 use window_words::WINDOW_PERIOD;
@@ -36,32 +37,15 @@ const WORDED_STRICT: u64 = 700;
 // The mode with the longest name.
 const STRICT: u64 = 0;
 
-// How far a thin bar lies below the top of a bar.
+// The height of bars, and where a thin one lies between top and bottom of the others.
+const BAR_HEIGHT: u64 = 200;
+
+const THIN_HEIGHT: u64 = 40;
+
 const THIN_DOWN: u64 = 80;
 
 // How wide a label of protection is beside its time.
 const DUE_WIDTH: u64 = 1_300;
-
-// The bytes of what is printed at once.
-const PAGE: usize = 256;
-
-fn placed(x: Run, reading: u64) -> u64 {
-    across(x.unit, x.span, reading)
-}
-
-// Where protection is due.
-fn shaded(left: u64, right: u64, height: u64) {
-    let mut out = [0u8; PAGE];
-    let width = time::max_of(saturating_sub(right, left), LEAST_SHADED);
-    let n = text::rectangle(
-        &mut out,
-        0,
-        &[left, TOP, width, height],
-        b"#d04040' fill-opacity='0.13",
-    );
-    text::print_page(&out, n);
-    plain(b"\n");
-}
 
 // Since when protection is due, from a place on or, with the anchor 1, up to it.
 fn due_at(place: u64, anchor: u64, reading: u64) {
@@ -87,21 +71,31 @@ fn labelled(given: Run, left: u64) -> Run {
     x
 }
 
-// From now to the period's end, once in a period.
-fn shade(given: Run) -> Run {
-    let end = period_end(given.window[WINDOW_PERIOD], given.now);
-    if end <= given.shaded {
-        return given;
-    }
-    let left = placed(given, given.now);
-    shaded(
-        left,
-        placed(given, end),
-        saturating_sub(down(given.lanes), TOP),
+// A protected window, over all lanes.
+fn shaded(left: u64, right: u64, bottom: u64) {
+    let width = time::max_of(saturating_sub(right, left), LEAST_SHADED);
+    rectangle(
+        [left, TOP, width, saturating_sub(bottom, TOP)],
+        b"#d04040' fill-opacity='0.13",
     );
-    let mut x = given;
+}
+
+// From now to a period's end.
+fn shaded_to(given: Run, end: u64) -> Run {
+    let left = across(given.span, given.now);
+    shaded(left, across(given.span, end), down(given.lanes));
+    let mut x = labelled(given, left);
     x.shaded = end;
-    labelled(x, left)
+    x
+}
+
+// Once in a period.
+fn shade(x: Run) -> Run {
+    let end = period_end(x.window[WINDOW_PERIOD], x.now);
+    if end <= x.shaded {
+        return x;
+    }
+    shaded_to(x, end)
 }
 
 // Protection is due where a protected thread asks, and what is left of the period is no more than what is left of the
@@ -132,20 +126,23 @@ fn mark_at(left: u64, width: u64, y: u64) {
     if width < MARKED {
         return;
     }
-    let mut out = [0u8; PAGE];
-    let n = text::mark(&mut out, 0, &[left, y]);
-    text::print_page(&out, n);
-    plain(b"\n");
+    mark(left, y);
 }
 
 // A bar in the colour of a hook, by its letter.
+fn painted_bar(place: [u64; 4], paint: &[u8], hook: u64) {
+    put(b"<rect x='%a' y='%b' width='%c' height='%d' ", &place);
+    painted(paint, hook);
+}
+
 fn bar_at(left: u64, width: u64, y: u64, hook: u64) {
-    put(
-        b"<rect x='%a' y='%b' width='%c' height='200' ",
-        &[left, y, width],
-    );
-    painted(b"fill='%@'/>\n", hook);
+    painted_bar([left, y, width, BAR_HEIGHT], b"fill='%@'/>\n", hook);
     mark_at(left, width, y);
+}
+
+// How wide a stretch from a place to another is drawn.
+fn wide(left: u64, right: u64) -> u64 {
+    time::max_of(saturating_sub(right, left), LEAST)
 }
 
 // A stretch of the running thread, in its lane.
@@ -154,9 +151,9 @@ fn stretch(x: Run, end: u64) {
     if x.lanes <= id {
         return;
     }
-    let left = placed(x, x.now);
-    let width = time::max_of(saturating_sub(placed(x, end), left), LEAST);
     let hooks = x.hooks;
+    let left = across(x.span, x.now);
+    let width = wide(left, across(x.span, end));
     bar_at(left, width, down(id), at(hooks, id));
     if x.key[window_words::KEY_TAG] != 0 {
         mode_in(left, width, down(id), x.key[window_words::KEY_MODE]);
@@ -175,19 +172,30 @@ pub fn bar(given: Run, end: u64) -> Run {
     x
 }
 
-// A thin bar from a reading up to now.
-fn thin_bar(x: Run, id: u64, since: u64) {
-    let left = placed(x, since);
-    let width = saturating_sub(placed(x, x.now), left);
-    if width == 0 || x.lanes <= id {
+// A thin bar in a lane, from a place to another.
+fn thin_bar(left: u64, right: u64, lane: u64, hook: u64) {
+    if right <= left {
         return;
     }
-    let hooks = x.hooks;
-    put(
-        b"<rect x='%a' y='%b' width='%c' height='40' fill-opacity='0.5' ",
-        &[left, saturating_add(down(id), THIN_DOWN), width],
+    let y = saturating_add(down(lane), THIN_DOWN);
+    painted_bar(
+        [left, y, right - left, THIN_HEIGHT],
+        b"fill='%@' fill-opacity='0.5'/>\n",
+        hook,
     );
-    painted(b"fill='%@'/>\n", at(hooks, id));
+}
+
+// The time that a thread waits, from a reading up to now.
+fn wait(x: Run, id: u64, since: u64) {
+    let hooks = x.hooks;
+    if id < x.lanes {
+        thin_bar(
+            across(x.span, since),
+            across(x.span, x.now),
+            id,
+            at(hooks, id),
+        );
+    }
 }
 
 // A thread waits since a reading; `waits` has one more than that, and 0 where it does not wait.
@@ -212,7 +220,7 @@ pub fn waited(x: Run, id: u64) -> Run {
     let waits = x.waits;
     let word = at(waits, id);
     if word != 0 && x.output == PICTURE {
-        thin_bar(x, id, word - 1);
+        wait(x, id, word - 1);
     }
     with_wait(x, id, 0)
 }
@@ -249,7 +257,6 @@ pub fn measured(given: Run) -> Run {
     let mut x = given;
     x.span = given.now;
     x.lanes = given.threads;
-    x.unit = crate::scale::unit_of(given.now);
     x
 }
 
@@ -258,6 +265,5 @@ pub fn anew(given: Run) -> Run {
     let mut x = run::new(PICTURE);
     x.span = given.span;
     x.lanes = given.lanes;
-    x.unit = given.unit;
     x
 }

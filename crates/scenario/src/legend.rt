@@ -4,9 +4,12 @@ use crate::printing::plain;
 use crate::printing::put;
 use crate::run::Each;
 use crate::run::MOST_THREADS;
-use crate::run::Run;
 use crate::run::at;
 use crate::scale::LEFT;
+use crate::shapes::dashes;
+use crate::shapes::label;
+use crate::shapes::mark;
+use crate::shapes::rectangle;
 use text::saturating_add;
 use time::saturating_sub;
 
@@ -29,7 +32,25 @@ const ROW: u64 = 220;
 
 const MARGIN: u64 = 40;
 
-const PAGE: usize = 1024;
+// A colour's size, and how far its words are from where it starts, or from a line's.
+const SWATCH: u64 = 140;
+
+const SWATCH_HEIGHT: u64 = 120;
+
+const BESIDE: u64 = 190;
+
+const BESIDE_LINE: u64 = 100;
+
+// Where the entries of the last row start.
+const WAITING: u64 = LEFT;
+
+const CHOSEN: u64 = LEFT + 950;
+
+const PROTECTED: u64 = LEFT + 2_600;
+
+const EDGE: u64 = LEFT + 4_150;
+
+const TIMES: u64 = LEFT + 5_550;
 
 // A template with the colour of a hook: grey for none, and the ninth has that of the first again.
 pub fn painted(template: &[u8], letter: u64) {
@@ -71,24 +92,30 @@ fn count(hooks: Each) -> u64 {
 }
 
 // Of the hooks and of the row below them.
-pub fn height(x: Run) -> u64 {
-    let hooks = x.hooks;
+pub fn height(hooks: Each) -> u64 {
     ROW * (count(hooks) % MOST_ENTRIES / IN_ROW + 2) + MARGIN
 }
 
-// The colour of an entry; its words follow.
+// Where words have their foot.
+fn foot(y: u64) -> u64 {
+    saturating_add(y, 105)
+}
+
+// A hook's colour.
+fn swatch(left: u64, y: u64, letter: u64) {
+    put(
+        b"<rect x='%a' y='%b' width='%c' height='%d' ",
+        &[left, y, SWATCH, SWATCH_HEIGHT],
+    );
+    painted(b"fill='%@'/>\n", letter);
+}
+
+// The k-th entry; its words follow.
 fn entry(k: u64, y: u64, letter: u64) {
     let left = LEFT + ENTRY * (k % IN_ROW);
     let top = saturating_add(y, ROW * (k % MOST_ENTRIES / IN_ROW));
-    put(
-        b"<rect x='%a' y='%b' width='140' height='120' ",
-        &[left, top],
-    );
-    painted(b"fill='%@'/>", letter);
-    put(
-        b"<text x='%a' y='%b'>",
-        &[left + 190, saturating_add(top, 105)],
-    );
+    swatch(left, top, letter);
+    put(b"<text x='%a' y='%b'>", &[left + BESIDE, foot(top)]);
 }
 
 fn hook(k: u64, y: u64, letter: u64) {
@@ -114,80 +141,39 @@ fn hooks_from(hooks: Each, y: u64) {
 }
 
 fn waiting(y: u64) {
-    let mut out = [0u8; PAGE];
-    let n = text::rectangle(
-        &mut out,
-        0,
-        &[LEFT, saturating_add(y, 40), 140, 40],
+    rectangle(
+        [WAITING, saturating_add(y, 40), SWATCH, 40],
         b"#808080' fill-opacity='0.5",
     );
-    let end = text::label(
-        &mut out,
-        n,
-        &[LEFT + 190, saturating_add(y, 105)],
-        b"waiting",
-    );
-    text::print_page(&out, end);
+    label(WAITING + BESIDE, foot(y), b"waiting");
 }
 
 fn chosen(y: u64) {
-    let mut out = [0u8; PAGE];
-    let below = saturating_add(y, 100);
-    let n = text::mark(&mut out, 0, &[LEFT + 950, below]);
-    let end = text::label(
-        &mut out,
-        n,
-        &[LEFT + 1_050, saturating_add(y, 105)],
-        b"chosen by a selection",
-    );
-    text::print_page(&out, end);
+    mark(CHOSEN, saturating_add(y, 100));
+    label(CHOSEN + BESIDE_LINE, foot(y), b"chosen by a selection");
 }
 
 fn protected(y: u64) {
-    let mut out = [0u8; PAGE];
-    let n = text::rectangle(
-        &mut out,
-        0,
-        &[LEFT + 2_600, y, 140, 120],
+    rectangle(
+        [PROTECTED, y, SWATCH, SWATCH_HEIGHT],
         b"#d04040' fill-opacity='0.13",
     );
-    let end = text::label(
-        &mut out,
-        n,
-        &[LEFT + 2_790, saturating_add(y, 105)],
-        b"protected window",
-    );
-    text::print_page(&out, end);
+    label(PROTECTED + BESIDE, foot(y), b"protected window");
 }
 
 fn edge(y: u64) {
-    let mut out = [0u8; PAGE];
-    let n = text::dashes(
-        &mut out,
-        0,
-        &[LEFT + 4_150, saturating_sub(y, 20), saturating_add(y, 130)],
-    );
-    let end = text::label(
-        &mut out,
-        n,
-        &[LEFT + 4_250, saturating_add(y, 105)],
-        b"edge of a period",
-    );
-    text::print_page(&out, end);
+    dashes(EDGE, saturating_sub(y, 20), saturating_add(y, 130));
+    label(EDGE + BESIDE_LINE, foot(y), b"edge of a period");
 }
 
-pub fn legend(x: Run, y: u64) {
-    let hooks = x.hooks;
+pub fn legend(hooks: Each, y: u64) {
     entry(0, y, 0);
     plain(b"no hook</text>\n");
     hooks_from(hooks, y);
-    let below = saturating_add(y, saturating_sub(height(x), ROW + MARGIN));
+    let below = saturating_add(y, saturating_sub(height(hooks), ROW + MARGIN));
     waiting(below);
     chosen(below);
     protected(below);
     edge(below);
-    put(
-        b"<text x='%a' y='%b'>times in milliseconds</text>\n",
-        &[LEFT + 5_550, saturating_add(below, 105)],
-    );
+    label(TIMES, foot(below), b"times in milliseconds");
 }

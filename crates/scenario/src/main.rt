@@ -1,5 +1,6 @@
 // Runs scenarios, lines of threads, a window and calls, on the proved core, and prints each answer, or a picture of the
 // run. FORMAT.md has the lines.
+mod axis;
 mod calls;
 mod drawing;
 mod explaining;
@@ -11,6 +12,7 @@ mod printing;
 mod run;
 mod running;
 mod scale;
+mod shapes;
 mod sheet;
 mod statements;
 mod threads;

@@ -75,9 +75,8 @@ pub struct Run {
     pub deadline: policy_words::DeadlineWords,
     // The word that a statement overwrote.
     pub former: u64,
-    // Of a picture: the nanoseconds of a part (scale.rt), the last reading of all, how many lanes, up to which reading
-    // protected windows are drawn, and up to which place their labels.
-    pub unit: u64,
+    // Of a picture: the last reading of all, how many lanes, up to which reading protected windows are drawn, and up to
+    // which place their labels.
     pub span: u64,
     pub lanes: u64,
     pub shaded: u64,
@@ -119,7 +118,6 @@ pub fn new(output: u64) -> Run {
         lengths: [0; board_words::LENGTH_WORDS],
         deadline: [0; policy_words::DEADLINE_WORDS],
         former: 0,
-        unit: 0,
         span: 0,
         lanes: 0,
         shaded: 0,

@@ -18,24 +18,14 @@ const LANES_TOP: u64 = 600;
 
 const LANE: u64 = 340;
 
-// A letter is at most so wide on the average of a label.
-pub const LETTER: u64 = 70;
-
 // A run is cut into so many parts or fewer; a part's number stays below the other, and WIDTH times that in range.
 const PARTS: u64 = 1_000_000_000_000;
 
 const BEYOND_PARTS: u64 = 4_000_000_000_000;
 
-// The nanoseconds of a part, for a run up to a reading.
-pub fn unit_of(span: u64) -> u64 {
-    saturating_add(span / PARTS, 1)
-}
-
-// Where a reading is; the end of the run where it is later.
-pub fn across(unit: u64, span: u64, reading: u64) -> u64 {
-    if unit == 0 {
-        return LEFT;
-    }
+// Where a reading is, of a run up to a reading; the end of the run where it is later.
+pub fn across(span: u64, reading: u64) -> u64 {
+    let unit = span / PARTS + 1;
     let parts = span / unit;
     if parts == 0 {
         return LEFT;

@@ -1,16 +1,16 @@
 -- The loop ends: what is left falls.
 use borrow.Author.Needs.{needs}
-use Rattle.scenario.proofs.sheet.step.Statement.{statement}
-use Rattle.scenario.proofs.sheet.step.Tie as tie
+use Rattle.scenario.proofs.axis.times.Statement.{statement}
+use Rattle.scenario.proofs.axis.times.Tie as tie
 
 abbrev Inv-loop : tie.InvT-loop
-Inv-loop x length n₀ left₀ n left = Unit {0}
+Inv-loop span bottom apart last reading₀ left₀ reading left = Unit {0}
 
 abbrev μ-loop : tie.MeasureT-loop
-μ-loop x length n₀ left₀ n left = left
+μ-loop span bottom apart last reading₀ left₀ reading left = left
 
-pub step-spec : {M : Type 1} → statement M
-step-spec =
+pub times-spec : {M : Type 1} → statement M
+times-spec =
     tie.close
     (tie.spec
     Inv-loop
@@ -18,6 +18,7 @@ step-spec =
     (λ c. search needs)
     (λ c κs. search needs)
     (λ c. search needs)
+    (λ c κs. search needs)
     (λ c κs. search needs)
     (λ c. search needs)
     (λ c. search needs)

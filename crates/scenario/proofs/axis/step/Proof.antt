@@ -1,16 +1,16 @@
 -- The loop ends: what is left falls.
 use borrow.Author.Needs.{needs}
-use Rattle.scenario.proofs.sheet.times.Statement.{statement}
-use Rattle.scenario.proofs.sheet.times.Tie as tie
+use Rattle.scenario.proofs.axis.step.Statement.{statement}
+use Rattle.scenario.proofs.axis.step.Tie as tie
 
 abbrev Inv-loop : tie.InvT-loop
-Inv-loop x apart last reading₀ left₀ reading left = Unit {0}
+Inv-loop span length n₀ left₀ n left = Unit {0}
 
 abbrev μ-loop : tie.MeasureT-loop
-μ-loop x apart last reading₀ left₀ reading left = left
+μ-loop span length n₀ left₀ n left = left
 
-pub times-spec : {M : Type 1} → statement M
-times-spec =
+pub step-spec : {M : Type 1} → statement M
+step-spec =
     tie.close
     (tie.spec
     Inv-loop
