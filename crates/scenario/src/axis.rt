@@ -80,6 +80,7 @@ fn step(span: u64, length: u64) -> u64 {
     n
 }
 
+// Edges so far apart, up to the run's end; one beyond the greatest reading is none.
 fn edges(span: u64, bottom: u64, apart: u64) {
     let mut reading: u64 = 0;
     let mut left: u64 = MOST_EDGES;
@@ -88,10 +89,11 @@ fn edges(span: u64, bottom: u64, apart: u64) {
             return;
         }
         dashes(across(span, reading), TOP, bottom);
-        if saturating_add(reading, apart) == reading {
+        let next = saturating_add(reading, apart);
+        if saturating_sub(next, reading) < apart {
             return;
         }
-        reading = saturating_add(reading, apart);
+        reading = next;
         left -= 1;
     }
 }

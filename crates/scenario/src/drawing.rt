@@ -1,6 +1,5 @@
 // What a run draws as it goes on, as SVG: in each thread's lane a bar for each stretch and a thin bar for each time
 // that it waits, and the protected windows.
-use crate::legend::painted;
 use crate::printing::listed;
 use crate::printing::mode;
 use crate::printing::put;
@@ -15,9 +14,10 @@ use crate::scale::TOP;
 use crate::scale::across;
 use crate::scale::down;
 use crate::scale::period_end;
+use crate::shapes;
+use crate::shapes::THIN_HEIGHT;
 use crate::shapes::in_milliseconds;
 use crate::shapes::mark;
-use crate::shapes::rectangle;
 use crate::shapes::time_width;
 use text::saturating_add;
 use time::saturating_sub;
@@ -37,17 +37,24 @@ const WORDED_STRICT: u64 = 700;
 // The mode with the longest name.
 const STRICT: u64 = 0;
 
+// Where the mode stands in a bar.
+const MODE_RIGHT: u64 = 50;
+
+const MODE_DOWN: u64 = 140;
+
 // The height of bars, and where a thin one lies between top and bottom of the others.
 const BAR_HEIGHT: u64 = 200;
 
-const THIN_HEIGHT: u64 = 40;
-
 const THIN_DOWN: u64 = 80;
 
-// How wide a label of protection is beside its time.
+// How wide a label of protection is beside its time, and whether it starts or ends at its place.
 const DUE_WIDTH: u64 = 1_300;
 
-// Since when protection is due, from a place on or, with the anchor 1, up to it.
+const STARTS: u64 = 0;
+
+const ENDS: u64 = 1;
+
+// Since when protection is due.
 fn due_at(place: u64, anchor: u64, reading: u64) {
     put_one(b"<text x='%a' y='440' fill='#b03030' text-anchor='", place);
     listed(b"%@", b"start|end", anchor);
@@ -62,9 +69,9 @@ fn labelled(given: Run, left: u64) -> Run {
         return given;
     }
     if start < left {
-        due_at(RIGHT, 1, given.now);
+        due_at(RIGHT, ENDS, given.now);
     } else {
-        due_at(left, 0, given.now);
+        due_at(left, STARTS, given.now);
     }
     let mut x = given;
     x.labelled = saturating_add(start, width);
@@ -74,10 +81,7 @@ fn labelled(given: Run, left: u64) -> Run {
 // A protected window, over all lanes.
 fn shaded(left: u64, right: u64, bottom: u64) {
     let width = time::max_of(saturating_sub(right, left), LEAST_SHADED);
-    rectangle(
-        [left, TOP, width, saturating_sub(bottom, TOP)],
-        b"#d04040' fill-opacity='0.13",
-    );
+    shapes::shade([left, TOP, width, saturating_sub(bottom, TOP)]);
 }
 
 // From now to a period's end.
@@ -116,7 +120,10 @@ fn mode_in(left: u64, width: u64, y: u64, its_mode: u64) {
     }
     put(
         b"<text x='%a' y='%b' fill='white' font-size='100'>",
-        &[saturating_add(left, 50), saturating_add(y, 140)],
+        &[
+            saturating_add(left, MODE_RIGHT),
+            saturating_add(y, MODE_DOWN),
+        ],
     );
     mode(its_mode, b"%@</text>\n");
 }
@@ -129,14 +136,8 @@ fn mark_at(left: u64, width: u64, y: u64) {
     mark(left, y);
 }
 
-// A bar in the colour of a hook, by its letter.
-fn painted_bar(place: [u64; 4], paint: &[u8], hook: u64) {
-    put(b"<rect x='%a' y='%b' width='%c' height='%d' ", &place);
-    painted(paint, hook);
-}
-
 fn bar_at(left: u64, width: u64, y: u64, hook: u64) {
-    painted_bar([left, y, width, BAR_HEIGHT], b"fill='%@'/>\n", hook);
+    shapes::bar([left, y, width, BAR_HEIGHT], hook);
     mark_at(left, width, y);
 }
 
@@ -178,15 +179,11 @@ fn thin_bar(left: u64, right: u64, lane: u64, hook: u64) {
         return;
     }
     let y = saturating_add(down(lane), THIN_DOWN);
-    painted_bar(
-        [left, y, right - left, THIN_HEIGHT],
-        b"fill='%@' fill-opacity='0.5'/>\n",
-        hook,
-    );
+    shapes::thin_bar([left, y, right - left, THIN_HEIGHT], hook);
 }
 
 // The time that a thread waits, from a reading up to now.
-fn wait(x: Run, id: u64, since: u64) {
+fn wait_bar(x: Run, id: u64, since: u64) {
     let hooks = x.hooks;
     if id < x.lanes {
         thin_bar(
@@ -208,7 +205,7 @@ fn with_wait(given: Run, id: u64, word: u64) -> Run {
 }
 
 // A thread that was enqueued waits from now on.
-pub fn waits(x: Run, id: u64) -> Run {
+pub fn starts_waiting(x: Run, id: u64) -> Run {
     if x.number != 0 {
         return x;
     }
@@ -216,22 +213,22 @@ pub fn waits(x: Run, id: u64) -> Run {
 }
 
 // A thread waits no longer.
-pub fn waited(x: Run, id: u64) -> Run {
+pub fn stops_waiting(x: Run, id: u64) -> Run {
     let waits = x.waits;
     let word = at(waits, id);
     if word != 0 && x.output == PICTURE {
-        wait(x, id, word - 1);
+        wait_bar(x, id, word - 1);
     }
     with_wait(x, id, 0)
 }
 
 // A thread that waits where a run ends is drawn up to there, and goes on from there in the next one.
-fn waits_on(x: Run, id: u64) -> Run {
+fn keeps_waiting(x: Run, id: u64) -> Run {
     let words = x.waits;
     if at(words, id) == 0 {
         return x;
     }
-    waits(waited(x, id), id)
+    starts_waiting(stops_waiting(x, id), id)
 }
 
 // A statement took it out of the queue.
@@ -242,12 +239,12 @@ pub fn removed(x: Run, id: u64) -> Run {
     with_wait(x, id, 0)
 }
 
-pub fn all_wait_on(given: Run) -> Run {
+pub fn all_keep_waiting(given: Run) -> Run {
     let mut x = given;
     let mut left: u64 = given.lanes;
     while 0 < left {
         left -= 1;
-        x = waits_on(x, left);
+        x = keeps_waiting(x, left);
     }
     x
 }

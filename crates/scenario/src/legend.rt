@@ -6,21 +6,20 @@ use crate::run::Each;
 use crate::run::MOST_THREADS;
 use crate::run::at;
 use crate::scale::LEFT;
+use crate::shapes::FIRST_LETTER;
+use crate::shapes::LETTERS;
+use crate::shapes::NO_HOOK;
+use crate::shapes::THIN_HEIGHT;
+use crate::shapes::bar;
 use crate::shapes::dashes;
 use crate::shapes::label;
 use crate::shapes::mark;
-use crate::shapes::rectangle;
+use crate::shapes::shade;
+use crate::shapes::thin_bar;
 use text::saturating_add;
 use time::saturating_sub;
 
-// Hooks by their letters.
-const FIRST_LETTER: u64 = 65;
-
-const LETTERS: u64 = 26;
-
-const COLOURS: u64 = 8;
-
-// With what has none.
+// Of what has no hook, and of hooks.
 const MOST_ENTRIES: u64 = LETTERS + 1;
 
 // So many hooks stand in a row, each so wide; rows are so high.
@@ -41,6 +40,15 @@ const BESIDE: u64 = 190;
 
 const BESIDE_LINE: u64 = 100;
 
+// How far below the top of a row its words have their foot, a thin bar starts, a mark points and an edge ends.
+const FOOT: u64 = 105;
+
+const WAITING_DOWN: u64 = 40;
+
+const MARK_DOWN: u64 = 100;
+
+const EDGE_DOWN: u64 = 130;
+
 // Where the entries of the last row start.
 const WAITING: u64 = LEFT;
 
@@ -51,20 +59,6 @@ const PROTECTED: u64 = LEFT + 2_600;
 const EDGE: u64 = LEFT + 4_150;
 
 const TIMES: u64 = LEFT + 5_550;
-
-// A template with the colour of a hook: grey for none, and the ninth has that of the first again.
-pub fn painted(template: &[u8], letter: u64) {
-    let mut n: u64 = 0;
-    let above = saturating_sub(letter, FIRST_LETTER);
-    if FIRST_LETTER <= letter && above < LETTERS {
-        n = above % COLOURS + 1;
-    }
-    listed(
-        template,
-        b"#808080|#2878b8|#d9731a|#3a9a50|#8a56b0|#168f8f|#9c6b3a|#c0458c|#5563b5",
-        n,
-    );
-}
 
 // Whether a thread has a hook.
 fn is_there(hooks: Each, letter: u64) -> bool {
@@ -98,23 +92,14 @@ pub fn height(hooks: Each) -> u64 {
 
 // Where words have their foot.
 fn foot(y: u64) -> u64 {
-    saturating_add(y, 105)
-}
-
-// A hook's colour.
-fn swatch(left: u64, y: u64, letter: u64) {
-    put(
-        b"<rect x='%a' y='%b' width='%c' height='%d' ",
-        &[left, y, SWATCH, SWATCH_HEIGHT],
-    );
-    painted(b"fill='%@'/>\n", letter);
+    saturating_add(y, FOOT)
 }
 
 // The k-th entry; its words follow.
 fn entry(k: u64, y: u64, letter: u64) {
     let left = LEFT + ENTRY * (k % IN_ROW);
     let top = saturating_add(y, ROW * (k % MOST_ENTRIES / IN_ROW));
-    swatch(left, top, letter);
+    bar([left, top, SWATCH, SWATCH_HEIGHT], letter);
     put(b"<text x='%a' y='%b'>", &[left + BESIDE, foot(top)]);
 }
 
@@ -141,33 +126,28 @@ fn hooks_from(hooks: Each, y: u64) {
 }
 
 fn waiting(y: u64) {
-    rectangle(
-        [WAITING, saturating_add(y, 40), SWATCH, 40],
-        b"#808080' fill-opacity='0.5",
-    );
+    let top = saturating_add(y, WAITING_DOWN);
+    thin_bar([WAITING, top, SWATCH, THIN_HEIGHT], NO_HOOK);
     label(WAITING + BESIDE, foot(y), b"waiting");
 }
 
 fn chosen(y: u64) {
-    mark(CHOSEN, saturating_add(y, 100));
+    mark(CHOSEN, saturating_add(y, MARK_DOWN));
     label(CHOSEN + BESIDE_LINE, foot(y), b"chosen by a selection");
 }
 
 fn protected(y: u64) {
-    rectangle(
-        [PROTECTED, y, SWATCH, SWATCH_HEIGHT],
-        b"#d04040' fill-opacity='0.13",
-    );
+    shade([PROTECTED, y, SWATCH, SWATCH_HEIGHT]);
     label(PROTECTED + BESIDE, foot(y), b"protected window");
 }
 
 fn edge(y: u64) {
-    dashes(EDGE, saturating_sub(y, 20), saturating_add(y, 130));
+    dashes(EDGE, y, saturating_add(y, EDGE_DOWN));
     label(EDGE + BESIDE_LINE, foot(y), b"edge of a period");
 }
 
 pub fn legend(hooks: Each, y: u64) {
-    entry(0, y, 0);
+    entry(0, y, NO_HOOK);
     plain(b"no hook</text>\n");
     hooks_from(hooks, y);
     let below = saturating_add(y, saturating_sub(height(hooks), ROW + MARGIN));

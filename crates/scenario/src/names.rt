@@ -13,11 +13,15 @@ const QUESTION: u8 = 63;
 
 const DELETE: u8 = 127;
 
-// Bytes of UTF-8: those that follow the first of a letter, and the first of letters with two and with three bytes. The
-// first ones that are left out start letters that a test of single bytes does not tell from what XML refuses.
+// Bytes of UTF-8: those that follow the first one of a letter, and the first ones of letters with two and with three
+// bytes. Others start letters that their first byte alone does not tell from what XML refuses.
 const FOLLOWING: u8 = 128;
 
+const BEYOND_FOLLOWING: u8 = 192;
+
 const FIRST_OF_TWO: u8 = 194;
+
+const BEYOND_TWO: u8 = 224;
 
 const FIRST_OF_THREE: u8 = 225;
 
@@ -27,29 +31,23 @@ const BEYOND_THREE: u8 = 237;
 const NO_TEXT: u64 = 3;
 
 fn after_first(byte: u8) -> u64 {
-    if byte < SPACE || byte == DELETE {
-        return NO_TEXT;
-    }
-    if byte < FOLLOWING {
+    if SPACE <= byte && byte < DELETE {
         return 0;
     }
-    if byte < FIRST_OF_TWO || BEYOND_THREE <= byte {
-        return NO_TEXT;
-    }
-    if byte < FIRST_OF_THREE - 1 {
+    if FIRST_OF_TWO <= byte && byte < BEYOND_TWO {
         return 1;
     }
-    if byte < FIRST_OF_THREE {
-        return NO_TEXT;
+    if FIRST_OF_THREE <= byte && byte < BEYOND_THREE {
+        return 2;
     }
-    2
+    NO_TEXT
 }
 
 fn after(to_come: u64, byte: u8) -> u64 {
     if to_come == 0 {
         return after_first(byte);
     }
-    if to_come == NO_TEXT || byte < FOLLOWING || FIRST_OF_TWO - 2 <= byte {
+    if to_come == NO_TEXT || byte < FOLLOWING || BEYOND_FOLLOWING <= byte {
         return NO_TEXT;
     }
     to_come - 1

@@ -1,5 +1,20 @@
-// The shapes and times of a picture, each printed by itself.
+// The shapes and times of a picture, each printed by itself. A place is a left, a top, a width and a height.
+use crate::printing::listed;
+use crate::printing::put;
 use text::print_page;
+
+pub type Place = [u64; 4];
+
+// Hooks by their letters, and what stands for none.
+pub const NO_HOOK: u64 = 0;
+
+pub const FIRST_LETTER: u64 = 65;
+
+pub const LETTERS: u64 = 26;
+
+const COLOURS: u64 = 8;
+
+pub const THIN_HEIGHT: u64 = 40;
 
 // Room for a shape.
 const PAGE: usize = 256;
@@ -12,11 +27,44 @@ const LETTER: u64 = 70;
 
 pub const UNIT_WIDTH: u64 = 4 * LETTER;
 
-// A rectangle by its left, its top, its width and its height.
-pub fn rectangle(place: [u64; 4], paint: &[u8]) {
+pub fn rectangle(place: Place, paint: &[u8]) {
     let mut out = [0u8; PAGE];
     let n = text::rectangle(&mut out, 0, &place, paint);
     print_page(&out, n);
+}
+
+// A protected window.
+pub fn shade(place: Place) {
+    rectangle(place, b"#d04040' fill-opacity='0.13");
+}
+
+// The number of a hook's colour: 0 for none, and the ninth has that of the first again.
+fn colour(letter: u64) -> u64 {
+    let above = time::saturating_sub(letter, FIRST_LETTER);
+    if letter < FIRST_LETTER || LETTERS <= above {
+        return 0;
+    }
+    above % COLOURS + 1
+}
+
+// A rectangle with a hook's colour in its paint.
+fn painted(place: Place, paint: &[u8], hook: u64) {
+    put(b"<rect x='%a' y='%b' width='%c' height='%d' ", &place);
+    listed(
+        paint,
+        b"#808080|#2878b8|#d9731a|#3a9a50|#8a56b0|#168f8f|#9c6b3a|#c0458c|#5563b5",
+        colour(hook),
+    );
+}
+
+// A bar for a stretch, by the letter of its hook.
+pub fn bar(place: Place, hook: u64) {
+    painted(place, b"fill='%@'/>\n", hook);
+}
+
+// A thin bar for a wait, lighter.
+pub fn thin_bar(place: Place, hook: u64) {
+    painted(place, b"fill='%@' fill-opacity='0.5'/>\n", hook);
 }
 
 // Words from a place on.

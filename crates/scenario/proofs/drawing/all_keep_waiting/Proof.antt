@@ -1,7 +1,7 @@
 -- The loop ends: what is left falls.
 use borrow.Author.Needs.{needs}
-use Rattle.scenario.proofs.drawing.all_wait_on.Statement.{statement}
-use Rattle.scenario.proofs.drawing.all_wait_on.Tie as tie
+use Rattle.scenario.proofs.drawing.all_keep_waiting.Statement.{statement}
+use Rattle.scenario.proofs.drawing.all_keep_waiting.Tie as tie
 
 abbrev Inv-loop : tie.InvT-loop
 Inv-loop x₀ left₀ x left = Unit {0}
@@ -9,8 +9,8 @@ Inv-loop x₀ left₀ x left = Unit {0}
 abbrev μ-loop : tie.MeasureT-loop
 μ-loop x₀ left₀ x left = left
 
-pub all-wait-on-spec : {M : Type 1} → statement M
-all-wait-on-spec =
+pub all-keep-waiting-spec : {M : Type 1} → statement M
+all-keep-waiting-spec =
     tie.close
     (tie.spec
     Inv-loop
