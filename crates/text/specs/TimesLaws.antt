@@ -9,13 +9,13 @@ use Rattle.refusal.specs.Cases.{ifEqual, equal, not-equal}
 use Rattle.text.specs.Writing.{Page, page, stored, written, digitsOf, rightIn}
 use Rattle.text.specs.Times.{fractionFrom}
 
--- A column of no width is just the word.
+-- A number in a column of no width is just its digits.
 none-before : (k : ℕ) → 0 - k ≡ 0
 none-before k = omega arith
 
-pub no-column : (p : Page) {r : Page} (word : List ℕ) → r ≡ written p (rightIn 0 word) → r ≡ written p word
+pub no-column : (p : Page) {r : Page} (n : ℕ) → r ≡ written p (rightIn 0 (digitsOf n)) → r ≡ written p (digitsOf n)
 unfolding rightIn
-no-column p word e = rw (none-before (length word)) at e
+no-column p n e = rw (none-before (length (digitsOf n))) at e
 
 -- A byte, then more.
 pub byte-then : (p : Page) {q r : Page} (b : ℕ) (rest : List ℕ) → q ≡ stored p b → r ≡ written q rest
