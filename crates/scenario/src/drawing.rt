@@ -1,86 +1,105 @@
-// The picture of a run, as SVG: a lane for each thread, and in it a bar for each stretch. Lanes are 34 pixels high and
-// start at 60; time starts at 150.
+// What a run draws as it goes on, as SVG: in each thread's lane a bar for each stretch and a thin bar for each time
+// that it waits, and the protected windows.
 use crate::printing::listed;
 use crate::printing::mode;
-use crate::printing::name;
-use crate::printing::plain;
 use crate::printing::put;
 use crate::printing::put_one;
+use crate::run;
 use crate::run::PICTURE;
 use crate::run::Run;
+use crate::run::at;
+use crate::run::with;
+use crate::scale::RIGHT;
+use crate::scale::TOP;
+use crate::scale::across;
+use crate::scale::down;
+use crate::scale::period_end;
+use crate::shapes;
+use crate::shapes::THIN_HEIGHT;
+use crate::shapes::in_milliseconds;
+use crate::shapes::mark;
+use crate::shapes::time_width;
 use text::saturating_add;
 use time::saturating_sub;
 use window_words::WINDOW_PERIOD;
 
-// As many pixels for the whole run.
-const WIDTH: u64 = 820;
+// A bar that is shorter is drawn so long; one that is longer has room for a mark, and for its mode.
+const LEAST: u64 = 10;
 
-// Where time starts, and above the lanes.
-const LEFT: u64 = 150;
+const LEAST_SHADED: u64 = 20;
 
-const TOP: u64 = 48;
+const MARKED: u64 = 40;
 
-const LANES_TOP: u64 = 60;
+const WORDED: u64 = 590;
 
-const LANE_HEIGHT: u64 = 34;
+const WORDED_STRICT: u64 = 700;
 
-// A bar that has room for its mode.
-const WIDE: u64 = 60;
+// The mode with the longest name.
+const STRICT: u64 = 0;
 
-// The byte before the first hook's letter.
-const BEFORE_A: u64 = 64;
+// Where the mode stands in a bar.
+const MODE_RIGHT: u64 = 50;
 
-const MOST_EDGES: u64 = 64;
+const MODE_DOWN: u64 = 140;
 
-// The bytes of what is printed at once.
-const PAGE: usize = 1024;
+// The height of bars, and where a thin one lies between top and bottom of the others.
+const BAR_HEIGHT: u64 = 200;
 
-// Where a reading is, by the nanoseconds of a pixel.
-fn across(unit: u64, reading: u64) -> u64 {
-    if unit == 0 {
-        return LEFT;
-    }
-    saturating_add(LEFT, reading / unit)
+const THIN_DOWN: u64 = 80;
+
+// How wide a label of protection is beside its time, and whether it starts or ends at its place.
+const DUE_WIDTH: u64 = 1_300;
+
+const STARTS: u64 = 0;
+
+const ENDS: u64 = 1;
+
+// Since when protection is due.
+fn due_at(place: u64, anchor: u64, reading: u64) {
+    put_one(b"<text x='%a' y='440' fill='#b03030' text-anchor='", place);
+    listed(b"%@", b"start|end", anchor);
+    in_milliseconds(b"'>protection due at %@ ms</text>\n", &[0], reading);
 }
 
-// Where a lane is.
-fn down(lane: u64) -> u64 {
-    LANES_TOP + LANE_HEIGHT * (lane % crate::run::MOST_THREADS)
-}
-
-// The end of the period that holds a reading; the last reading where it does not fit.
-fn period_end(period: u64, reading: u64) -> u64 {
-    if period == 0 {
-        return reading;
-    }
-    saturating_add(saturating_sub(reading, reading % period), period)
-}
-
-// Where protection is due.
-fn shaded(left: u64, right: u64, height: u64, now: u64) {
-    let mut out = [0u8; PAGE];
-    let place = [left, TOP, saturating_sub(right, left), height];
-    let n = text::rectangle(&mut out, 0, &place, b"#d04040' fill-opacity='0.13");
-    text::print_page(&out, n);
-    put(
-        b"\n<text x='%a' y='44' fill='#b03030'>protection due at %b</text>\n",
-        &[left, now],
-    );
-}
-
-// From now to the period's end, once in a period.
-fn shade(given: Run) -> Run {
-    let now = given.now;
-    let end = period_end(given.window[WINDOW_PERIOD], now);
-    if end <= given.shaded {
+// That label where there is room for it: up to the run's end at most, and behind the last such label.
+fn labelled(given: Run, left: u64) -> Run {
+    let width = saturating_add(time_width(given.now), DUE_WIDTH);
+    let start = time::min_of(left, saturating_sub(RIGHT, width));
+    if start < given.labelled {
         return given;
     }
-    let right = across(given.unit, time::min_of(end, given.span));
-    let height = saturating_sub(down(given.lanes), TOP);
-    shaded(across(given.unit, now), right, height, now);
+    if start < left {
+        due_at(RIGHT, ENDS, given.now);
+    } else {
+        due_at(left, STARTS, given.now);
+    }
     let mut x = given;
+    x.labelled = saturating_add(start, width);
+    x
+}
+
+// A protected window, over all lanes.
+fn shaded(left: u64, right: u64, bottom: u64) {
+    let width = time::max_of(saturating_sub(right, left), LEAST_SHADED);
+    shapes::shade([left, TOP, width, saturating_sub(bottom, TOP)]);
+}
+
+// From now to a period's end.
+fn shaded_to(given: Run, end: u64) -> Run {
+    let left = across(given.span, given.now);
+    shaded(left, across(given.span, end), down(given.lanes));
+    let mut x = labelled(given, left);
     x.shaded = end;
     x
+}
+
+// Once in a period.
+fn shade(x: Run) -> Run {
+    let end = period_end(x.window[WINDOW_PERIOD], x.now);
+    if end <= x.shaded {
+        return x;
+    }
+    shaded_to(x, end)
 }
 
 // Protection is due where a protected thread asks, and what is left of the period is no more than what is left of the
@@ -96,37 +115,47 @@ fn is_due(x: Run) -> bool {
 
 // The mode's name, where the bar has room for it.
 fn mode_in(left: u64, width: u64, y: u64, its_mode: u64) {
-    if width < WIDE {
+    if width < WORDED || its_mode == STRICT && width < WORDED_STRICT {
         return;
     }
     put(
-        b"<text x='%a' y='%b' fill='white' font-size='11'>",
-        &[saturating_add(left, 5), saturating_add(y, 14)],
+        b"<text x='%a' y='%b' fill='white' font-size='100'>",
+        &[
+            saturating_add(left, MODE_RIGHT),
+            saturating_add(y, MODE_DOWN),
+        ],
     );
     mode(its_mode, b"%@</text>\n");
 }
 
-// A bar in the colour of a hook, by its letter, with a mark where it is chosen.
-fn bar_at(left: u64, width: u64, y: u64, hook: u64) {
-    put(b"<rect x='%a' y='%b' width='%c' ", &[left, y, width]);
-    listed(
-        b"height='20' fill='%@'/>\n",
-        b"#9a9a9a|#2878b8|#e07b20|#3a9a50",
-        saturating_sub(hook, BEFORE_A) % 4,
-    );
-    let mut out = [0u8; PAGE];
-    let n = text::mark(&mut out, 0, &[left, y]);
-    text::print_page(&out, n);
-    plain(b"\n");
+// A mark where a selection chooses, where the bar has room for it.
+fn mark_at(left: u64, width: u64, y: u64) {
+    if width < MARKED {
+        return;
+    }
+    mark(left, y);
 }
 
-// A stretch of the running thread.
+fn bar_at(left: u64, width: u64, y: u64, hook: u64) {
+    shapes::bar([left, y, width, BAR_HEIGHT], hook);
+    mark_at(left, width, y);
+}
+
+// How wide a stretch from a place to another is drawn.
+fn wide(left: u64, right: u64) -> u64 {
+    time::max_of(saturating_sub(right, left), LEAST)
+}
+
+// A stretch of the running thread, in its lane.
 fn stretch(x: Run, end: u64) {
     let id = x.current;
-    let left = across(x.unit, x.now);
-    let width = saturating_sub(across(x.unit, end), left);
+    if x.lanes <= id {
+        return;
+    }
     let hooks = x.hooks;
-    bar_at(left, width, down(id), crate::run::at(hooks, id));
+    let left = across(x.span, x.now);
+    let width = wide(left, across(x.span, end));
+    bar_at(left, width, down(id), at(hooks, id));
     if x.key[window_words::KEY_TAG] != 0 {
         mode_in(left, width, down(id), x.key[window_words::KEY_MODE]);
     }
@@ -144,116 +173,94 @@ pub fn bar(given: Run, end: u64) -> Run {
     x
 }
 
-// The picture's size, from a run that was not drawn.
-pub fn measured(given: Run, span: u64, lanes: u64) -> Run {
+// A thin bar in a lane, from a place to another.
+fn thin_bar(left: u64, right: u64, lane: u64, hook: u64) {
+    if right <= left {
+        return;
+    }
+    let y = saturating_add(down(lane), THIN_DOWN);
+    shapes::thin_bar([left, y, right - left, THIN_HEIGHT], hook);
+}
+
+// The time that a thread waits, from a reading up to now.
+fn wait_bar(x: Run, id: u64, since: u64) {
+    let hooks = x.hooks;
+    if id < x.lanes {
+        thin_bar(
+            across(x.span, since),
+            across(x.span, x.now),
+            id,
+            at(hooks, id),
+        );
+    }
+}
+
+// A thread waits since a reading; `waits` has one more than that, and 0 where it does not wait.
+fn with_wait(given: Run, id: u64, word: u64) -> Run {
+    let waits = given.waits;
+    let after = with(waits, id, word);
     let mut x = given;
-    x.span = span;
-    x.lanes = lanes;
-    x.unit = saturating_add(span / WIDTH, 1);
+    x.waits = after;
     x
 }
 
-// Up to the title.
-pub fn begin(x: Run) {
-    let height = [saturating_add(down(x.lanes), 70)];
-    put(
-        b"<svg xmlns='http://www.w3.org/2000/svg' version='1.1' width='1000' height='%a' ",
-        &height,
-    );
-    put(
-        b"font-family='sans-serif' font-size='12'>\n<rect width='1000' height='%a' fill='white'/>\n",
-        &height,
-    );
-    plain(b"<text x='12' y='24' font-size='16'>");
+// A thread that was enqueued waits from now on.
+pub fn starts_waiting(x: Run, id: u64) -> Run {
+    if x.number != 0 {
+        return x;
+    }
+    with_wait(x, id, saturating_add(x.now, 1))
 }
 
-// A lane's name and line.
-fn lane(x: Run, id: u64) {
-    let width = saturating_sub(across(x.unit, x.span), LEFT);
-    put(
-        b"<path d='M150 %a h%b' stroke='#d0d0d0'/>\n<text x='12' y='%a'>",
-        &[saturating_add(down(id), 20), width],
-    );
-    name(x, id, b"%@</text>\n");
+// A thread waits no longer.
+pub fn stops_waiting(x: Run, id: u64) -> Run {
+    let waits = x.waits;
+    let word = at(waits, id);
+    if word != 0 && x.output == PICTURE {
+        wait_bar(x, id, word - 1);
+    }
+    with_wait(x, id, 0)
 }
 
-fn lanes(x: Run) {
-    let mut left: u64 = x.threads;
+// A thread that waits where a run ends is drawn up to there, and goes on from there in the next one.
+fn keeps_waiting(x: Run, id: u64) -> Run {
+    let words = x.waits;
+    if at(words, id) == 0 {
+        return x;
+    }
+    starts_waiting(stops_waiting(x, id), id)
+}
+
+// A statement took it out of the queue.
+pub fn removed(x: Run, id: u64) -> Run {
+    if x.number != 0 {
+        return x;
+    }
+    with_wait(x, id, 0)
+}
+
+pub fn all_keep_waiting(given: Run) -> Run {
+    let mut x = given;
+    let mut left: u64 = given.lanes;
     while 0 < left {
         left -= 1;
-        lane(x, left);
+        x = keeps_waiting(x, left);
     }
+    x
 }
 
-// A period's edge, with its reading.
-fn edge(unit: u64, bottom: u64, reading: u64) {
-    let x = across(unit, reading);
-    let mut out = [0u8; PAGE];
-    let n = text::dashes(&mut out, 0, &[x, TOP, bottom]);
-    text::print_page(&out, n);
-    put(
-        b"\n<text x='%a' y='%b' text-anchor='middle'>%c</text>\n",
-        &[x, saturating_add(bottom, 14), reading],
-    );
+// A run with the picture's size.
+pub fn measured(given: Run) -> Run {
+    let mut x = given;
+    x.span = given.now;
+    x.lanes = given.threads;
+    x
 }
 
-fn edges(unit: u64, bottom: u64, period: u64, span: u64) {
-    let mut reading: u64 = 0;
-    let mut left: u64 = MOST_EDGES;
-    while 0 < left {
-        if reading <= span {
-            edge(unit, bottom, reading);
-        }
-        reading = period_end(period, reading);
-        left -= 1;
-    }
-}
-
-// A colour and what it stands for, onto a page.
-fn colour(out: &mut [u8], at: usize, x: u64, y: u64, fill: &[u8], words: &[u8]) -> usize {
-    let n = text::rectangle(out, at, &[x, y, 14, 12], fill);
-    text::label(
-        out,
-        n,
-        &[saturating_add(x, 19), saturating_add(y, 10)],
-        words,
-    )
-}
-
-fn hooks(out: &mut [u8], y: u64) -> usize {
-    let a = colour(out, 0, 150, y, b"#2878b8", b"hook A");
-    let b = colour(out, a, 225, y, b"#e07b20", b"hook B");
-    colour(out, b, 300, y, b"#9a9a9a", b"no hook")
-}
-
-fn legend(y: u64) {
-    let mut out = [0u8; PAGE];
-    let below = saturating_add(y, 10);
-    let a = hooks(&mut out, y);
-    let b = text::mark(&mut out, a, &[390, below]);
-    let c = text::label(&mut out, b, &[400, below], b"chosen by a selection");
-    let d = colour(
-        &mut out,
-        c,
-        540,
-        y,
-        b"#d04040' fill-opacity='0.13",
-        b"protected window",
-    );
-    text::print_page(&out, d);
-    put_one(
-        b"<path d='M682 %a v12' stroke='black' stroke-dasharray='5 3'/>",
-        y,
-    );
-    put_one(
-        b"<text x='692' y='%a'>edge of a period; times in nanoseconds</text>\n",
-        below,
-    );
-}
-
-pub fn end(x: Run) {
-    lanes(x);
-    edges(x.unit, down(x.lanes), x.window[WINDOW_PERIOD], x.span);
-    legend(saturating_add(down(x.lanes), 36));
-    plain(b"</svg>\n");
+// A new run that draws, by the size of one that did not.
+pub fn anew(given: Run) -> Run {
+    let mut x = run::new(PICTURE);
+    x.span = given.span;
+    x.lanes = given.lanes;
+    x
 }

@@ -1,15 +1,21 @@
 // Runs scenarios, lines of threads, a window and calls, on the proved core, and prints each answer, or a picture of the
 // run. FORMAT.md has the lines.
+mod axis;
 mod calls;
 mod causes;
 mod drawing;
 mod explaining;
+mod legend;
 mod lines;
 mod mistakes;
+mod names;
 mod performing;
 mod printing;
 mod run;
 mod running;
+mod scale;
+mod shapes;
+mod sheet;
 mod statements;
 mod threads;
 mod words;
@@ -58,12 +64,10 @@ fn print(text: &[u8]) {
 
 // Twice: the first run tells how long the second one is, and how many threads it has.
 fn picture(name: &[u8], text: &[u8]) {
-    let first = lines_of(run::new(run::NOTHING), text);
-    let second = drawing::measured(run::new(run::PICTURE), first.now, first.threads);
-    drawing::begin(second);
-    io::write_all(STDOUT, name);
-    io::write_all(STDOUT, b"</text>\n");
-    drawing::end(lines_of(second, text));
+    let first = drawing::measured(lines_of(run::new(run::NOTHING), text));
+    sheet::sheet(first, name);
+    lines_of(drawing::anew(first), text);
+    sheet::end();
 }
 
 // A file's text is printed under its name, or drawn.

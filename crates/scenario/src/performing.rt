@@ -1,5 +1,6 @@
 // What each statement does, and the answer that it prints.
 use crate::calls;
+use crate::drawing;
 use crate::explaining::explain;
 use crate::printing::listed;
 use crate::printing::say;
@@ -95,7 +96,7 @@ fn on_queue(q: &mut QueueRows, t: &mut [Row], x: Run, n: u64, a: Values) -> Run 
     match n {
         statements::ENQUEUE => calls::enqueue(q, t, x, a[1], 0),
         statements::ENQUEUE_FRONT => calls::enqueue(q, t, x, a[1], 1),
-        statements::REMOVE => calls::remove(q, t, x, a[1]),
+        statements::REMOVE => drawing::removed(calls::remove(q, t, x, a[1]), a[1]),
         statements::LENGTHS => calls::lengths(q, x),
         _ => words::set_queue(q, x, a[2], a[3], a[4]),
     }

@@ -62,7 +62,7 @@ fn spaced_byte(byte: u8) -> u8 {
     byte
 }
 
-fn spaced(name: &mut [u8]) {
+pub fn spaced(name: &mut [u8]) {
     let mut i: usize = 0;
     while i < name.len() {
         name[i] = spaced_byte(name[i]);

@@ -63,6 +63,8 @@ pub struct Run {
     pub names: [u8; NAMES],
     pub hooks: Each,
     pub work: Each,
+    // Since when each thread waits, and one more; 0 where it does not wait.
+    pub waits: Each,
     // How many wakes are noted and done; of each its reading, its thread, and how long that then works.
     pub wakes: u64,
     pub woken: u64,
@@ -87,12 +89,12 @@ pub struct Run {
     pub deadline: policy_words::DeadlineWords,
     // The word that a statement overwrote.
     pub former: u64,
-    // Of a picture: how many nanoseconds a pixel has, the last reading of all, how many lanes, and up to where a
-    // protected window is drawn.
-    pub unit: u64,
+    // Of a picture: the last reading of all, how many lanes, up to which reading protected windows are drawn, and up to
+    // which place their labels.
     pub span: u64,
     pub lanes: u64,
     pub shaded: u64,
+    pub labelled: u64,
 }
 
 // A board with no thread, counters of 2^63 and the mode Ordinary.
@@ -111,6 +113,7 @@ pub fn new(output: u64) -> Run {
         names: [0; NAMES],
         hooks: [0; EACH],
         work: [0; EACH],
+        waits: [0; EACH],
         wakes: 0,
         woken: 0,
         wake_at: [0; EACH],
@@ -130,10 +133,10 @@ pub fn new(output: u64) -> Run {
         lengths: [0; board_words::LENGTH_WORDS],
         deadline: [0; policy_words::DEADLINE_WORDS],
         former: 0,
-        unit: 0,
         span: 0,
         lanes: 0,
         shaded: 0,
+        labelled: 0,
     }
 }
 

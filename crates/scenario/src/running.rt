@@ -1,7 +1,10 @@
 // A run: the board's own cycle until a reading. Who wakes is enqueued; else it is chosen who runs, and that one runs to
 // its deadline, to the end of its work or to what comes next.
 use crate::calls;
+use crate::drawing::all_keep_waiting;
 use crate::drawing::bar;
+use crate::drawing::starts_waiting;
+use crate::drawing::stops_waiting;
 use crate::explaining::explain;
 use crate::printing::mode;
 use crate::printing::name;
@@ -51,7 +54,7 @@ fn wake(q: &mut QueueRows, t: &mut [Row], given: Run) -> Run {
     let mut x = with_work(given, id, at(works, n));
     x.woken = text::saturating_add(n, 1);
     let b = calls::prepare(t, x, id, 0, x.now);
-    calls::enqueue(q, t, b, id, 0)
+    starts_waiting(calls::enqueue(q, t, b, id, 0), id)
 }
 
 // A selection beside the running thread, explained where that is asked for.
@@ -94,7 +97,7 @@ fn gave_way(q: &mut QueueRows, t: &mut [Row], x: Run) -> Run {
     }
     let front = x.choice[calls::TO_FRONT];
     let a = calls::prepare(t, x, x.current, front, x.now);
-    calls::enqueue(q, t, a, x.current, front)
+    starts_waiting(calls::enqueue(q, t, a, x.current, front), x.current)
 }
 
 // The chosen thread leaves the queue and runs.
@@ -106,7 +109,7 @@ fn taken(q: &mut QueueRows, t: &mut [Row], given: Run) -> Run {
     let mut x = given;
     x.current = id;
     x.running = 1;
-    calls::remove(q, t, x, id)
+    calls::remove(q, t, stops_waiting(x, id), id)
 }
 
 // As chosen.
@@ -258,5 +261,5 @@ pub fn run(q: &mut QueueRows, t: &mut [Row], given: Run, until: u64) -> Run {
         x.output,
         b":\n       reading  thread          why             urgency rank            for       deadline\n",
     );
-    closed(cycles(q, t, x))
+    all_keep_waiting(closed(cycles(q, t, x)))
 }

@@ -18,6 +18,16 @@ pub mod FormsCases
 pub mod Writing
 -- Their laws, and what a page then has where there is room.
 pub mod WritingLaws
+-- Times in milliseconds.
+pub mod Times
+-- Their laws.
+pub mod TimesLaws
+-- Texts as XML has them.
+pub mod Escaping
+-- Their laws.
+pub mod EscapingLaws
+-- Times and texts as they are written, judged.
+pub mod TimesCases
 -- Shapes as templates.
 pub mod Svg
 -- Sums that stay in range.

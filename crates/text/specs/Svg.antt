@@ -4,13 +4,13 @@ use mathlib.Core.List.{List}
 use Rattle.text.specs.Ascii.{ascii}
 
 abbrev pub rectangleText : List ℕ
-rectangleText = ascii "<rect x='%a' y='%b' width='%c' height='%d' fill='%@'/>"
+rectangleText = ascii "<rect x='%a' y='%b' width='%c' height='%d' fill='%@'/>\n"
 
 abbrev pub labelText : List ℕ
 labelText = ascii "<text x='%a' y='%b'>%@</text>\n"
 
 abbrev pub markText : List ℕ
-markText = ascii "<path d='M%a %b l-5 -9 h10 z'/>"
+markText = ascii "<path d='M%a %b l-40 -70 h80 z'/>\n"
 
 abbrev pub dashesText : List ℕ
-dashesText = ascii "<path d='M%a %b V%c' stroke='black' stroke-dasharray='5 3'/>"
+dashesText = ascii "<path d='M%a %b V%c' stroke='#707070' stroke-dasharray='50 30'/>\n"

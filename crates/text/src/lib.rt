@@ -2,14 +2,17 @@
 // columns, templates and shapes, in bytes that the caller lends, and sums that stay in range. Only `print` writes to a
 // file, which is standard output.
 mod counting;
+mod escaping;
 mod forms;
 mod listing;
 mod printing;
 mod reading;
 mod svg;
+mod times;
 mod writing;
 
 pub use counting::saturating_add;
+pub use escaping::escape;
 pub use forms::Cause;
 pub use forms::Stop;
 pub use forms::fit;
@@ -28,4 +31,5 @@ pub use svg::dashes;
 pub use svg::label;
 pub use svg::mark;
 pub use svg::rectangle;
+pub use times::milliseconds;
 pub use writing::fill;

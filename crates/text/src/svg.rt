@@ -14,7 +14,7 @@ pub fn rectangle(out: &mut [u8], at: usize, place: &[u64; 4], paint: &[u8]) -> u
     fill(
         out,
         at,
-        b"<rect x='%a' y='%b' width='%c' height='%d' fill='%@'/>",
+        b"<rect x='%a' y='%b' width='%c' height='%d' fill='%@'/>\n",
         place,
         paint,
     )
@@ -35,7 +35,7 @@ pub fn mark(out: &mut [u8], at: usize, place: &[u64; 2]) -> usize
         ≡ written (page (now (out .entry)) at)
         (filled (now (place .entry)) [] 0 markText) ⌝ }
 {
-    fill(out, at, b"<path d='M%a %b l-5 -9 h10 z'/>", place, b"")
+    fill(out, at, b"<path d='M%a %b l-40 -70 h80 z'/>\n", place, b"")
 }
 
 // A dashed line from a place down to a height.
@@ -47,7 +47,7 @@ pub fn dashes(out: &mut [u8], at: usize, place: &[u64; 3]) -> usize
     fill(
         out,
         at,
-        b"<path d='M%a %b V%c' stroke='black' stroke-dasharray='5 3'/>",
+        b"<path d='M%a %b V%c' stroke='#707070' stroke-dasharray='50 30'/>\n",
         place,
         b"",
     )

@@ -28,7 +28,7 @@ const UNDERLINE: u8 = 95;
 // As many digits stand together.
 const GROUP: usize = 3;
 
-fn put_byte(out: &mut [u8], at: usize, byte: u8) -> usize
+pub fn put_byte(out: &mut [u8], at: usize, byte: u8) -> usize
     ensures { λ r. ⌜ page (now (out .exit)) r ≡ stored (page (now (out .entry)) at) byte ⌝ }
 {
     if at < out.len() {
@@ -81,7 +81,7 @@ fn spell(n: u64, digits: &mut [u8; 20]) -> usize
 }
 
 // A number at the right of a column.
-fn put_right(out: &mut [u8], at: usize, n: u64, width: usize) -> usize
+pub fn put_right(out: &mut [u8], at: usize, n: u64, width: usize) -> usize
     ensures { λ r. ⌜ page (now (out .exit)) r
         ≡ written (page (now (out .entry)) at) (rightIn width (digitsOf n)) ⌝ }
 {

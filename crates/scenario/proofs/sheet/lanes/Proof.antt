@@ -1,7 +1,7 @@
 -- The loop ends: what is left falls.
 use borrow.Author.Needs.{needs}
-use Rattle.scenario.proofs.drawing.lanes.Statement.{statement}
-use Rattle.scenario.proofs.drawing.lanes.Tie as tie
+use Rattle.scenario.proofs.sheet.lanes.Statement.{statement}
+use Rattle.scenario.proofs.sheet.lanes.Tie as tie
 
 abbrev Inv-loop : tie.InvT-loop
 Inv-loop x left₀ left = Unit {0}

@@ -1,13 +1,13 @@
 -- The loop ends: what is left falls.
 use borrow.Author.Needs.{needs}
-use Rattle.scenario.proofs.drawing.edges.Statement.{statement}
-use Rattle.scenario.proofs.drawing.edges.Tie as tie
+use Rattle.scenario.proofs.axis.edges.Statement.{statement}
+use Rattle.scenario.proofs.axis.edges.Tie as tie
 
 abbrev Inv-loop : tie.InvT-loop
-Inv-loop unit bottom period span reading₀ left₀ reading left = Unit {0}
+Inv-loop span bottom apart reading₀ left₀ reading left = Unit {0}
 
 abbrev μ-loop : tie.MeasureT-loop
-μ-loop unit bottom period span reading₀ left₀ reading left = left
+μ-loop span bottom apart reading₀ left₀ reading left = left
 
 pub edges-spec : {M : Type 1} → statement M
 edges-spec =
@@ -16,8 +16,12 @@ edges-spec =
     Inv-loop
     μ-loop
     (λ c. search needs)
+    (λ c. search needs)
     (λ c κs. search needs)
     (λ c κs. search needs)
+    (λ c κs. search needs)
+    (λ c κs. search needs)
+    (λ c. search needs)
     (λ c. search needs)
     (λ c. search needs)
     (λ c. search needs)
