@@ -78,6 +78,7 @@
 //!
 //! The package links libboard.a and libimages.a from the folder that the variable `STATICLIB_DIR` names, else from the
 //! repository's target/staticlib. Of an installed copy that folder is what `pkg-config --variable=libdir board` prints.
+//! For another processor it is target/cross/TRIPLE, which `tools/cross TRIPLE` writes.
 //! The package is `no_std` and has no other dependency; counts go to the library as 64 bits on every target.
 
 #![no_std]
