@@ -16,6 +16,7 @@
 #ifndef BOARD_H
 #define BOARD_H
 
+#include <stddef.h>
 #include <stdint.h>
 
 #ifdef __cplusplus
@@ -297,6 +298,34 @@ BOARD_HAS_WORDS(board_selection_t, 19);
 BOARD_HAS_WORDS(board_lengths_t, 3);
 BOARD_HAS_WORDS(board_choice_t, 2);
 BOARD_HAS_WORDS(board_deadline_t, 2);
+
+/* And that a part stands at the word that the entries look at. */
+#define BOARD_STANDS_AT(type, field, word) \
+    typedef char type##_##field##_in_its_place[offsetof(type, field) == (word) * sizeof(uint64_t) ? 1 : -1]
+
+BOARD_STANDS_AT(board_record_t, runtime_kind, 11);
+BOARD_STANDS_AT(board_record_t, runtime, 12);
+BOARD_STANDS_AT(board_record_t, turn, 16);
+BOARD_STANDS_AT(board_record_t, left, 17);
+BOARD_STANDS_AT(board_record_t, right, 19);
+BOARD_STANDS_AT(board_record_t, height, 21);
+BOARD_STANDS_AT(board_record_t, previous, 22);
+BOARD_STANDS_AT(board_record_t, next, 24);
+BOARD_STANDS_AT(board_record_t, membership, 26);
+BOARD_STANDS_AT(board_record_t, cpu, 29);
+BOARD_STANDS_AT(board_candidate_t, pass_high, 12);
+BOARD_STANDS_AT(board_candidate_t, has_time, 14);
+BOARD_STANDS_AT(board_candidate_t, turn, 16);
+BOARD_STANDS_AT(board_window_t, has_epoch, 8);
+BOARD_STANDS_AT(board_window_t, floor_left_ns, 11);
+BOARD_STANDS_AT(board_key_t, turn, 8);
+BOARD_STANDS_AT(board_ready_t, turn, 8);
+BOARD_STANDS_AT(board_selection_t, policy, 9);
+BOARD_STANDS_AT(board_selection_t, demand, 11);
+BOARD_STANDS_AT(board_selection_t, has_pass, 16);
+BOARD_STANDS_AT(board_turns_t, front, 1);
+BOARD_STANDS_AT(board_choice_t, to_front, 1);
+BOARD_STANDS_AT(board_deadline_t, at_ns, 1);
 
 /* ---- initialisers ---- */
 

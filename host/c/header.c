@@ -1,6 +1,7 @@
 /* That include/board.h is what it says, in C99, C11, C++11 and C++17: each field of its structs has the place of the
- * word that the Rattle sources name so (host/c/run takes those numbers from crates/ into words.h), each initialiser
- * gives the same record as its function, every refusal has its name, and the archive has the header's version. Prints
+ * word that the Rattle sources name so (host/c/run takes those numbers from crates/ into words.h), each choice has the
+ * number by which the archive goes, each initialiser gives the same record as its function, every refusal has its name,
+ * and the archive has the header's version. Prints
  * what is wrong, and how much was asked; the exit status is 0 where nothing is wrong. */
 #include <inttypes.h>
 #include <stddef.h>
@@ -260,8 +261,81 @@ static void others(void)
     ask("turns", turns.back == UINT64_C(1) << 63 && turns.front == UINT64_C(1) << 63);
 }
 
+/* ---- choices: each policy, role, backend and mode is what the archive takes for it ---- */
+
+/* How many threads are queued once this one is. */
+static board_lengths_t queued(board_record_t record, uint64_t *refusal)
+{
+    static board_queue_t queue;
+    static board_path_t path;
+    board_lengths_t lengths;
+    board_new(&queue);
+    *refusal = board_enqueue(&queue, &record, 1, &path, 0, 0);
+    board_lengths(&queue, &lengths);
+    return lengths;
+}
+
+static void policies(void)
+{
+    uint64_t refusal;
+    board_lengths_t of = queued(board_fifo(1, BOARD_ROLE_ORDINARY), &refusal);
+    ask("policy FIFO", of.fifo == 1 && of.fair_and_budget == 0);
+    of = queued(board_fair(BOARD_BACKEND_STRIDE, BOARD_USUAL_WEIGHT, 4000000, BOARD_ROLE_ORDINARY), &refusal);
+    ask("policy Fair", of.fifo == 0 && of.fair_and_budget == 1 && of.budget == 0);
+    of = queued(board_budget(2000000, 10000000, 1000000, BOARD_ROLE_PROTECTED), &refusal);
+    ask("policy Budget", of.fifo == 0 && of.fair_and_budget == 1 && of.budget == 1);
+    of = queued(board_idle(), &refusal);
+    ask("policy Idle", refusal == BOARD_BAD_STATE && of.fifo == 0 && of.fair_and_budget == 0);
+}
+
+/* The key of a running thread at 7 ms of a period of 10, when protection is due where the demand asks for it. */
+static board_key_t key_of(board_record_t record, uint64_t protection, uint64_t fair)
+{
+    const board_config_t config = board_config(10000000, 2000000, 3000000);
+    const board_demand_t demand = {protection, fair, fair, 0, 1};
+    board_window_t window;
+    board_candidate_t candidate;
+    board_key_t key;
+    memset(&candidate, 0, sizeof candidate);
+    board_window(&window, &config);
+    board_candidate(&record, 1, 0, 1, 7000000, &candidate);
+    board_key(&window, 7000000, &candidate, &demand, &key);
+    return key;
+}
+
+static void roles_and_modes(void)
+{
+    board_record_t sway = board_budget(2000000, 10000000, 1000000, BOARD_ROLE_PROTECTED);
+    board_key_t key = key_of(board_fifo(1, BOARD_ROLE_ORDINARY), 0, 1);
+    ask("role Ordinary, mode strict FIFO", key.urgency == 0 && key.mode == BOARD_MODE_STRICT_FIFO);
+    key = key_of(board_fifo(1, BOARD_ROLE_PRIORITY), 0, 1);
+    ask("role Priority, mode Priority",
+        key.urgency == 2 && key.rank == BOARD_USUAL_PRIORITY_RANK && key.mode == BOARD_MODE_PRIORITY);
+    key = key_of(sway, 1, 1);
+    ask("role and mode Protected", key.urgency == 1 && key.mode == BOARD_MODE_PROTECTED);
+    sway.runtime.budget.has_epoch = 1;
+    sway.runtime.budget.time_left_ns = 0;
+    key = key_of(sway, 0, 0);
+    ask("mode Borrow", key.rank == BOARD_USUAL_BORROW_RANK && key.mode == BOARD_MODE_BORROW);
+}
+
+static void backends(void)
+{
+    board_record_t log = board_fair(BOARD_BACKEND_STRIDE, BOARD_USUAL_WEIGHT, 4000000, BOARD_ROLE_ORDINARY);
+    board_key_t key;
+    log.runtime.fair.pass_low = 5;
+    log.turn = 7;
+    key = key_of(log, 0, 1);
+    ask("backend Stride, mode Ordinary", key.algorithm_low == 5 && key.mode == BOARD_MODE_ORDINARY);
+    log.parameters.backend = BOARD_BACKEND_ROUND_ROBIN;
+    ask("backend round robin", key_of(log, 0, 1).algorithm_low == 7);
+}
+
 int main(void)
 {
+    policies();
+    roles_and_modes();
+    backends();
     names();
     records();
     functions();

@@ -2,7 +2,7 @@
 
 use crate::choices::Policy;
 use crate::record::{present, whole};
-use crate::window::Demand;
+use crate::window::{Demand, key_parts};
 use crate::words::{
     self, BACK_TURN, BUDGET_LENGTH, ChoiceWords, FAIR_LENGTH, FRONT_TURN, KEY_ALGORITHM_RANK,
     KEY_BAND, KEY_HIGH, KEY_LOW, KEY_RANK, KEY_TURN, KEY_URGENCY, LengthWords, MIN_PASS_HIGH,
@@ -76,35 +76,7 @@ impl Ready {
         self.0[SELECTED_PRIORITY] as u8
     }
 
-    /// Its key's urgency; [`Key`](crate::Key) says what the parts of a key are.
-    pub const fn urgency(&self) -> u8 {
-        self.0[KEY_URGENCY] as u8
-    }
-
-    /// Its key's rank.
-    pub const fn rank(&self) -> u8 {
-        self.0[KEY_RANK] as u8
-    }
-
-    /// Its key's algorithm rank.
-    pub const fn algorithm_rank(&self) -> u8 {
-        self.0[KEY_ALGORITHM_RANK] as u8
-    }
-
-    /// Its key's algorithm.
-    pub const fn algorithm(&self) -> u128 {
-        whole(self.0[KEY_HIGH], self.0[KEY_LOW])
-    }
-
-    /// Its key's band.
-    pub const fn band(&self) -> u8 {
-        self.0[KEY_BAND] as u8
-    }
-
-    /// Its key's turn.
-    pub const fn turn(&self) -> u64 {
-        self.0[KEY_TURN]
-    }
+    key_parts!();
 }
 
 /// What the switch rule says of the running thread. By [`switch`](crate::switch).

@@ -173,6 +173,43 @@ impl Demand {
     }
 }
 
+/// The parts of a key, in the words of a key and of a selection at the same places.
+macro_rules! key_parts {
+    () => {
+        /// 0 of strict FIFO, 1 where protection is due, else 2.
+        pub const fn urgency(&self) -> u8 {
+            self.0[KEY_URGENCY] as u8
+        }
+
+        /// The rank, of [`Ranks`](crate::Ranks).
+        pub const fn rank(&self) -> u8 {
+            self.0[KEY_RANK] as u8
+        }
+
+        /// 0 of FIFO, 1 of Fair, 2 of Budget.
+        pub const fn algorithm_rank(&self) -> u8 {
+            self.0[KEY_ALGORITHM_RANK] as u8
+        }
+
+        /// The priority of FIFO, the pass of Stride, else the turn.
+        pub const fn algorithm(&self) -> u128 {
+            whole(self.0[KEY_HIGH], self.0[KEY_LOW])
+        }
+
+        /// The band.
+        pub const fn band(&self) -> u8 {
+            self.0[KEY_BAND] as u8
+        }
+
+        /// The turn.
+        pub const fn turn(&self) -> u64 {
+            self.0[KEY_TURN]
+        }
+    };
+}
+
+pub(crate) use key_parts;
+
 /// A running thread's key under a demand and a window, by [`key`](crate::key). Keys compare as urgency, rank, algorithm
 /// rank, algorithm, band, turn; the least comes first.
 #[derive(Clone, Copy, Debug, PartialEq, Eq)]
@@ -188,35 +225,7 @@ impl Key {
         Mode::from_word(self.0[KEY_MODE])
     }
 
-    /// 0 of strict FIFO, 1 where protection is due, else 2.
-    pub const fn urgency(&self) -> u8 {
-        self.0[KEY_URGENCY] as u8
-    }
-
-    /// The rank, of [`Ranks`].
-    pub const fn rank(&self) -> u8 {
-        self.0[KEY_RANK] as u8
-    }
-
-    /// 0 of FIFO, 1 of Fair, 2 of Budget.
-    pub const fn algorithm_rank(&self) -> u8 {
-        self.0[KEY_ALGORITHM_RANK] as u8
-    }
-
-    /// The priority of FIFO, the pass of Stride, else the turn.
-    pub const fn algorithm(&self) -> u128 {
-        whole(self.0[KEY_HIGH], self.0[KEY_LOW])
-    }
-
-    /// The band.
-    pub const fn band(&self) -> u8 {
-        self.0[KEY_BAND] as u8
-    }
-
-    /// The turn.
-    pub const fn turn(&self) -> u64 {
-        self.0[KEY_TURN]
-    }
+    key_parts!();
 
     /// The key of any words ([`words`](crate::words)), where they say that there is one.
     pub const fn from_words(words: KeyWords) -> Option<Self> {
