@@ -2,16 +2,17 @@
  * the core works on as bytes. C99 and C++11. docs/BOARD.md has how a board uses it, host/c/cycle.c a board's main loop.
  *
  * The board keeps everything and lends it for the time of one call: a queue, a table with a record for each thread, a
- * window, two turn counters. The core keeps nothing between calls, allocates nothing, and every call ends. Times are
- * nanoseconds of one clock that the board chooses.
+ * window, two turn counters, a lift record. The core keeps nothing between calls, allocates nothing, and every call
+ * ends. Times are nanoseconds of one clock that the board chooses.
  *
  * Every call but board_version answers 0 (BOARD_MADE) where it was made, else one of the refusals below. Any words are
  * taken, whatever they are: a flag is set where its word is not 0, a byte is its word's remainder by 256, a number
  * beyond the last of a choice stands for the last.
  *
- * Asked of the caller: each address is that of a whole struct, the table's of as many records as the count says (it is
- * an aligned address and not null also where the count is 0); what is lent to one call does not overlap, unless the
- * call changes none of it; and one queue and its table are lent to one call at a time.
+ * Asked of the caller: each address is that of a whole struct, the table's of as many records and a lift record's of as
+ * many words as the count says (it is an aligned address and not null also where the count is 0); what is lent to one
+ * call does not overlap, unless the call changes none of it; and one queue and its table are lent to one call at a
+ * time, as is a lift record while board_append changes it.
  */
 #ifndef BOARD_H
 #define BOARD_H
@@ -41,8 +42,10 @@ enum board_refusal {
     BOARD_BACK_IN_TIME = 7, /* accounting with the end before the start */
     BOARD_TURNS_SPENT = 8,  /* a turn counter is at its end */
     BOARD_HALTED = 9,       /* the queue cannot go on: it is marked, and refuses each enqueue, removal and selection */
-    BOARD_BAD_TABLE = 10,   /* more than BOARD_MOST_RECORDS records; of an image, another count of bytes than it has */
-    BOARD_BAD_RECORD = 11   /* policy, budget and runtime disagree, or the budget is bad */
+    BOARD_BAD_TABLE = 10,   /* more than BOARD_MOST_RECORDS records; of an image, another count of bytes than it has;
+                               of a lift record, no room for a run more */
+    BOARD_BAD_RECORD = 11,  /* policy, budget and runtime disagree, or the budget is bad */
+    BOARD_RECORD_ORDER = 12 /* of a lift record: its words are not whole runs, or its runs are out of order */
 };
 
 /* The refusal's name, for a message. */
@@ -61,6 +64,7 @@ static inline const char *board_refusal_name(uint64_t refusal)
     case BOARD_HALTED: return "Halted";
     case BOARD_BAD_TABLE: return "BadTable";
     case BOARD_BAD_RECORD: return "BadRecord";
+    case BOARD_RECORD_ORDER: return "RecordOrder";
     default: return "unknown";
     }
 }
@@ -215,6 +219,15 @@ typedef struct board_turns_t {
     uint64_t front;
 } board_turns_t;
 
+/* One run of a lift record: from which reading to which a thread ran. A run may have the length 0. */
+typedef struct board_run_t {
+    uint64_t start;
+    uint64_t end;
+    uint64_t thread; /* its number; no call looks at it */
+} board_run_t;
+
+#define BOARD_RUN_WORDS 3
+
 /* ---- what is answered ---- */
 
 /* Why a thread comes where it does. Keys compare by urgency, rank, algorithm rank, algorithm, band and turn, in this
@@ -280,6 +293,19 @@ typedef struct board_deadline_t {
     uint64_t at_ns;
 } board_deadline_t;
 
+/* A part of a lift record, in runs. */
+typedef struct board_place_t {
+    uint64_t first; /* the number of its first run; of an empty part, of the run that it lies before */
+    uint64_t count; /* how many runs it has */
+} board_place_t;
+
+/* What a slide answers. */
+typedef struct board_slid_t {
+    uint64_t first; /* as of a place */
+    uint64_t count;
+    uint64_t afresh; /* whether it searched, since it could not go on from the earlier place: 1 or 0 */
+} board_slid_t;
+
 /* The entries take each of these as so many words with nothing between them: asked here at compile time. */
 #define BOARD_HAS_WORDS(type, words) \
     typedef char type##_has_its_words[sizeof(type) == (words) * sizeof(uint64_t) ? 1 : -1]
@@ -291,6 +317,7 @@ BOARD_HAS_WORDS(board_candidate_t, 32);
 BOARD_HAS_WORDS(board_config_t, 8);
 BOARD_HAS_WORDS(board_window_t, 12);
 BOARD_HAS_WORDS(board_turns_t, 2);
+BOARD_HAS_WORDS(board_run_t, BOARD_RUN_WORDS);
 BOARD_HAS_WORDS(board_key_t, 9);
 BOARD_HAS_WORDS(board_ready_t, 9);
 BOARD_HAS_WORDS(board_demand_t, 5);
@@ -298,6 +325,8 @@ BOARD_HAS_WORDS(board_selection_t, 19);
 BOARD_HAS_WORDS(board_lengths_t, 3);
 BOARD_HAS_WORDS(board_choice_t, 2);
 BOARD_HAS_WORDS(board_deadline_t, 2);
+BOARD_HAS_WORDS(board_place_t, 2);
+BOARD_HAS_WORDS(board_slid_t, 3);
 
 /* And that a part stands at the word that the entries look at. */
 #define BOARD_STANDS_AT(type, field, word) \
@@ -324,8 +353,13 @@ BOARD_STANDS_AT(board_selection_t, policy, 9);
 BOARD_STANDS_AT(board_selection_t, demand, 11);
 BOARD_STANDS_AT(board_selection_t, has_pass, 16);
 BOARD_STANDS_AT(board_turns_t, front, 1);
+BOARD_STANDS_AT(board_run_t, end, 1);
+BOARD_STANDS_AT(board_run_t, thread, 2);
 BOARD_STANDS_AT(board_choice_t, to_front, 1);
 BOARD_STANDS_AT(board_deadline_t, at_ns, 1);
+BOARD_STANDS_AT(board_place_t, count, 1);
+BOARD_STANDS_AT(board_slid_t, count, 1);
+BOARD_STANDS_AT(board_slid_t, afresh, 2);
 
 /* ---- initialisers ---- */
 
@@ -522,6 +556,53 @@ uint64_t board_deadline(board_record_t *table, uint64_t count, uint64_t thread, 
  * Refused: BadTable, BadConfig, NoThread, BadRecord, BackInTime, then nothing is changed. */
 uint64_t board_account(board_record_t *table, uint64_t count, uint64_t thread, board_window_t *window, uint64_t mode,
                        uint64_t start_ns, uint64_t end_ns);
+
+/* ---- the lift record ---- */
+
+/* Who ran when: a list of runs in the board's own memory. A list is in order where each run's end is at least its start
+ * and each start at least the end of the run before; the first start is free, and a thread may be any number.
+ *
+ * A list goes to the calls as its words, BOARD_RUN_WORDS a run, and their count, since a count that is no whole number
+ * of runs is one of the things that are refused. Of a list of board_run_t:
+ *
+ *     static board_run_t list[ROOM];
+ *     board_append((uint64_t *)list, BOARD_RUN_WORDS * ROOM, runs, start, end, thread);
+ *     board_lift((const uint64_t *)list, BOARD_RUN_WORDS * runs, now_ns, width_ns, &place);
+ *
+ * The part is then the place.count runs from list[place.first] on; where the board's own list is one of words, the
+ * BOARD_RUN_WORDS * place.count words from list + BOARD_RUN_WORDS * place.first on. It stands in the list itself,
+ * nothing is copied. */
+
+/* The runs whose end lies after `now_ns` less `width_ns` (after 0 where that is negative) and whose start lies before
+ * `now_ns`: all of them and only these, by their place. A width of 0 finds the run that goes on at `now_ns`. An empty
+ * part lies at the first run with such an end, also where that run starts at `now_ns` or later, else behind the last
+ * run. A board calls it for a list that it did not make by board_append, since it judges every run. Changes the place.
+ * Refused: RecordOrder, before anything else, where the words are not whole runs or any run of the list is out of
+ * order: then the place is 0, 0. */
+uint64_t board_lift(const uint64_t *list, uint64_t words, uint64_t now_ns, uint64_t width_ns, board_place_t *place);
+
+/* The same, in the steps of two halvings, for a list whose first `ordered` runs are known to be in order (`ordered` may
+ * be more than there are): only the runs behind these are judged, with how they follow the run before them. A board
+ * calls it for the list that it makes by board_append, with the count of its runs as `ordered`. Where those runs are
+ * not in order after all, the answer is some place within the list. Changes the place. Refused: RecordOrder, where the
+ * words are not whole runs or a run from run `ordered` on is out of order: then the place is 0, 0. */
+uint64_t board_lift_from(const uint64_t *list, uint64_t words, uint64_t ordered, uint64_t now_ns, uint64_t width_ns,
+                         board_place_t *place);
+
+/* What board_lift answers at `now_ns`, from the place of an earlier reading with the same width: `first` and `count`
+ * are what was answered at `earlier_ns`, and may be any two numbers. `afresh` is set exactly where `now_ns` is before
+ * `earlier_ns`, or where the place is not what board_lift answers at `earlier_ns` in this list; else the place is moved
+ * on run by run. A run that is recorded later, but began before `earlier_ns`, changes that reading's place: over a list
+ * that grows a slide is often afresh (docs/BOARD.md). A board calls it for a stretch that moves over a list that is
+ * complete. Changes the answer. Refused as board_lift: then the answer is 0, 0, 0. */
+uint64_t board_slide(const uint64_t *list, uint64_t words, uint64_t width_ns, uint64_t earlier_ns, uint64_t first,
+                     uint64_t count, uint64_t now_ns, board_slid_t *slid);
+
+/* Records a run behind the first `runs` of a list, which are all that it has so far; `words` is the room of the whole
+ * list. A board calls it whenever a run has ended. The runs before are not judged, but for the end of the last of them.
+ * Changes the words of run number `runs`. Refused: BadTable, where the list has no room for it; RecordOrder, where
+ * `end` is before `start` or `start` before the end of the run before: then nothing is changed. */
+uint64_t board_append(uint64_t *list, uint64_t words, uint64_t runs, uint64_t start, uint64_t end, uint64_t thread);
 
 /* ---- images ---- */
 

@@ -10,7 +10,11 @@
  * is answered, a row's parameters, processor or spare words changed, those of a root's row in the queue too, a part of
  * a row (a link, say) that is neither as it was nor an encoding, and a row changed that the call has nothing to do
  * with: of a queue's call one that no link leads to from the queue or the named thread, of the others any but the named
- * thread's. The table of answers is printed; the last line is `fuzz: N calls, 0 faults`, and the exit status then 0.
+ * thread's. Lift records have 0 to some hundred runs, in order or not, in words that may be no whole runs; every answer
+ * of theirs is judged by document 02's sentences over all runs: 12 or 10 exactly where it is due, a part that has all
+ * runs that it is to have and no other, an empty one in its place, afresh exactly where it is to be, zeros with 12, and
+ * of a recorded run its three words and no other. The table of answers is printed; the last line is
+ * `fuzz: N calls, 0 faults`, and the exit status then 0.
  *
  * A seed gives the same calls and the same table on every compiler and target: no expression draws two random numbers
  * whose order the language leaves open. */
@@ -32,13 +36,14 @@
 #define WORDS(type) (sizeof(type) / sizeof(uint64_t))
 #define WORD(type, field) (offsetof(type, field) / sizeof(uint64_t))
 
-enum { ANSWERS = 13, SHOWN = 20, WATCHED = 64, PAGE = 4096 };
+enum { ANSWERS = 14, SHOWN = 20, WATCHED = 64, PAGE = 4096 };
 
 enum { QUEUE_WORDS = WORDS(board_queue_t), PATH_WORDS = WORDS(board_path_t), ROW_WORDS = WORDS(board_record_t),
        WINDOW_WORDS = WORDS(board_window_t), CONFIG_WORDS = WORDS(board_config_t), TURN_WORDS = WORDS(board_turns_t),
        SELECTION_WORDS = WORDS(board_selection_t), KEY_WORDS = WORDS(board_key_t),
        DEMAND_WORDS = WORDS(board_demand_t), LENGTH_WORDS = WORDS(board_lengths_t),
-       CHOICE_WORDS = WORDS(board_choice_t), DEADLINE_WORDS = WORDS(board_deadline_t), FLAG_WORDS = 1 };
+       CHOICE_WORDS = WORDS(board_choice_t), DEADLINE_WORDS = WORDS(board_deadline_t), FLAG_WORDS = 1,
+       PLACE_WORDS = WORDS(board_place_t), SLID_WORDS = WORDS(board_slid_t) };
 
 /* Words of a thread's row, at which its parts begin. */
 enum { RUNTIME = WORD(board_record_t, runtime_kind), LEFT = WORD(board_record_t, left),
@@ -92,10 +97,10 @@ struct lent {
     uint64_t before; /* the words' hash before the call */
 };
 
-static struct lent queue, path, table, window, config, turns, current, demand, key, ready, answer;
+static struct lent queue, path, table, window, config, turns, current, demand, key, ready, answer, list;
 
 static struct lent *const all[] = {&queue, &path, &table, &window, &config, &turns, &current, &demand, &key, &ready,
-                                   &answer};
+                                   &answer, &list};
 
 static void make_room(struct lent *thing, size_t words)
 {
@@ -141,6 +146,10 @@ static bool unchanged(const struct lent *thing)
 /* The table's rows and the queue's before the call. */
 static uint64_t rows_before[BOARD_MOST_RECORDS + 1][ROW_WORDS];
 static uint64_t queue_before[BOARD_QUEUE_ROWS][BOARD_QUEUE_ROW_WORDS];
+
+/* The same of a lift record, which has so many runs at most, and at times words behind them. */
+enum { MOST_RUNS = 400 };
+static board_run_t list_before[MOST_RUNS + 1];
 
 /* None has no number. */
 static bool option_encodes(const uint64_t *w)
@@ -341,6 +350,43 @@ static void begin_of_any_kind(void)
     }
 }
 
+/* A lift record: its runs, how many words it has room for, and how many runs are recorded. */
+static board_run_t own_list[MOST_RUNS + 1];
+static size_t own_room;
+static uint64_t own_runs;
+
+/* The last part that was found: of which reading and width, and its place. */
+static uint64_t last_ns, last_width;
+static board_place_t last_place;
+
+/* A little later or at once, and not beyond the greatest reading. */
+static uint64_t after(uint64_t time)
+{
+    uint64_t step = one_in(2) ? 0 : below(5);
+    return time > UINT64_MAX - step ? UINT64_MAX : time + step;
+}
+
+/* In words, at times no whole number of runs. */
+static size_t list_room(void)
+{
+    uint64_t runs = one_in(16) ? below(MOST_RUNS) : below(12);
+    uint64_t rest = one_in(4) ? below(BOARD_RUN_WORDS) : 0;
+    return (size_t)(runs * BOARD_RUN_WORDS + rest);
+}
+
+/* Some runs in order, from about 0, the clock or near the greatest reading on; behind them words of any kind. */
+static void begin_list(void)
+{
+    uint64_t time = one_in(2) ? below(4) : one_in(2) ? now_ns : UINT64_MAX - below(40);
+    own_room = list_room();
+    own_runs = below(own_room / BOARD_RUN_WORDS + 1);
+    fill(words_of(own_list), own_room);
+    for (uint64_t i = 0; i < own_runs; i++) {
+        own_list[i].start = time = after(time);
+        own_list[i].end = time = after(time);
+    }
+}
+
 /* A new round: a new queue over sound records, or words of any kind. */
 static void begin_round(void)
 {
@@ -354,6 +400,7 @@ static void begin_round(void)
     fill(words_of(&own_key), KEY_WORDS);
     fill(words_of(&own_demand), DEMAND_WORDS);
     fill(words_of(&own_selection), SELECTION_WORDS);
+    begin_list();
     if (of_any_kind) {
         begin_of_any_kind();
     }
@@ -397,6 +444,17 @@ static void damage_turns(void)
     words_of(&own_turns)[its_word] = one_in(2) ? near_end : ~near_end;
 }
 
+/* A word overwritten or a bit of it turned; or the list begun anew, so that a round goes on. */
+static void damage_list(void)
+{
+    if (own_room == 0 || one_in(2)) {
+        begin_list();
+        return;
+    }
+    uint64_t *word = words_of(own_list) + below(own_room);
+    *word = one_in(2) ? *word ^ UINT64_C(1) << below(64) : one_in(2) ? *word + below(9) - 4 : number();
+}
+
 /* The mark of a halted queue is taken away at times, so that a round goes on. */
 static void damage(void)
 {
@@ -413,6 +471,9 @@ static void damage(void)
         damage_turns();
     }
     if (one_in(2)) {
+        damage_list();
+    }
+    if (one_in(2)) {
         *mark() = 0;
     }
 }
@@ -420,16 +481,17 @@ static void damage(void)
 /* ---- one call ---- */
 
 enum entry { NEW, ENQUEUE, FRONT, REMOVE, LENGTHS, WINDOW, SELECT, PREPARE, ACCOUNT, CANDIDATE, EXPIRED, FINISH, KEY,
-            SWITCH, DEADLINE, ENTRIES };
+            SWITCH, DEADLINE, LIFT, LIFT_FROM, SLIDE, APPEND, ENTRIES };
 
 static const char *const names[ENTRIES] = {"board_new", "board_enqueue", "board_enqueue_front", "board_remove",
                                            "board_lengths", "board_window", "board_select", "board_prepare",
                                            "board_account", "board_candidate", "board_expired", "board_finish",
-                                           "board_key", "board_switch", "board_deadline"};
+                                           "board_key", "board_switch", "board_deadline", "board_lift",
+                                           "board_lift_from", "board_slide", "board_append"};
 
 #define BIT(n) (1u << (n))
 
-/* The answers that document 01 has for each. */
+/* The answers that documents 01 and 02 have for each. */
 static const unsigned allowed[ENTRIES] = {
     BIT(0),
     BIT(0) | BIT(1) | BIT(2) | BIT(3) | BIT(4) | BIT(9) | BIT(10) | BIT(11),
@@ -446,10 +508,14 @@ static const unsigned allowed[ENTRIES] = {
     BIT(0) | BIT(5),
     BIT(0),
     BIT(0) | BIT(4) | BIT(5) | BIT(10) | BIT(11),
+    BIT(0) | BIT(12),
+    BIT(0) | BIT(12),
+    BIT(0) | BIT(12),
+    BIT(0) | BIT(10) | BIT(12),
 };
 
 /* What an entry is lent. */
-enum { LENDS_QUEUE = 1, LENDS_TABLE = 2, LENDS_WINDOW = 4, NAMES_A_THREAD = 8 };
+enum { LENDS_QUEUE = 1, LENDS_TABLE = 2, LENDS_WINDOW = 4, NAMES_A_THREAD = 8, LENDS_LIST = 16 };
 
 static const unsigned lends[ENTRIES] = {
     LENDS_QUEUE,
@@ -467,6 +533,10 @@ static const unsigned lends[ENTRIES] = {
     LENDS_WINDOW,
     0,
     LENDS_TABLE | LENDS_WINDOW | NAMES_A_THREAD,
+    LENDS_LIST,
+    LENDS_LIST,
+    LENDS_LIST,
+    LENDS_LIST,
 };
 
 static uint64_t counts[ENTRIES][ANSWERS];
@@ -506,10 +576,89 @@ static bool is_halted(void)
     return *mark() != 0;
 }
 
-/* Document 01's refusals that come before all others, in its order; 0 where none holds. */
+/* ---- a lift record by document 02, sentence by sentence over all runs ---- */
+
+/* What is asked of the list. */
+static struct {
+    uint64_t words; /* how many of the list are lent */
+    uint64_t runs;  /* how many are said to be in order, or to be recorded */
+    uint64_t now_ns, width_ns, earlier_ns;
+    board_place_t place; /* said to be the earlier reading's */
+    board_run_t run;     /* to be recorded */
+} asked;
+
+static const board_run_t *lent_runs(void)
+{
+    return (const board_run_t *)(const void *)list.at;
+}
+
+/* Each run's end is at least its start, and each start at least the end before it. */
+static bool in_order(const board_run_t *runs, uint64_t from, uint64_t to)
+{
+    for (uint64_t i = from; i < to; i++) {
+        if (runs[i].end < runs[i].start || (i > 0 && runs[i].start < runs[i - 1].end)) {
+            return false;
+        }
+    }
+    return true;
+}
+
+/* The first run that ends after a time, else the list's end. */
+static uint64_t first_after(const board_run_t *runs, uint64_t count, uint64_t time)
+{
+    uint64_t i = 0;
+    while (i < count && runs[i].end <= time) {
+        i++;
+    }
+    return i;
+}
+
+/* Whether a place has all runs that end after the reading less the width and start before the reading, and no other; an
+   empty one lies at the first run with such an end. */
+static bool is_part(const board_run_t *runs, uint64_t count, board_place_t of, uint64_t now, uint64_t width)
+{
+    uint64_t since = now < width ? 0 : now - width;
+    if (of.first > count || of.count > count - of.first) {
+        return false;
+    }
+    for (uint64_t i = 0; i < count; i++) {
+        bool inside = of.first <= i && i - of.first < of.count;
+        if (inside != (runs[i].end > since && runs[i].start < now)) {
+            return false;
+        }
+    }
+    return of.count != 0 || of.first == first_after(runs, count, since);
+}
+
+/* How many runs the call may take to be in order without looking. */
+static uint64_t taken_for_ordered(uint64_t count)
+{
+    return entry != LIFT_FROM ? 0 : asked.runs < count ? asked.runs : count;
+}
+
+/* The refusals of a lift record; 0 where none holds. */
+static uint64_t due_of_list(void)
+{
+    const board_run_t *runs = lent_runs(), *run = &asked.run;
+    uint64_t count = list.words / BOARD_RUN_WORDS;
+    if (entry != APPEND) {
+        bool whole = list.words % BOARD_RUN_WORDS == 0;
+        return whole && in_order(runs, taken_for_ordered(count), count) ? 0 : BOARD_RECORD_ORDER;
+    }
+    if (asked.runs >= count) {
+        return BOARD_BAD_TABLE;
+    }
+    bool follows = asked.runs == 0 || runs[asked.runs - 1].end <= run->start;
+    return follows && run->start <= run->end ? 0 : BOARD_RECORD_ORDER;
+}
+
+/* Document 01's refusals that come before all others, in its order, and those of a lift record; 0 where none holds. */
 static uint64_t due(void)
 {
     unsigned its = lends[entry];
+    if (its & LENDS_LIST) {
+        return due_of_list();
+    }
     if ((its & LENDS_TABLE) && rows > BOARD_MOST_RECORDS) {
         return BOARD_BAD_TABLE;
     }
@@ -562,6 +711,66 @@ static uint64_t start_before(uint64_t end)
     return one_in(8) ? number() : end - (end == 0 ? 0 : below(end < 2 * period ? end + 1 : 2 * period));
 }
 
+/* A reading at an edge of a run of the own list or beside it, or any. */
+static uint64_t list_reading(void)
+{
+    if (own_runs == 0 || one_in(8)) {
+        return number();
+    }
+    const board_run_t *run = &own_list[below(own_runs)];
+    uint64_t edge = one_in(2) ? run->start : run->end;
+    return edge + below(3) - 1;
+}
+
+/* The number as it was, one more or less, or any. */
+static uint64_t about(uint64_t was)
+{
+    return one_in(8) ? number() : one_in(8) ? was + below(3) - 1 : was;
+}
+
+/* A slide is mostly asked for with the last part's reading, width and place, and goes on from there. */
+static void ask_for_part(void)
+{
+    asked.earlier_ns = about(last_ns);
+    asked.place.first = about(last_place.first);
+    asked.place.count = about(last_place.count);
+    asked.now_ns = list_reading();
+    asked.width_ns = one_in(8) ? number() : below(12);
+    if (entry == SLIDE && !one_in(8)) {
+        asked.width_ns = last_width;
+    }
+    if (entry == SLIDE && one_in(2)) {
+        asked.now_ns = after(asked.earlier_ns);
+    }
+}
+
+/* A run that follows the one before it, mostly. */
+static void ask_to_record(void)
+{
+    bool has_one_before = asked.runs != 0 && asked.runs <= own_room / BOARD_RUN_WORDS;
+    uint64_t since = has_one_before ? own_list[asked.runs - 1].end : 0;
+    asked.run.start = about(after(since));
+    asked.run.end = about(after(asked.run.start));
+    asked.run.thread = number();
+}
+
+/* A full list is begun anew at times, so that runs are recorded. */
+static void ask_of_list(void)
+{
+    uint64_t room = own_room / BOARD_RUN_WORDS;
+    if (entry == APPEND && own_runs == room && !one_in(4)) {
+        begin_list();
+        room = own_room / BOARD_RUN_WORDS;
+    }
+    asked.runs = one_in(4) ? below(room + 2) : about(own_runs);
+    asked.words = entry == APPEND ? own_room : one_in(8) ? below(own_room + 1) : BOARD_RUN_WORDS * own_runs;
+    if (entry == APPEND) {
+        ask_to_record();
+    } else {
+        ask_for_part();
+    }
+}
+
 /* What the next call is handed beside what is lent to it. */
 struct numbers {
     uint8_t cpu;
@@ -590,6 +799,19 @@ static struct numbers drawn(void)
     return with;
 }
 
+static uint64_t made_on_list(void)
+{
+    const board_run_t *run = &asked.run;
+    board_place_t *place = (board_place_t *)(void *)answer.at;
+    switch (entry) {
+    case LIFT: return board_lift(list.at, list.words, asked.now_ns, asked.width_ns, place);
+    case LIFT_FROM: return board_lift_from(list.at, list.words, asked.runs, asked.now_ns, asked.width_ns, place);
+    case SLIDE: return board_slide(list.at, list.words, asked.width_ns, asked.earlier_ns, asked.place.first,
+                                   asked.place.count, asked.now_ns, (board_slid_t *)(void *)answer.at);
+    default: return board_append(list.at, list.words, asked.runs, run->start, run->end, run->thread);
+    }
+}
+
 static uint64_t made(struct numbers with)
 {
     board_queue_t *q = (board_queue_t *)(void *)queue.at;
@@ -616,8 +838,9 @@ static uint64_t made(struct numbers with)
     case KEY: return board_key(w, now_ns, c, d, k);
     case SWITCH: return board_switch((board_ready_t *)(void *)ready.at, k, c, with.first, with.second, with.third,
                                      (board_choice_t *)o);
-    default: return board_deadline(t, rows, id, now_ns, k, w, with.first, with.second, with.third, d,
-                                   (board_deadline_t *)o);
+    case DEADLINE: return board_deadline(t, rows, id, now_ns, k, w, with.first, with.second, with.third, d,
+                                         (board_deadline_t *)o);
+    default: return made_on_list();
     }
 }
 
@@ -628,6 +851,8 @@ static size_t answer_length(void)
     case SELECT: return SELECTION_WORDS;
     case EXPIRED: return FLAG_WORDS;
     case SWITCH: return CHOICE_WORDS;
+    case LIFT: case LIFT_FROM: return PLACE_WORDS;
+    case SLIDE: return SLID_WORDS;
     default: return DEADLINE_WORDS;
     }
 }
@@ -645,6 +870,8 @@ static bool entry_lends(const struct lent *thing)
     case KEY: return thing == &window || thing == &current || thing == &demand || thing == &key;
     case SWITCH: return thing == &ready || thing == &key || thing == &current || thing == &answer;
     case DEADLINE: return thing == &key || thing == &window || thing == &demand || thing == &answer;
+    case LIFT: case LIFT_FROM: case SLIDE: return thing == &list || thing == &answer;
+    case APPEND: return thing == &list;
     default: return false;
     }
 }
@@ -667,6 +894,9 @@ static void take_back(const struct lent *thing, void *own, size_t length)
 /* What the entry may change, whatever it answers. */
 static bool may_change(const struct lent *thing)
 {
+    if (lends[entry] & LENDS_LIST) {
+        return thing == (entry == APPEND ? &list : &answer);
+    }
     if (thing == &path) {
         return entry == ENQUEUE || entry == FRONT || entry == REMOVE || entry == SELECT;
     }
@@ -778,11 +1008,61 @@ static void judge_answer(uint64_t got, uint64_t wanted)
     if (wanted != 0 && got != wanted) {
         fault("another answer is due first", wanted);
     }
-    if (wanted == 0 && (got == BOARD_BAD_TABLE || got == BOARD_BAD_CONFIG || got == BOARD_NO_THREAD)) {
+    if (wanted == 0 && (got == BOARD_BAD_TABLE || got == BOARD_BAD_CONFIG || got == BOARD_NO_THREAD
+                        || got == BOARD_RECORD_ORDER)) {
         fault("a refusal without its reason", got);
     }
     if (got == BOARD_HALTED && !is_halted()) {
         fault("a halt without its mark", got);
+    }
+}
+
+/* A part that was found. Where runs that were taken to be in order are not, it only lies within the list. */
+static void judge_part(const board_run_t *runs, uint64_t count)
+{
+    const board_place_t *found = (const board_place_t *)(const void *)answer.at;
+    bool within = found->first <= count && found->count <= count - found->first;
+    bool known = in_order(runs, 0, taken_for_ordered(count));
+    if (!within || (known && !is_part(runs, count, *found, asked.now_ns, asked.width_ns))) {
+        fault("another part than the reading's", found->first);
+    }
+}
+
+static void judge_slide(const board_run_t *runs, uint64_t count)
+{
+    const board_slid_t *slid = (const board_slid_t *)(const void *)answer.at;
+    bool earlier = is_part(runs, count, asked.place, asked.earlier_ns, asked.width_ns);
+    if (slid->afresh != (asked.now_ns < asked.earlier_ns || !earlier)) {
+        fault("afresh where it is not to be, or not where it is to be", slid->afresh);
+    }
+}
+
+/* The run stands in its place, and every other word is as it was. */
+static void judge_recorded(void)
+{
+    list_before[asked.runs] = asked.run;
+    if (memcmp(list_before, list.at, list.words * sizeof(uint64_t)) != 0) {
+        fault("another list than the one with this run more", asked.runs);
+    }
+}
+
+/* What a call on a list answers beside its number. That a refused run changes nothing is judged as of all calls. */
+static void judge_list(uint64_t got)
+{
+    uint64_t count = list.words / BOARD_RUN_WORDS;
+    if (entry == APPEND) {
+        if (got == BOARD_MADE) {
+            judge_recorded();
+        }
+    } else if (got != BOARD_MADE) {
+        if (!zeros(answer.at, answer.words)) {
+            fault("a refusal that leaves a place", answer.at[0]);
+        }
+    } else {
+        judge_part(lent_runs(), count);
+        if (entry == SLIDE) {
+            judge_slide(lent_runs(), count);
+        }
     }
 }
 
@@ -805,7 +1085,8 @@ static void judge_thing(size_t i, bool refused, bool leaves)
         return;
     }
     bool everywhere = thing != &queue && thing != &table;
-    bool kept = !may_change(thing) || leaves || (refused && everywhere);
+    bool zeroed = thing == &answer && (lends[entry] & LENDS_LIST) != 0 && entry != APPEND;
+    bool kept = !may_change(thing) || ((leaves || (refused && everywhere)) && !zeroed);
     if (kept && thing != &path && !unchanged(thing)) {
         fault("words that were to stay are changed", i);
     }
@@ -822,6 +1103,9 @@ static void judge(uint64_t got, uint64_t wanted, bool halted_before)
     }
     if ((lends[entry] & LENDS_QUEUE) && entry != NEW) {
         judge_queue();
+    }
+    if (lends[entry] & LENDS_LIST) {
+        judge_list(got);
     }
     bool refused = got != BOARD_MADE;
     bool leaves = refused && leaves_all(got, halted_before);
@@ -860,6 +1144,9 @@ static void choose_call(void)
     }
     id = a_thread();
     tick();
+    if (lends[entry] & LENDS_LIST) {
+        ask_of_list();
+    }
 }
 
 static void damage_config(void)
@@ -882,6 +1169,7 @@ static void lend_all(void)
     lent_to_entry(&ready, &own_selection.ready, KEY_WORDS);
     lent_to_entry(&answer, &own_selection, answer_length());
     lent_to_entry(&turns, &own_turns, TURN_WORDS);
+    lent_to_entry(&list, own_list, (size_t)asked.words);
 }
 
 /* What a thing is before the call, and the words beside it. */
@@ -908,6 +1196,22 @@ static void watch_all(void)
     if (lends[entry] & LENDS_QUEUE) {
         memcpy(queue_before, queue.at, sizeof queue_before);
     }
+    if (lends[entry] & LENDS_LIST) {
+        memcpy(list_before, list.at, list.words * sizeof(uint64_t));
+    }
+}
+
+/* The list goes on with a run that was recorded behind the others, and the next slide from the part that was found. */
+static void go_on_with_list(void)
+{
+    if (entry == APPEND) {
+        take_back(&list, own_list, own_room);
+        own_runs += asked.runs == own_runs;
+        return;
+    }
+    last_ns = asked.now_ns;
+    last_width = asked.width_ns;
+    memcpy(&last_place, answer.at, sizeof last_place);
 }
 
 static void take_all_back(void)
@@ -922,28 +1226,38 @@ static void take_all_back(void)
     }
 }
 
+/* Makes the call; whether it came back. By itself, so that no count of a loop is lost where it does not. */
+static bool came_back(struct numbers with, uint64_t *got)
+{
+    int signalled = sigsetjmp(out, 1);
+    if (signalled != 0) {
+        calling = 0;
+        fault(signalled == SIGALRM ? "it does not end" : "it crashes", (uint64_t)signalled);
+        return false;
+    }
+    calling = 1;
+    *got = made(with);
+    calling = 0;
+    return true;
+}
+
 static void call(void)
 {
     choose_call();
     lend_all();
     watch_all();
-    uint64_t wanted = due();
+    uint64_t got, wanted = due();
     bool halted_before = is_halted();
-    struct numbers with = drawn();
-    static volatile uint64_t got;
-    int signalled = sigsetjmp(out, 1);
-    if (signalled != 0) {
-        calling = 0;
-        fault(signalled == SIGALRM ? "it does not end" : "it crashes", (uint64_t)signalled);
+    if (!came_back(drawn(), &got)) {
         begin_round();
         return;
     }
-    calling = 1;
-    got = made(with);
-    calling = 0;
     counts[entry][got < ANSWERS - 1 ? got : ANSWERS - 1]++;
     judge(got, wanted, halted_before);
     take_all_back();
+    if ((lends[entry] & LENDS_LIST) && got == BOARD_MADE) {
+        go_on_with_list();
+    }
 }
 
 /* ---- the run ---- */

@@ -1,7 +1,7 @@
 /* That include/board.h is what it says, in C99, C11, C++11 and C++17: each field of its structs has the place of the
  * word that the Rattle sources name so (host/c/run takes those numbers from crates/ into words.h), each choice has the
- * number by which the archive goes, each initialiser gives the same record as its function, every refusal has its name,
- * and the archive has the header's version. Prints
+ * number by which the archive goes, the parts of a lift record are those that it takes and stores, each initialiser
+ * gives the same record as its function, every refusal has its name, and the archive has the header's version. Prints
  * what is wrong, and how much was asked; the exit status is 0 where nothing is wrong. */
 #include <inttypes.h>
 #include <stddef.h>
@@ -109,6 +109,17 @@ STANDS_AT(board_selection_t, pass_low, board_words_MIN_PASS_LOW);
 STANDS_AT(board_turns_t, back, board_words_BACK_TURN);
 STANDS_AT(board_turns_t, front, board_words_FRONT_TURN);
 
+STANDS_AT(board_run_t, start, lift_record_START);
+STANDS_AT(board_run_t, end, lift_record_END);
+STANDS_AT(board_run_t, thread, lift_record_THREAD);
+
+/* What crate lift_record stores begins with the number that the entries answer; the place stands behind it. */
+STANDS_AT(board_place_t, first, lift_record_FOUND_FIRST - 1);
+STANDS_AT(board_place_t, count, lift_record_FOUND_COUNT - 1);
+STANDS_AT(board_slid_t, first, lift_record_FOUND_FIRST - 1);
+STANDS_AT(board_slid_t, count, lift_record_FOUND_COUNT - 1);
+STANDS_AT(board_slid_t, afresh, lift_record_SLID_AFRESH - 1);
+
 /* How many words each has. */
 #define FILLS(type, words) typedef char JOINED(fills_, __LINE__)[sizeof(type) == (words) * sizeof(uint64_t) ? 1 : -1]
 
@@ -126,6 +137,10 @@ FILLS(board_selection_t, board_words_SELECTION_WORDS);
 FILLS(board_lengths_t, board_words_LENGTH_WORDS);
 FILLS(board_choice_t, board_words_CHOICE_WORDS);
 FILLS(board_deadline_t, policy_words_DEADLINE_WORDS);
+FILLS(board_run_t, lift_record_RUN_WORDS);
+FILLS(uint64_t[BOARD_RUN_WORDS], lift_record_RUN_WORDS);
+FILLS(board_place_t, lift_record_FOUND_WORDS - 1);
+FILLS(board_slid_t, lift_record_SLID_WORDS - 1);
 FILLS(uint64_t, board_words_FLAG_WORDS);
 
 /* An image has the bytes of its words. */
@@ -148,7 +163,8 @@ static void ask(const char *what, int holds)
 static void names(void)
 {
     static const char *const due[] = {"Made", "Damaged", "BadState", "Already", "NoThread", "BadConfig", "BadBudget",
-                                      "BackInTime", "TurnsSpent", "Halted", "BadTable", "BadRecord", "unknown"};
+                                      "BackInTime", "TurnsSpent", "Halted", "BadTable", "BadRecord", "RecordOrder",
+                                      "unknown"};
     for (uint64_t refusal = 0; refusal < sizeof due / sizeof *due; refusal++) {
         ask(due[refusal], strcmp(board_refusal_name(refusal), due[refusal]) == 0);
     }
@@ -331,11 +347,34 @@ static void backends(void)
     ask("backend round robin", key_of(log, 0, 1).algorithm_low == 7);
 }
 
+/* ---- the lift record: the parts of a run, a place and a slide are what the archive takes and stores ---- */
+
+static const board_run_t runs[] = {{0, 4, 0}, {4, 9, 1}, {10, 10, 2}, {12, 20, 0}};
+enum { ITS_RUNS = sizeof runs / sizeof *runs, ITS_WORDS = BOARD_RUN_WORDS * ITS_RUNS };
+
+static void lift_record(void)
+{
+    const uint64_t *words = (const uint64_t *)runs;
+    board_run_t list[ITS_RUNS];
+    board_place_t place;
+    board_slid_t slid;
+    memcpy(list, runs, sizeof list);
+    ask("a place", board_lift(words, ITS_WORDS, 10, 5, &place) == BOARD_MADE && place.first == 1 && place.count == 1);
+    ask("a slide that goes on", board_slide(words, ITS_WORDS, 5, 10, 1, 1, 15, &slid) == BOARD_MADE && slid.first == 3
+        && slid.count == 1 && slid.afresh == 0);
+    ask("a slide afresh", board_slide(words, ITS_WORDS, 5, 10, 0, 1, 15, &slid) == BOARD_MADE && slid.afresh == 1);
+    ask("a run", board_append((uint64_t *)list, ITS_WORDS, 3, 11, 14, 7) == BOARD_MADE && list[3].start == 11
+        && list[3].end == 14 && list[3].thread == 7);
+    ask("no room", board_append((uint64_t *)list, ITS_WORDS, ITS_RUNS, 14, 15, 0) == BOARD_BAD_TABLE);
+    ask("words that are no runs", board_lift(words, ITS_WORDS - 1, 10, 5, &place) == BOARD_RECORD_ORDER);
+}
+
 int main(void)
 {
     policies();
     roles_and_modes();
     backends();
+    lift_record();
     names();
     records();
     functions();

@@ -61,10 +61,62 @@ uint64_t __wrap_board_select(board_queue_t *queue, board_record_t *table, uint64
     }
     return got;
 }
+#elif PLANT == 9 || PLANT == 10
+/* At times the part has the run before it too (PLANT 9), or a refusal leaves the place as it was (10). */
+uint64_t __real_board_lift(const uint64_t *, uint64_t, uint64_t, uint64_t, board_place_t *);
+uint64_t __wrap_board_lift(const uint64_t *list, uint64_t words, uint64_t now_ns, uint64_t width_ns,
+                           board_place_t *place);
+uint64_t __wrap_board_lift(const uint64_t *list, uint64_t words, uint64_t now_ns, uint64_t width_ns,
+                           board_place_t *place)
+{
+    const board_place_t before = *place;
+    uint64_t got = __real_board_lift(list, words, now_ns, width_ns, place);
+    bool concerned = PLANT == 9 ? got == BOARD_MADE && place->first != 0 : got != BOARD_MADE;
+    if (!concerned || ++number % AT_TIMES != 0) {
+        return got;
+    }
+    if (PLANT == 9) {
+        place->first -= 1;
+        place->count += 1;
+    } else {
+        *place = before;
+    }
+    return got;
+}
+#elif PLANT == 11
+/* At times a slide that searched afresh does not say so. */
+uint64_t __real_board_slide(const uint64_t *, uint64_t, uint64_t, uint64_t, uint64_t, uint64_t, uint64_t,
+                            board_slid_t *);
+uint64_t __wrap_board_slide(const uint64_t *list, uint64_t words, uint64_t width_ns, uint64_t earlier_ns,
+                            uint64_t first, uint64_t count, uint64_t now_ns, board_slid_t *slid);
+uint64_t __wrap_board_slide(const uint64_t *list, uint64_t words, uint64_t width_ns, uint64_t earlier_ns,
+                            uint64_t first, uint64_t count, uint64_t now_ns, board_slid_t *slid)
+{
+    uint64_t got = __real_board_slide(list, words, width_ns, earlier_ns, first, count, now_ns, slid);
+    if (slid->afresh && ++number % AT_TIMES == 0) {
+        slid->afresh = 0;
+    }
+    return got;
+}
+#elif PLANT == 12
+/* At times a run that would stand out of order is refused and stored all the same. */
+uint64_t __real_board_append(uint64_t *, uint64_t, uint64_t, uint64_t, uint64_t, uint64_t);
+uint64_t __wrap_board_append(uint64_t *list, uint64_t words, uint64_t runs, uint64_t start, uint64_t end,
+                             uint64_t thread);
+uint64_t __wrap_board_append(uint64_t *list, uint64_t words, uint64_t runs, uint64_t start, uint64_t end,
+                             uint64_t thread)
+{
+    uint64_t got = __real_board_append(list, words, runs, start, end, thread);
+    if (got == BOARD_RECORD_ORDER && ++number % AT_TIMES == 0) {
+        const board_run_t run = {start, end, thread};
+        ((board_run_t *)(void *)list)[runs] = run;
+    }
+    return got;
+}
 #else
 /* At times it answers a number that there is not (PLANT 2), changes the table though it refuses (3), does not end (4),
    changes another thread's record (5), or a spare word of its own (6), though it was made. */
-enum { NO_ANSWER = BOARD_BAD_RECORD + 1 };
+enum { NO_ANSWER = BOARD_RECORD_ORDER + 1 };
 
 uint64_t __real_board_finish(board_record_t *, uint64_t, uint64_t);
 uint64_t __wrap_board_finish(board_record_t *table, uint64_t count, uint64_t thread);

@@ -1,10 +1,10 @@
 /* How much memory the core asks of a board: the bytes of each struct, then the stack that each entry takes. For that an
  * entry is called on a stack of its own that was painted before, and the deepest byte that is no longer paint tells.
  * 4,095 threads are queued in one tree; the selection at a change of period moves all of them; an enqueue and a removal
- * are made with many threads, so that the tree turns in every way, and the most is taken. What a function takes that
- * calls nothing is measured the same way and taken off, so that the figure is what the caller gives for the call:
- * arguments, return address, and all that the entry takes. Prints a line each, in bytes; the exit status is 0 where
- * every call was made. */
+ * are made with many threads, so that the tree turns in every way, and the most is taken; a lift record has 1,000 runs,
+ * searched and slid over from end to end. What a function takes that calls nothing is measured the same way and taken
+ * off, so that the figure is what the caller gives for the call: arguments, return address, and all that the entry
+ * takes. Prints a line each, in bytes; the exit status is 0 where every call was made. */
 #define _XOPEN_SOURCE 700
 #include <inttypes.h>
 #include <stdio.h>
@@ -27,6 +27,14 @@ static board_lengths_t queued;
 static board_choice_t choice;
 static board_deadline_t armed;
 static uint64_t spent;
+
+/* A run each 100 ns, with nothing between them. */
+enum { RUNS = 1000, RUN_NS = 100, LIST_WORDS = BOARD_RUN_WORDS * RUNS };
+
+static board_run_t list[RUNS];
+static uint64_t runs;
+static board_place_t place;
+static board_slid_t slid;
 
 /* The thread that is called with, the only one that is not queued. */
 static uint64_t one = 7;
@@ -73,6 +81,30 @@ static void choose(void) { answer = board_switch(&selection.ready, &key, &curren
 static void deadline(void)
 {
     answer = board_deadline(table, THREADS, one, PERIOD, &key, &window, 1, 1, 1, &selection.demand, &armed);
+}
+
+static void append(void)
+{
+    answer = board_append((uint64_t *)list, LIST_WORDS, runs, runs * RUN_NS, (runs + 1) * RUN_NS, one);
+    runs++;
+}
+
+static void lift(void) { answer = board_lift((uint64_t *)list, LIST_WORDS, RUNS * RUN_NS, RUN_NS, &place); }
+
+static void lift_from(void)
+{
+    answer = board_lift_from((uint64_t *)list, LIST_WORDS, RUNS, RUNS * RUN_NS, RUN_NS, &place);
+}
+
+/* From the first run, which is the part at RUN_NS, to the last; and with a place that is not that reading's. */
+static void slide(void)
+{
+    answer = board_slide((uint64_t *)list, LIST_WORDS, RUN_NS, RUN_NS, 0, 1, RUNS * RUN_NS, &slid);
+}
+
+static void slide_afresh(void)
+{
+    answer = board_slide((uint64_t *)list, LIST_WORDS, RUN_NS, RUN_NS, 1, 1, RUNS * RUN_NS, &slid);
 }
 
 /* ---- between two calls of an entry ---- */
@@ -182,6 +214,21 @@ static void say_structs(void)
     say("board_lengths_t", sizeof(board_lengths_t));
     say("board_choice_t", sizeof(board_choice_t));
     say("board_deadline_t", sizeof(board_deadline_t));
+    say("board_run_t", sizeof(board_run_t));
+    say("board_place_t", sizeof(board_place_t));
+    say("board_slid_t", sizeof(board_slid_t));
+}
+
+/* Slides are to have gone the two ways that they are measured for. */
+static void measure_record(void)
+{
+    measure("board_append", append, RUNS, nothing);
+    measure("board_lift", lift, 1, nothing);
+    measure("board_lift_from", lift_from, 1, nothing);
+    measure("board_slide", slide, 1, nothing);
+    refused += slid.afresh != 0;
+    measure("board_slide, afresh", slide_afresh, 1, nothing);
+    refused += slid.afresh != 1;
 }
 
 int main(void)
@@ -209,6 +256,7 @@ int main(void)
     measure("board_switch", choose, 1, nothing);
     measure("board_deadline", deadline, 1, nothing);
     measure("board_new", new_queue, 1, nothing);
+    measure_record();
     puts(refused == 0 ? "every call was made" : "a call was refused");
     return refused != 0;
 }

@@ -2,6 +2,7 @@
 // deadlines. Each is the call of its name on what the words stand for. It answers document 01's number, 0 where the
 // call was made; a refusal leaves what an answer's words stand for. What has a fixed length is lent as an array of it.
 mod queueing;
+mod recording;
 mod running;
 mod selecting;
 mod versions;
@@ -12,6 +13,10 @@ pub use queueing::board_enqueue_front;
 pub use queueing::board_lengths;
 pub use queueing::board_new;
 pub use queueing::board_remove;
+pub use recording::board_append;
+pub use recording::board_lift;
+pub use recording::board_lift_from;
+pub use recording::board_slide;
 pub use running::board_account;
 pub use running::board_candidate;
 pub use running::board_deadline;

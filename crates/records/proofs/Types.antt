@@ -3,7 +3,7 @@ use package.mir.Syntax
 use mathlib.Core.List
 
 abbrev pub refusal·Refusal : Syntax.Ty
-refusal·Refusal = Syntax.tyEnum (List._∷_ 114 (List._∷_ 101 (List._∷_ 102 (List._∷_ 117 (List._∷_ 115 (List._∷_ 97 (List._∷_ 108 (List._∷_ 58 (List._∷_ 58 (List._∷_ 82 (List._∷_ 101 (List._∷_ 102 (List._∷_ 117 (List._∷_ 115 (List._∷_ 97 (List._∷_ 108 List.[])))))))))))))))) (Syntax.ttcons Syntax.tnil (Syntax.ttcons Syntax.tnil (Syntax.ttcons Syntax.tnil (Syntax.ttcons Syntax.tnil (Syntax.ttcons Syntax.tnil (Syntax.ttcons Syntax.tnil (Syntax.ttcons Syntax.tnil (Syntax.ttcons Syntax.tnil (Syntax.ttcons Syntax.tnil (Syntax.ttcons Syntax.tnil (Syntax.ttcons Syntax.tnil Syntax.ttnil)))))))))))
+refusal·Refusal = Syntax.tyEnum (List._∷_ 114 (List._∷_ 101 (List._∷_ 102 (List._∷_ 117 (List._∷_ 115 (List._∷_ 97 (List._∷_ 108 (List._∷_ 58 (List._∷_ 58 (List._∷_ 82 (List._∷_ 101 (List._∷_ 102 (List._∷_ 117 (List._∷_ 115 (List._∷_ 97 (List._∷_ 108 List.[])))))))))))))))) (Syntax.ttcons Syntax.tnil (Syntax.ttcons Syntax.tnil (Syntax.ttcons Syntax.tnil (Syntax.ttcons Syntax.tnil (Syntax.ttcons Syntax.tnil (Syntax.ttcons Syntax.tnil (Syntax.ttcons Syntax.tnil (Syntax.ttcons Syntax.tnil (Syntax.ttcons Syntax.tnil (Syntax.ttcons Syntax.tnil (Syntax.ttcons Syntax.tnil (Syntax.ttcons Syntax.tnil Syntax.ttnil))))))))))))
 
 abbrev pub queue·Verdict : Syntax.Ty
 queue·Verdict = Syntax.tyEnum (List._∷_ 113 (List._∷_ 117 (List._∷_ 101 (List._∷_ 117 (List._∷_ 101 (List._∷_ 58 (List._∷_ 58 (List._∷_ 86 (List._∷_ 101 (List._∷_ 114 (List._∷_ 100 (List._∷_ 105 (List._∷_ 99 (List._∷_ 116 List.[])))))))))))))) (Syntax.ttcons Syntax.tnil (Syntax.ttcons (Syntax.tcons refusal·Refusal Syntax.tnil) Syntax.ttnil))

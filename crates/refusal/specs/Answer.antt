@@ -3,7 +3,7 @@ use Prim.Native.Nat.{ℕ}
 use Rattle.refusal.specs.declared.Refusal.{Refusal}
 use Rattle.refusal.specs.declared.Refusal.the-variants.{Damaged, BadState, Already, NoThread, BadConfig}
 use Rattle.refusal.specs.declared.Refusal.the-variants.{BadBudget, BackInTime, TurnsSpent, Halted, BadTable}
-use Rattle.refusal.specs.declared.Refusal.the-variants.{BadRecord}
+use Rattle.refusal.specs.declared.Refusal.the-variants.{BadRecord, RecordOrder}
 
 pub data Answer (A : Type 0) : Type 0 where
   value : A → Answer A
@@ -43,6 +43,10 @@ badTable = 10
 abbrev pub badRecord : ℕ
 badRecord = 11
 
+-- Document 02, T-01.
+abbrev pub recordOrder : ℕ
+recordOrder = 12
+
 -- SPECIFICATION 11.1.
 abbrev pub numberOf : Refusal → ℕ
 numberOf Damaged = damaged
@@ -56,3 +60,4 @@ numberOf TurnsSpent = turnsSpent
 numberOf Halted = queueHalted
 numberOf BadTable = badTable
 numberOf BadRecord = badRecord
+numberOf RecordOrder = recordOrder

@@ -1,4 +1,4 @@
-// The refusals of document 01, "Turned down", and their numbers.
+// The refusals of document 01, "Turned down", then those of document 02's requests, and their numbers.
 ghost use mathlib.Core.Path.{_≡_};
 ghost use Rattle.refusal.specs.Answer.{numberOf};
 
@@ -14,13 +14,14 @@ pub enum Refusal {
     Halted,
     BadTable,
     BadRecord,
+    RecordOrder,
 }
 
 // The number of the refusal that leaves a mark.
 pub const HALTED: u64 = 9;
 
 impl Refusal {
-    // The refusal's number in document 01.
+    // The refusal's number in documents 01 and 02.
     pub fn number(self) -> u64
         ensures { λ r. ⌜ r ≡ numberOf self ⌝ }
     {
@@ -37,6 +38,7 @@ impl Refusal {
             Refusal::Halted => HALTED,
             Refusal::BadTable => 10,
             Refusal::BadRecord => 11,
+            Refusal::RecordOrder => 12,
         }
     }
 }

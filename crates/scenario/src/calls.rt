@@ -20,12 +20,11 @@ pub const FAIR: usize = 1;
 
 pub const BUDGET: usize = 2;
 
-pub fn enqueue(q: &mut QueueRows, t: &mut [Row], given: Run, id: u64, front: u64) -> Run {
-    if given.number != 0 {
-        return given;
+pub fn enqueue(q: &mut QueueRows, t: &mut [Row], mut x: Run, id: u64, front: u64) -> Run {
+    if x.number != 0 {
+        return x;
     }
     let mut path = [[0u64; PATH_STEP_WORDS]; MAX_PATH];
-    let mut x = given;
     if front == 0 {
         x.number = board::board_enqueue(q, t, &mut path, id, 0);
     } else {
@@ -34,12 +33,11 @@ pub fn enqueue(q: &mut QueueRows, t: &mut [Row], given: Run, id: u64, front: u64
     x
 }
 
-pub fn remove(q: &mut QueueRows, t: &mut [Row], given: Run, id: u64) -> Run {
-    if given.number != 0 {
-        return given;
+pub fn remove(q: &mut QueueRows, t: &mut [Row], mut x: Run, id: u64) -> Run {
+    if x.number != 0 {
+        return x;
     }
     let mut path = [[0u64; PATH_STEP_WORDS]; MAX_PATH];
-    let mut x = given;
     x.number = board::board_remove(q, t, &mut path, id, 0);
     x
 }
@@ -56,15 +54,14 @@ fn demand_in(w: board_words::SelectionWords) -> window_words::DemandWords {
 }
 
 // With the candidate as the running thread, if one runs.
-pub fn select(q: &mut QueueRows, t: &mut [Row], given: Run, now: u64, runs: u64) -> Run {
-    if given.number != 0 {
-        return given;
+pub fn select(q: &mut QueueRows, t: &mut [Row], mut x: Run, now: u64, runs: u64) -> Run {
+    if x.number != 0 {
+        return x;
     }
     let mut path = [[0u64; PATH_STEP_WORDS]; MAX_PATH];
-    let mut window = given.window;
-    let current = given.candidate;
+    let mut window = x.window;
+    let current = x.candidate;
     let mut answer = [0u64; board_words::SELECTION_WORDS];
-    let mut x = given;
     x.number = board::board_select(
         q,
         t,
@@ -83,69 +80,63 @@ pub fn select(q: &mut QueueRows, t: &mut [Row], given: Run, now: u64, runs: u64)
     x
 }
 
-pub fn prepare(t: &mut [Row], given: Run, id: u64, front: u64, now: u64) -> Run {
-    if given.number != 0 {
-        return given;
+pub fn prepare(t: &mut [Row], mut x: Run, id: u64, front: u64, now: u64) -> Run {
+    if x.number != 0 {
+        return x;
     }
-    let mut turns = given.turns;
-    let mut x = given;
+    let mut turns = x.turns;
     x.number = board::board_prepare(t, id, front, now, &mut turns);
     x.turns = turns;
     x
 }
 
-pub fn account(t: &mut [Row], given: Run, id: u64, mode: u64, start: u64, end: u64) -> Run {
-    if given.number != 0 {
-        return given;
+pub fn account(t: &mut [Row], mut x: Run, id: u64, mode: u64, start: u64, end: u64) -> Run {
+    if x.number != 0 {
+        return x;
     }
-    let mut window = given.window;
-    let mut x = given;
+    let mut window = x.window;
     x.number = board::board_account(t, id, &mut window, mode, start, end);
     x.window = window;
     x
 }
 
-pub fn finish(t: &mut [Row], given: Run, id: u64) -> Run {
-    if given.number != 0 {
-        return given;
+pub fn finish(t: &mut [Row], mut x: Run, id: u64) -> Run {
+    if x.number != 0 {
+        return x;
     }
-    let mut x = given;
     x.number = board::board_finish(t, id);
     x
 }
 
-pub fn expired(t: &[Row], given: Run, id: u64) -> Run {
-    if given.number != 0 {
-        return given;
+pub fn expired(t: &[Row], mut x: Run, id: u64) -> Run {
+    if x.number != 0 {
+        return x;
     }
     let mut answer = [0u64; board_words::FLAG_WORDS];
-    let mut x = given;
     x.number = board::board_expired(t, id, &mut answer);
     x.expired = answer[0];
     x
 }
 
 // The running thread, refreshed, as selection and keys take it.
-pub fn candidate(t: &mut [Row], given: Run, id: u64, runs: u64, now: u64) -> Run {
-    if given.number != 0 {
-        return given;
+pub fn candidate(t: &mut [Row], mut x: Run, id: u64, runs: u64, now: u64) -> Run {
+    if x.number != 0 {
+        return x;
     }
     let mut row = [0u64; policy_words::ROW_WORDS];
-    let mut x = given;
     x.number = board::board_candidate(t, id, runs, now, &mut row);
     x.candidate = row;
     x
 }
 
 // A thread's key under the demand of the last selection.
-pub fn key(given: Run, row: Row, now: u64) -> Run {
-    if given.number != 0 {
-        return given;
+pub fn key(mut x: Run, row: Row, now: u64) -> Run {
+    if x.number != 0 {
+        return x;
     }
-    let mut window = given.window;
-    let its_demand = given.demand;
+    let mut window = x.window;
+    let its_demand = x.demand;
     let mut answer = [0u64; window_words::KEY_WORDS];
-    let mut x = given;
     x.number = board::board_key(&mut window, now, &row, &its_demand, &mut answer);
     x.window = window;
     x.key = answer;
@@ -153,12 +144,11 @@ pub fn key(given: Run, row: Row, now: u64) -> Run {
 }
 
 // The key of the running thread; none where there is none.
-pub fn runner_key(given: Run, runs: u64, now: u64) -> Run {
-    let row = given.candidate;
+pub fn runner_key(mut x: Run, runs: u64, now: u64) -> Run {
+    let row = x.candidate;
     if runs != 0 {
-        return key(given, row, now);
+        return key(x, row, now);
     }
-    let mut x = given;
     if x.number == 0 {
         x.key = [0; window_words::KEY_WORDS];
     }
@@ -171,21 +161,20 @@ fn ready_in(w: board_words::SelectionWords) -> board_words::ReadyWords {
 }
 
 // The switch rule between the last selection and the running thread.
-pub fn switch(given: Run, yielding: u64, tail: u64) -> Run {
-    if given.number != 0 {
-        return given;
+pub fn switch(mut x: Run, yielding: u64, tail: u64) -> Run {
+    if x.number != 0 {
+        return x;
     }
-    let selected = given.selected;
+    let selected = x.selected;
     let ready = ready_in(selected);
-    let its_key = given.key;
-    let row = given.candidate;
+    let its_key = x.key;
+    let row = x.candidate;
     let mut answer = [0u64; board_words::CHOICE_WORDS];
-    let mut x = given;
     x.number = board::board_switch(
         &ready,
         &its_key,
         &row,
-        given.expired,
+        x.expired,
         yielding,
         tail,
         &mut answer,
@@ -194,29 +183,27 @@ pub fn switch(given: Run, yielding: u64, tail: u64) -> Run {
     x
 }
 
-pub fn lengths(q: &QueueRows, given: Run) -> Run {
-    if given.number != 0 {
-        return given;
+pub fn lengths(q: &QueueRows, mut x: Run) -> Run {
+    if x.number != 0 {
+        return x;
     }
     let mut answer = [0u64; board_words::LENGTH_WORDS];
     board::board_lengths(q, &mut answer);
-    let mut x = given;
     x.lengths = answer;
     x
 }
 
 // There is competition where anybody is queued.
-pub fn deadline(t: &mut [Row], given: Run, id: u64, now: u64) -> Run {
-    if given.number != 0 {
-        return given;
+pub fn deadline(t: &mut [Row], mut x: Run, id: u64, now: u64) -> Run {
+    if x.number != 0 {
+        return x;
     }
-    let queued = given.lengths;
+    let queued = x.lengths;
     let others = text::saturating_add(queued[REAL_TIME], queued[FAIR]);
-    let its_key = given.key;
-    let mut window = given.window;
-    let its_demand = given.demand;
+    let its_key = x.key;
+    let mut window = x.window;
+    let its_demand = x.demand;
     let mut answer = [0u64; policy_words::DEADLINE_WORDS];
-    let mut x = given;
     x.number = board::board_deadline(
         t,
         id,
@@ -225,7 +212,7 @@ pub fn deadline(t: &mut [Row], given: Run, id: u64, now: u64) -> Run {
         &mut window,
         others,
         queued[BUDGET],
-        given.selected[board_words::SELECTED_TAG],
+        x.selected[board_words::SELECTED_TAG],
         &its_demand,
         &mut answer,
     );
@@ -235,18 +222,17 @@ pub fn deadline(t: &mut [Row], given: Run, id: u64, now: u64) -> Run {
 }
 
 // A selection beside a thread, that thread's key and its deadline.
-pub fn armed(q: &mut QueueRows, t: &mut [Row], x: Run, id: u64, runs: u64, now: u64) -> Run {
-    let a = candidate(t, x, id, runs, now);
-    let b = select(q, t, a, now, runs);
-    let c = runner_key(b, runs, now);
-    let d = lengths(q, c);
-    deadline(t, d, id, now)
+pub fn armed(q: &mut QueueRows, t: &mut [Row], mut x: Run, id: u64, runs: u64, now: u64) -> Run {
+    x = candidate(t, x, id, runs, now);
+    x = select(q, t, x, now, runs);
+    x = runner_key(x, runs, now);
+    x = lengths(q, x);
+    deadline(t, x, id, now)
 }
 
 // A new window.
-pub fn window(given: Run, config: window_words::ConfigWords) -> Run {
-    let mut window = given.window;
-    let mut x = given;
+pub fn window(mut x: Run, config: window_words::ConfigWords) -> Run {
+    let mut window = x.window;
     x.number = board::board_window(&mut window, &config);
     x.window = window;
     x

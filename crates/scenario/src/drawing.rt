@@ -62,18 +62,17 @@ fn due_at(place: u64, anchor: u64, reading: u64) {
 }
 
 // That label where there is room for it: up to the run's end at most, and behind the last such label.
-fn labelled(given: Run, left: u64) -> Run {
-    let width = saturating_add(time_width(given.now), DUE_WIDTH);
+fn labelled(mut x: Run, left: u64) -> Run {
+    let width = saturating_add(time_width(x.now), DUE_WIDTH);
     let start = time::min_of(left, saturating_sub(RIGHT, width));
-    if start < given.labelled {
-        return given;
+    if start < x.labelled {
+        return x;
     }
     if start < left {
-        due_at(RIGHT, ENDS, given.now);
+        due_at(RIGHT, ENDS, x.now);
     } else {
-        due_at(left, STARTS, given.now);
+        due_at(left, STARTS, x.now);
     }
-    let mut x = given;
     x.labelled = saturating_add(start, width);
     x
 }
@@ -85,10 +84,10 @@ fn shaded(left: u64, right: u64, bottom: u64) {
 }
 
 // From now to a period's end.
-fn shaded_to(given: Run, end: u64) -> Run {
-    let left = across(given.span, given.now);
-    shaded(left, across(given.span, end), down(given.lanes));
-    let mut x = labelled(given, left);
+fn shaded_to(mut x: Run, end: u64) -> Run {
+    let left = across(x.span, x.now);
+    shaded(left, across(x.span, end), down(x.lanes));
+    x = labelled(x, left);
     x.shaded = end;
     x
 }
@@ -161,13 +160,12 @@ fn stretch(x: Run, end: u64) {
     }
 }
 
-pub fn bar(given: Run, end: u64) -> Run {
-    if given.output != PICTURE {
-        return given;
+pub fn bar(mut x: Run, end: u64) -> Run {
+    if x.output != PICTURE {
+        return x;
     }
-    let mut x = given;
-    if is_due(given) {
-        x = shade(given);
+    if is_due(x) {
+        x = shade(x);
     }
     stretch(x, end);
     x
@@ -196,10 +194,9 @@ fn wait_bar(x: Run, id: u64, since: u64) {
 }
 
 // A thread waits since a reading; `waits` has one more than that, and 0 where it does not wait.
-fn with_wait(given: Run, id: u64, word: u64) -> Run {
-    let waits = given.waits;
+fn with_wait(mut x: Run, id: u64, word: u64) -> Run {
+    let waits = x.waits;
     let after = with(waits, id, word);
-    let mut x = given;
     x.waits = after;
     x
 }
@@ -250,10 +247,9 @@ pub fn all_keep_waiting(given: Run) -> Run {
 }
 
 // A run with the picture's size.
-pub fn measured(given: Run) -> Run {
-    let mut x = given;
-    x.span = given.now;
-    x.lanes = given.threads;
+pub fn measured(mut x: Run) -> Run {
+    x.span = x.now;
+    x.lanes = x.threads;
     x
 }
 

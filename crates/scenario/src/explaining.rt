@@ -73,13 +73,14 @@ fn with_key(t: &[Row], x: Run, id: u64, now: u64) -> Run {
 }
 
 // The thread that selection names.
-fn chosen(t: &[Row], given: Run, now: u64) -> Run {
-    if given.selected[board_words::SELECTED_TAG] == 0 {
-        tell(given.output, b": nobody\n");
-        return given;
+fn chosen(t: &[Row], mut x: Run, now: u64) -> Run {
+    let selected = x.selected;
+    if selected[board_words::SELECTED_TAG] == 0 {
+        tell(x.output, b": nobody\n");
+        return x;
     }
-    let id = given.selected[board_words::SELECTED_ID];
-    let x = with_key(t, given, id, now);
+    let id = selected[board_words::SELECTED_ID];
+    x = with_key(t, x, id, now);
     if x.number == 0 {
         told_chosen(x, id);
     }
@@ -252,12 +253,12 @@ fn others(t: &[Row], x: Run, head: Walk) {
 }
 
 // A tree that is not empty.
-fn tree(q: &QueueRows, t: &[Row], given: Run, number: usize, now: u64) -> Run {
+fn tree(q: &QueueRows, t: &[Row], mut x: Run, number: usize, now: u64) -> Run {
     let head = next(t, root(q, number));
-    if given.number != 0 || head.member == NOBODY {
-        return given;
+    if x.number != 0 || head.member == NOBODY {
+        return x;
     }
-    let x = with_key(t, given, head.member, now);
+    x = with_key(t, x, head.member, now);
     if x.number == 0 {
         told_head(x, number as u64, head.member);
         others(t, x, head);
@@ -276,11 +277,11 @@ fn trees(q: &QueueRows, t: &[Row], given: Run, now: u64) -> Run {
 }
 
 // Of the last selection.
-pub fn explain(q: &QueueRows, t: &[Row], given: Run, now: u64) -> Run {
-    if given.number != 0 {
-        return given;
+pub fn explain(q: &QueueRows, t: &[Row], mut x: Run, now: u64) -> Run {
+    if x.number != 0 {
+        return x;
     }
-    let x = chosen(t, given, now);
+    x = chosen(t, x, now);
     if x.number != 0 {
         return x;
     }

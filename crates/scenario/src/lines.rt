@@ -78,16 +78,16 @@ fn mistaken(x: Run, forms: &[u8], line: &[u8], said: Statement, mistake: u64) ->
 fn understood(
     q: &mut lent_queue::QueueRows,
     t: &mut [codec::Row],
-    given: Run,
+    list: &mut [u64],
+    mut x: Run,
     line: &[u8],
     said: Statement,
 ) -> Run {
-    if given.output == TEXT {
-        quote(given.line, line);
+    if x.output == TEXT {
+        quote(x.line, line);
     }
-    let mut before = given;
-    before.number = 0;
-    let x = performed(q, t, before, line, said);
+    x.number = 0;
+    x = performed(q, t, list, x, line, said);
     if x.output == TEXT {
         answer(x, said.number);
     }
@@ -101,32 +101,33 @@ fn understood(
 fn worded(
     q: &mut lent_queue::QueueRows,
     t: &mut [codec::Row],
-    given: Run,
+    list: &mut [u64],
+    mut x: Run,
     forms: &[u8],
     line: &[u8],
 ) -> Run {
-    let said = statements::said(given, forms, line);
-    let x = counted(given, STATEMENTS);
-    let mistake = mistakes::mistake(said, given.wakes);
+    let said = statements::said(x, forms, line);
+    x = counted(x, STATEMENTS);
+    let mistake = mistakes::mistake(said, x.wakes);
     if mistake != causes::NONE {
         return mistaken(x, forms, line, said, mistake);
     }
-    understood(q, t, x, line, said)
+    understood(q, t, list, x, line, said)
 }
 
 pub fn line(
     q: &mut lent_queue::QueueRows,
     t: &mut [codec::Row],
-    given: Run,
+    list: &mut [u64],
+    mut x: Run,
     forms: &[u8],
     line: &[u8],
 ) -> Run {
-    let mut x = given;
-    x.line = text::saturating_add(given.line, 1);
+    x.line = text::saturating_add(x.line, 1);
     let start = text::start_of(line, 0, SPACE);
     let end = last_end(line);
     if end <= start || line.len() < end {
         return x;
     }
-    worded(q, t, x, forms, &line[start..end])
+    worded(q, t, list, x, forms, &line[start..end])
 }

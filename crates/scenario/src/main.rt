@@ -1,11 +1,12 @@
-// Runs scenarios, lines of threads, a window and calls, on the proved core, and prints each answer, or a picture of the
-// run. FORMAT.md has the lines.
+// Runs scenarios, lines of threads, a window and calls, on the proved core, and prints each answer, a picture of the
+// run, or its lift record. FORMAT.md has the lines.
 mod axis;
 mod calls;
 mod causes;
 mod drawing;
 mod explaining;
 mod legend;
+mod lift;
 mod lines;
 mod mistakes;
 mod names;
@@ -41,14 +42,16 @@ fn new_queue(q: &mut lent_queue::QueueRows) {
 fn lines_by(given: run::Run, forms: &[u8], text: &[u8]) -> run::Run {
     let mut q = [[0u64; lent_queue::QUEUE_ROW_WORDS]; lent_queue::QUEUE_ROWS];
     let mut t = [[0u64; policy_words::ROW_WORDS]; run::TABLE_ROWS];
+    let mut list = [0u64; lift::ROOM];
     new_queue(&mut q);
     let mut x = given;
     let mut at: usize = 0;
     while at < text.len() {
         let end = text::end_of(text, at, NEW_LINE);
-        x = lines::line(&mut q, &mut t, x, forms, &text[at..end]);
+        x = lines::line(&mut q, &mut t, &mut list, x, forms, &text[at..end]);
         at = end + 1;
     }
+    lift::ended(&list, x);
     x
 }
 
@@ -70,10 +73,19 @@ fn picture(name: &[u8], text: &[u8]) {
     sheet::end();
 }
 
-// A file's text is printed under its name, or drawn.
-fn shown(name: &[u8], text: &[u8], drawn: bool) {
-    if drawn {
+// The runs of a file alone.
+fn record(text: &[u8]) {
+    lines_of(run::new(run::RECORD), text);
+}
+
+// A file's text is printed under its name; or its picture, or its lift record.
+fn shown(name: &[u8], text: &[u8], output: u64) {
+    if output == run::PICTURE {
         picture(name, text);
+        return;
+    }
+    if output == run::RECORD {
+        record(text);
         return;
     }
     io::write_all(STDOUT, name);
@@ -137,7 +149,7 @@ fn whole(fd: i32, name: &[u8], text: &mut [u8]) -> Got {
     got
 }
 
-fn file(name: &[u8], drawn: bool) {
+fn file(name: &[u8], output: u64) {
     let mut text = [0u8; ROOM];
     let fd = os::open_read(name);
     if fd < 0 {
@@ -148,7 +160,7 @@ fn file(name: &[u8], drawn: bool) {
     libc::close(fd);
     if let Got::All(n) = got {
         if n <= ROOM {
-            shown(name, &text[0..n], drawn);
+            shown(name, &text[0..n], output);
         }
     }
 }
@@ -169,6 +181,7 @@ fn help() {
         b"scenario FILE..: runs each file on a board of its own, and prints each answer below the file's name.\n\
         scenario: the same of standard input.\n\
         scenario --picture FILE: the run of the file as a picture, in SVG.\n\
+        scenario --record FILE: its lift record, a run a line: start, end, thread.\n\
         scenario --help: this text.\n\
         A file has threads, a window, calls and runs, one statement a line. crates/scenario/FORMAT.md has them,\n\
         their answers, and what is said of mistakes.\n",
@@ -182,42 +195,57 @@ fn is_option(word: &[u8]) -> bool {
     text::same(&word[0..2], b"--")
 }
 
-// A word of the call; whether the file after it is drawn.
-fn said(word: &[u8], drawn: bool) -> bool {
+// A word of the call; what becomes of the file after it.
+fn said(word: &[u8], output: u64) -> u64 {
     if text::same(word, b"--picture") {
-        return true;
+        return run::PICTURE;
+    }
+    if text::same(word, b"--record") {
+        return run::RECORD;
     }
     if text::same(word, b"--help") {
         help();
     } else if is_option(word) {
         complain(word, b": unknown option, --help names all\n");
     } else {
-        file(word, drawn);
+        file(word, output);
     }
-    false
+    run::TEXT
 }
 
-fn argument(i: usize, drawn: bool) -> bool {
+fn argument(i: usize, output: u64) -> u64 {
     let mut word = io::buffer();
     let n = os::arg(i, &mut word);
     if os::errno() != 0 {
         os::fail(b"an argument");
-        return drawn;
+        return output;
     }
-    said(&word[..n], drawn)
+    said(&word[..n], output)
+}
+
+// An option is the last word.
+fn unfinished(option: &[u8]) {
+    complain(option, b": a file has to follow\n");
+}
+
+fn ended(output: u64) {
+    if output == run::PICTURE {
+        unfinished(b"--picture");
+    }
+    if output == run::RECORD {
+        unfinished(b"--record");
+    }
 }
 
 fn main() {
     let count = os::arg_count();
-    let mut drawn = false;
+    let mut output: u64 = run::TEXT;
     let mut i: usize = 1;
     while i < count {
-        drawn = argument(i, drawn);
+        output = argument(i, output);
         i += 1;
     }
-    if drawn {
-        complain(b"--picture", b": a file has to follow\n");
-    }
+    ended(output);
     if count < 2 {
         input();
     }

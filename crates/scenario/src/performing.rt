@@ -2,6 +2,7 @@
 use crate::calls;
 use crate::drawing;
 use crate::explaining::explain;
+use crate::lift;
 use crate::printing::listed;
 use crate::printing::say;
 use crate::printing::say_one;
@@ -11,38 +12,38 @@ use crate::run::Run;
 use crate::run::with;
 use crate::running::run;
 use crate::statements;
+use crate::statements::Fields;
 use crate::statements::Statement;
 use crate::statements::Values;
+use crate::statements::fields_in;
 use crate::threads::thread;
 use crate::words;
 use codec::Row;
 use lent_queue::QueueRows;
 
 // A selection, explained; then the running thread's key, which the switch rule compares with it.
-fn select(q: &mut QueueRows, t: &mut [Row], given: Run, now: u64, id: u64, runs: u64) -> Run {
-    let a = calls::candidate(t, given, id, runs, now);
-    let b = calls::select(q, t, a, now, runs);
-    let c = explain(q, t, b, now);
-    let d = calls::candidate(t, c, id, runs, now);
-    calls::runner_key(d, runs, now)
+fn select(q: &mut QueueRows, t: &mut [Row], mut x: Run, now: u64, id: u64, runs: u64) -> Run {
+    x = calls::candidate(t, x, id, runs, now);
+    x = calls::select(q, t, x, now, runs);
+    x = explain(q, t, x, now);
+    x = calls::candidate(t, x, id, runs, now);
+    calls::runner_key(x, runs, now)
 }
 
-fn switch(given: Run, expired: u64, yielding: u64, tail: u64) -> Run {
-    let mut x = given;
+fn switch(mut x: Run, expired: u64, yielding: u64, tail: u64) -> Run {
     x.expired = expired;
     calls::switch(x, yielding, tail)
 }
 
 // A wake is kept for the next run. (A line that finds no room for it is not performed.)
-fn wake(given: Run, id: u64, work: u64, reading: u64) -> Run {
-    let n = given.wakes;
-    let mut x = given;
+fn wake(mut x: Run, id: u64, work: u64, reading: u64) -> Run {
+    let n = x.wakes;
     if MOST_THREADS <= n {
         return x;
     }
-    let readings = given.wake_at;
-    let threads = given.wake_who;
-    let works = given.wake_work;
+    let readings = x.wake_at;
+    let threads = x.wake_who;
+    let works = x.wake_work;
     let when = with(readings, n, reading);
     let who = with(threads, n, id);
     let how_long = with(works, n, work);
@@ -53,14 +54,12 @@ fn wake(given: Run, id: u64, work: u64, reading: u64) -> Run {
     x
 }
 
-fn records(given: Run, n: u64) -> Run {
-    let mut x = given;
+fn records(mut x: Run, n: u64) -> Run {
     x.records = n;
     x
 }
 
-fn explains(given: Run, choice: u64) -> Run {
-    let mut x = given;
+fn explains(mut x: Run, choice: u64) -> Run {
     x.explains = choice;
     x
 }
@@ -82,60 +81,78 @@ fn on_board(x: Run, n: u64, a: Values) -> Run {
     }
 }
 
-fn on_table(t: &mut [Row], x: Run, n: u64, a: Values) -> Run {
+fn on_table(t: &mut [Row], x: Run, n: u64, v: Fields) -> Run {
     match n {
-        statements::PREPARE => calls::prepare(t, x, a[1], a[2], a[3]),
-        statements::ACCOUNT => calls::account(t, x, a[1], a[2], a[3], a[4]),
-        statements::FINISH => calls::finish(t, x, a[1]),
-        statements::EXPIRED => calls::expired(t, x, a[1]),
-        _ => words::set_record(t, x, a[2], a[3], a[4]),
+        statements::PREPARE => calls::prepare(t, x, v.first, v.second, v.third),
+        statements::ACCOUNT => calls::account(t, x, v.first, v.second, v.third, v.fourth),
+        statements::FINISH => calls::finish(t, x, v.first),
+        statements::EXPIRED => calls::expired(t, x, v.first),
+        _ => words::set_record(t, x, v.second, v.third, v.fourth),
     }
 }
 
-fn on_queue(q: &mut QueueRows, t: &mut [Row], x: Run, n: u64, a: Values) -> Run {
+fn on_queue(q: &mut QueueRows, t: &mut [Row], x: Run, n: u64, v: Fields) -> Run {
     match n {
-        statements::ENQUEUE => calls::enqueue(q, t, x, a[1], 0),
-        statements::ENQUEUE_FRONT => calls::enqueue(q, t, x, a[1], 1),
-        statements::REMOVE => drawing::removed(calls::remove(q, t, x, a[1]), a[1]),
+        statements::ENQUEUE => calls::enqueue(q, t, x, v.first, 0),
+        statements::ENQUEUE_FRONT => calls::enqueue(q, t, x, v.first, 1),
+        statements::REMOVE => drawing::removed(calls::remove(q, t, x, v.first), v.first),
         statements::LENGTHS => calls::lengths(q, x),
-        _ => words::set_queue(q, x, a[2], a[3], a[4]),
+        _ => words::set_queue(q, x, v.second, v.third, v.fourth),
     }
 }
 
-fn by_queue(q: &mut QueueRows, t: &mut [Row], x: Run, n: u64, a: Values) -> Run {
+fn by_queue(q: &mut QueueRows, t: &mut [Row], list: &mut [u64], x: Run, n: u64, v: Fields) -> Run {
     match n {
-        statements::SELECT => select(q, t, x, a[1], a[4], a[2]),
-        statements::DEADLINE => calls::armed(q, t, x, a[1], 1, a[2]),
-        _ => run(q, t, x, a[1]),
+        statements::SELECT => select(q, t, x, v.first, v.fourth, v.second),
+        statements::DEADLINE => calls::armed(q, t, x, v.first, 1, v.second),
+        _ => run(q, t, list, x, v.first),
     }
 }
 
 // On the records that there are.
-fn on_records(q: &mut QueueRows, t: &mut [Row], x: Run, n: u64, a: Values) -> Run {
+fn on_records(
+    q: &mut QueueRows,
+    t: &mut [Row],
+    list: &mut [u64],
+    x: Run,
+    n: u64,
+    a: Values,
+) -> Run {
     if n < statements::PREPARE {
         return on_board(x, n, a);
     }
+    let v = fields_in(a);
     if n < statements::ENQUEUE {
-        return on_table(t, x, n, a);
+        return on_table(t, x, n, v);
     }
     if n < statements::SELECT {
-        return on_queue(q, t, x, n, a);
+        return on_queue(q, t, x, n, v);
     }
-    by_queue(q, t, x, n, a)
+    by_queue(q, t, list, x, n, v)
 }
 
-// A statement on the table's records, or one more.
-pub fn performed(q: &mut QueueRows, t: &mut [Row], x: Run, line: &[u8], said: Statement) -> Run {
+// A statement on the table's records or on the list of the lift record, or one record more.
+pub fn performed(
+    q: &mut QueueRows,
+    t: &mut [Row],
+    list: &mut [u64],
+    x: Run,
+    line: &[u8],
+    said: Statement,
+) -> Run {
     let n = said.number;
     let a = said.values;
     let count = x.records as usize;
     if statements::FIFO <= n {
         return thread(t, x, line, n, a);
     }
+    if statements::LIFT <= n {
+        return lift::performed(list, x, n, a);
+    }
     if t.len() < count {
         return x;
     }
-    on_records(q, &mut t[0..count], x, n, a)
+    on_records(q, &mut t[0..count], list, x, n, a)
 }
 
 // Nothing, or the end that the running thread goes to.
@@ -168,10 +185,11 @@ fn told_word(x: Run) {
     say_one(x.output, b": was %a\n", x.former);
 }
 
-// The answer of a statement, in a text; a selection and a run have theirs behind them.
+// The answer of a statement, in a text; a selection, a run and a part of the lift record have theirs behind them.
 pub fn told(x: Run, statement: u64) {
     match statement {
         statements::SELECT | statements::RUN => (),
+        statements::LIFT | statements::SLIDE => (),
         statements::EXPIRED => listed(b": %@\n", b"no|yes", x.expired),
         statements::SWITCH => told_choice(x),
         statements::DEADLINE => told_deadline(x),
@@ -179,6 +197,7 @@ pub fn told(x: Run, statement: u64) {
         statements::WAKE => tell(x.output, b": noted\n"),
         statements::WINDOW_WORD | statements::TURNS_WORD => told_word(x),
         statements::RECORD_WORD | statements::QUEUE_WORD => told_word(x),
+        statements::LIFT_WORD => told_word(x),
         _ => told_other(x, statement),
     }
 }

@@ -1,5 +1,7 @@
 // What is printed: words of lists and names of threads. Templates are those of crate text.
+use crate::run::LAST_NUMBER;
 use crate::run::NO_IDLE;
+use crate::run::Names;
 use crate::run::Run;
 use crate::run::TEXT;
 use text::print;
@@ -86,11 +88,17 @@ fn part(template: &[u8], list: &[u8], start: usize, end: usize) {
 
 // The name of a thread; # and its number where it has none.
 pub fn name(x: Run, id: u64, template: &[u8]) {
-    if x.threads <= id {
+    let names = x.names;
+    named(names, x.threads, id, template);
+}
+
+// The same, by the names of so many threads.
+pub fn named(given: Names, threads: u64, id: u64, template: &[u8]) {
+    if threads <= id {
         put_one(b"#%a", id);
         return;
     }
-    let mut names = x.names;
+    let mut names = given;
     let its = text::nth(&names, SPACE, id as usize);
     spaced(&mut names);
     part(template, &names, its.start, its.end);
@@ -110,16 +118,27 @@ pub fn mode(n: u64, template: &[u8]) {
     );
 }
 
-// A refusal by its name and document 01's number; one of the program itself in words.
+// A refusal of the program itself, in words, in the order of run.rt.
+fn own_refusal(n: u64) {
+    listed(
+        b": refused, %@\n",
+        b"there is no idle thread: a line 'thread NAME idle' makes one|the table has no such record\
+            |the lift record has no such word",
+        n,
+    );
+}
+
+// A refusal by its name and the number that document 01 or 02 gives it.
 pub fn refusal(number: u64) {
+    if LAST_NUMBER < number {
+        own_refusal(number - NO_IDLE);
+        return;
+    }
     listed(
         b": refused, %@",
         b"made|Damaged|BadState|Already|NoThread|BadConfig|BadBudget|BackInTime|TurnsSpent|Halted|BadTable|BadRecord\
-            |there is no idle thread: a line 'thread NAME idle' makes one|the table has no such record",
+            |RecordOrder",
         number,
     );
-    if number < NO_IDLE {
-        put_one(b" (%a)", number);
-    }
-    plain(b"\n");
+    put_one(b" (%a)\n", number);
 }

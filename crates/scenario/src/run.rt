@@ -1,5 +1,6 @@
 // What a scenario keeps from line to line and from step to step. A step takes it by value and gives it back, since the
-// prover covers no reference to a struct.
+// prover covers no reference to a struct; it changes the one that it is given, since the check of a function grows with
+// each further one that it holds.
 
 // The table has one record more than a call takes.
 pub const TABLE_ROWS: usize = 4097;
@@ -14,18 +15,32 @@ pub type Each = [u64; EACH];
 // Room for each thread's name, of up to 15 bytes, and a space behind it.
 pub const NAMES: usize = 512;
 
-// What becomes of the output: text, nothing, or a picture.
+pub type Names = [u8; NAMES];
+
+// What is kept of the lift record beside its list (lift.rt says what).
+pub const RECORD_WORDS: usize = 10;
+
+pub type RecordWords = [u64; RECORD_WORDS];
+
+// What becomes of the output: text, nothing, a picture, or the lift record.
 pub const TEXT: u64 = 0;
 
 pub const NOTHING: u64 = 1;
 
 pub const PICTURE: u64 = 2;
 
-// Refusals of the program itself, behind document 01's numbers: a run without an idle thread, and a word of a record
-// that the table does not have.
-pub const NO_IDLE: u64 = 12;
+pub const RECORD: u64 = 3;
 
-pub const NO_RECORD: u64 = 13;
+// The last number that documents 01 and 02 give a refusal.
+pub const LAST_NUMBER: u64 = 20;
+
+// Refusals of the program itself: a run without an idle thread, a word of a record that the table does not have, and a
+// word that the lift record does not have.
+pub const NO_IDLE: u64 = LAST_NUMBER + 1;
+
+pub const NO_RECORD: u64 = LAST_NUMBER + 2;
+
+pub const NO_WORD: u64 = LAST_NUMBER + 3;
 
 // What is counted: the statements, and of these the refused ones and those that are not understood.
 pub const STATEMENTS: usize = 0;
@@ -60,7 +75,7 @@ pub struct Run {
     // left.
     pub threads: u64,
     pub records: u64,
-    pub names: [u8; NAMES],
+    pub names: Names,
     pub hooks: Each,
     pub work: Each,
     // Since when each thread waits, and one more; 0 where it does not wait.
@@ -89,6 +104,8 @@ pub struct Run {
     pub deadline: policy_words::DeadlineWords,
     // The word that a statement overwrote.
     pub former: u64,
+    // What is kept of the lift record.
+    pub record: RecordWords,
     // Of a picture: the last reading of all, how many lanes, up to which reading protected windows are drawn, and up to
     // which place their labels.
     pub span: u64,
@@ -133,6 +150,7 @@ pub fn new(output: u64) -> Run {
         lengths: [0; board_words::LENGTH_WORDS],
         deadline: [0; policy_words::DEADLINE_WORDS],
         former: 0,
+        record: [0; RECORD_WORDS],
         span: 0,
         lanes: 0,
         shaded: 0,
@@ -141,8 +159,7 @@ pub fn new(output: u64) -> Run {
 }
 
 // With one more of what is counted.
-pub fn counted(given: Run, kind: usize) -> Run {
-    let mut x = given;
+pub fn counted(mut x: Run, kind: usize) -> Run {
     if kind < COUNTS {
         x.counts[kind] = text::saturating_add(x.counts[kind], 1);
     }

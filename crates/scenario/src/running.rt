@@ -6,6 +6,7 @@ use crate::drawing::bar;
 use crate::drawing::starts_waiting;
 use crate::drawing::stops_waiting;
 use crate::explaining::explain;
+use crate::lift;
 use crate::printing::mode;
 use crate::printing::name;
 use crate::printing::plain;
@@ -37,91 +38,94 @@ fn coming(x: Run) -> u64 {
     time::min_of(at(readings, x.woken), x.until)
 }
 
-fn with_work(given: Run, id: u64, left: u64) -> Run {
-    let work = given.work;
+fn with_work(mut x: Run, id: u64, left: u64) -> Run {
+    let work = x.work;
     let after = with(work, id, left);
-    let mut x = given;
     x.work = after;
     x
 }
 
 // A thread has work again, and goes into the queue.
-fn wake(q: &mut QueueRows, t: &mut [Row], given: Run) -> Run {
-    let n = given.woken;
-    let who = given.wake_who;
-    let works = given.wake_work;
+fn wake(q: &mut QueueRows, t: &mut [Row], mut x: Run) -> Run {
+    let n = x.woken;
+    let who = x.wake_who;
+    let works = x.wake_work;
     let id = at(who, n);
-    let mut x = with_work(given, id, at(works, n));
+    x = with_work(x, id, at(works, n));
     x.woken = text::saturating_add(n, 1);
-    let b = calls::prepare(t, x, id, 0, x.now);
-    starts_waiting(calls::enqueue(q, t, b, id, 0), id)
+    x = calls::prepare(t, x, id, 0, x.now);
+    x = calls::enqueue(q, t, x, id, 0);
+    starts_waiting(x, id)
 }
 
 // A selection beside the running thread, explained where that is asked for.
-fn selected(q: &mut QueueRows, t: &mut [Row], x: Run) -> Run {
-    let a = calls::candidate(t, x, x.current, x.running, x.now);
-    let b = calls::select(q, t, a, x.now, x.running);
-    if b.number != 0 || b.explains == 0 {
-        return b;
+fn selected(q: &mut QueueRows, t: &mut [Row], mut x: Run) -> Run {
+    x = calls::candidate(t, x, x.current, x.running, x.now);
+    x = calls::select(q, t, x, x.now, x.running);
+    if x.number != 0 || x.explains == 0 {
+        return x;
     }
-    say_one(b.output, b"at %A", b.now);
-    explain(q, t, b, b.now)
+    say_one(x.output, b"at %A", x.now);
+    explain(q, t, x, x.now)
 }
 
 // By the switch rule; a turn that is spent ends.
-fn chosen(t: &mut [Row], x: Run) -> Run {
-    let a = calls::candidate(t, x, x.current, x.running, x.now);
-    let b = calls::runner_key(a, x.running, x.now);
-    let c = calls::expired(t, b, x.current);
-    let d = calls::switch(c, 0, 0);
-    if d.expired == 0 {
-        return d;
+fn chosen(t: &mut [Row], mut x: Run) -> Run {
+    x = calls::candidate(t, x, x.current, x.running, x.now);
+    x = calls::runner_key(x, x.running, x.now);
+    x = calls::expired(t, x, x.current);
+    x = calls::switch(x, 0, 0);
+    if x.expired == 0 {
+        return x;
     }
-    calls::finish(t, d, x.current)
+    calls::finish(t, x, x.current)
 }
 
 // Nobody takes over; a thread that waits gives way to the idle one.
-fn stayed(given: Run) -> Run {
-    let mut x = given;
-    if given.running == 0 {
-        x.current = given.idle;
+fn stayed(mut x: Run) -> Run {
+    if x.running == 0 {
+        x.current = x.idle;
         x.running = 1;
     }
     x
 }
 
 // Whoever gives way is enqueued again, unless its work is done or it is the idle thread.
-fn gave_way(q: &mut QueueRows, t: &mut [Row], x: Run) -> Run {
+fn gave_way(q: &mut QueueRows, t: &mut [Row], mut x: Run) -> Run {
     if x.running == 0 || x.current == x.idle {
         return x;
     }
-    let front = x.choice[calls::TO_FRONT];
-    let a = calls::prepare(t, x, x.current, front, x.now);
-    starts_waiting(calls::enqueue(q, t, a, x.current, front), x.current)
+    let choice = x.choice;
+    let front = choice[calls::TO_FRONT];
+    x = calls::prepare(t, x, x.current, front, x.now);
+    x = calls::enqueue(q, t, x, x.current, front);
+    starts_waiting(x, x.current)
 }
 
 // The chosen thread leaves the queue and runs.
-fn taken(q: &mut QueueRows, t: &mut [Row], given: Run) -> Run {
-    if given.number != 0 {
-        return given;
-    }
-    let id = given.selected[board_words::SELECTED_ID];
-    let mut x = given;
-    x.current = id;
-    x.running = 1;
-    calls::remove(q, t, stops_waiting(x, id), id)
-}
-
-// As chosen.
-fn followed(q: &mut QueueRows, t: &mut [Row], x: Run) -> Run {
+fn taken(q: &mut QueueRows, t: &mut [Row], mut x: Run) -> Run {
     if x.number != 0 {
         return x;
     }
-    if x.choice[calls::IS_THERE] == 0 {
+    let selected = x.selected;
+    let id = selected[board_words::SELECTED_ID];
+    x.current = id;
+    x.running = 1;
+    x = stops_waiting(x, id);
+    calls::remove(q, t, x, id)
+}
+
+// As chosen.
+fn followed(q: &mut QueueRows, t: &mut [Row], mut x: Run) -> Run {
+    if x.number != 0 {
+        return x;
+    }
+    let choice = x.choice;
+    if choice[calls::IS_THERE] == 0 {
         return stayed(x);
     }
-    let a = gave_way(q, t, x);
-    taken(q, t, a)
+    x = gave_way(q, t, x);
+    taken(q, t, x)
 }
 
 // How far the running thread gets.
@@ -135,11 +139,11 @@ fn reached(x: Run) -> u64 {
 }
 
 // What the running thread has left; it waits from there on where that is nothing.
-fn worked(given: Run, length: u64) -> Run {
-    let id = given.current;
-    let work = given.work;
+fn worked(mut x: Run, length: u64) -> Run {
+    let id = x.current;
+    let work = x.work;
     let left = time::saturating_sub(at(work, id), length);
-    let mut x = with_work(given, id, left);
+    x = with_work(x, id, left);
     if left == 0 {
         x.running = 0;
     }
@@ -186,54 +190,59 @@ fn charged_mode(x: Run) -> u64 {
 }
 
 // A stretch, printed or drawn; then its time is charged.
-fn stretch(t: &mut [Row], given: Run) -> Run {
-    if given.number != 0 {
-        return given;
+fn stretch(t: &mut [Row], mut x: Run) -> Run {
+    if x.number != 0 {
+        return x;
     }
-    let end = reached(given);
-    let length = time::saturating_sub(end, given.now);
-    if given.output == TEXT {
-        told(given, length);
+    let start = x.now;
+    let end = reached(x);
+    let length = time::saturating_sub(end, start);
+    if x.output == TEXT {
+        told(x, length);
     }
-    let mut x = worked(bar(given, end), length);
-    x.mode = charged_mode(given);
+    x = bar(x, end);
+    x = worked(x, length);
+    let mode = charged_mode(x);
+    x.mode = mode;
     x.now = end;
-    calls::account(t, x, given.current, x.mode, given.now, end)
+    calls::account(t, x, x.current, mode, start, end)
 }
 
 // It is chosen who runs.
-fn decided(q: &mut QueueRows, t: &mut [Row], x: Run) -> Run {
-    let a = selected(q, t, x);
-    let b = chosen(t, a);
-    followed(q, t, b)
+fn decided(q: &mut QueueRows, t: &mut [Row], mut x: Run) -> Run {
+    x = selected(q, t, x);
+    x = chosen(t, x);
+    followed(q, t, x)
 }
 
 // A wake or a stretch.
-fn cycle(q: &mut QueueRows, t: &mut [Row], x: Run) -> Run {
+fn cycle(q: &mut QueueRows, t: &mut [Row], mut x: Run) -> Run {
     if coming(x) <= x.now {
         return wake(q, t, x);
     }
-    let a = decided(q, t, x);
-    let b = calls::armed(q, t, a, a.current, a.running, a.now);
-    stretch(t, b)
+    x = decided(q, t, x);
+    x = calls::armed(q, t, x, x.current, x.running, x.now);
+    stretch(t, x)
 }
 
-fn cycles(q: &mut QueueRows, t: &mut [Row], given: Run) -> Run {
+fn cycles(q: &mut QueueRows, t: &mut [Row], list: &mut [u64], given: Run) -> Run {
     let mut x = given;
     let mut left: u64 = MOST_CYCLES;
     while 0 < left {
         if x.number != 0 || x.until <= x.now {
             return x;
         }
+        let start = x.now;
+        let woken = x.woken;
         x = cycle(q, t, x);
+        x = lift::kept(list, x, start, woken);
         left -= 1;
     }
     x
 }
 
 // A refusal ends a run, with its line named again, and is counted; so does its length. After this the line has its end.
-fn closed(given: Run) -> Run {
-    let mut x = given;
+fn closed(mut x: Run) -> Run {
     if x.number == 0 && x.until <= x.now {
         return x;
     }
@@ -249,17 +258,22 @@ fn closed(given: Run) -> Run {
     counted(x, REFUSED)
 }
 
+fn heading(output: u64) {
+    tell(
+        output,
+        b":\n       reading  thread          why             urgency rank            for       deadline\n",
+    );
+}
+
 // Without an idle thread there is nobody to run first.
-pub fn run(q: &mut QueueRows, t: &mut [Row], given: Run, until: u64) -> Run {
-    let mut x = given;
+pub fn run(q: &mut QueueRows, t: &mut [Row], list: &mut [u64], mut x: Run, until: u64) -> Run {
     if x.idle == NOBODY {
         x.number = NO_IDLE;
         return x;
     }
     x.until = until;
-    tell(
-        x.output,
-        b":\n       reading  thread          why             urgency rank            for       deadline\n",
-    );
-    all_keep_waiting(closed(cycles(q, t, x)))
+    heading(x.output);
+    x = cycles(q, t, list, x);
+    x = closed(x);
+    all_keep_waiting(x)
 }

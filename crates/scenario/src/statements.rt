@@ -41,24 +41,31 @@ pub const LENGTHS: u64 = 15;
 
 pub const QUEUE_WORD: u64 = 16;
 
-// Of queue and window.
+// Of queue and window; a run is of the lift record, too.
 pub const SELECT: u64 = 17;
 
 pub const DEADLINE: u64 = 18;
 
 pub const RUN: u64 = 19;
 
+// Of the lift record.
+pub const LIFT: u64 = 20;
+
+pub const SLIDE: u64 = 21;
+
+pub const LIFT_WORD: u64 = 22;
+
 // A thread by its policy.
-pub const FIFO: u64 = 20;
+pub const FIFO: u64 = 23;
 
-pub const FAIR: u64 = 21;
+pub const FAIR: u64 = 24;
 
-pub const BUDGET: u64 = 22;
+pub const BUDGET: u64 = 25;
 
-pub const IDLE: u64 = 23;
+pub const IDLE: u64 = 26;
 
 // How many there are.
-const COUNT: u64 = 24;
+const COUNT: u64 = 27;
 
 // Between the forms.
 pub const NEW_LINE: u8 = 10;
@@ -67,6 +74,24 @@ pub const NEW_LINE: u8 = 10;
 const VALUES: usize = 12;
 
 pub type Values = [u64; VALUES];
+
+// The values of the words behind a statement's name, as many as most statements have. (They are taken out of the array
+// once, since each step that does so is dear to check where a run is held.)
+pub struct Fields {
+    pub first: u64,
+    pub second: u64,
+    pub third: u64,
+    pub fourth: u64,
+}
+
+pub fn fields_in(a: Values) -> Fields {
+    Fields {
+        first: a[1],
+        second: a[2],
+        third: a[3],
+        fourth: a[4],
+    }
+}
 
 // By the form of its number a line goes furthest: why it goes no further (causes.rt), the place of the form's word
 // there, how much of the line is left, and the values.
@@ -79,14 +104,14 @@ pub struct Statement {
 }
 
 // The limits are those of crate board's entries, and of the words that there are.
-pub const FORMS: [u8; 1090] =
+pub const FORMS: [u8; 1161] =
     *b"window period:~ allowance:~ floor:~ priority_rank:#255 budget_rank:#255 fair_rank:#255 borrow_rank:#255 \
     .. prefer-fair\n\
     switch expired:# yielding:# tail:#\n\
     wake thread:@ work:~ the_word_at:at reading:~\n\
     records number_of_records:#4_097\n\
     explain on_or_off:off|on\n\
-    word window,_turns,_record_or_queue:window place:#11 value:#\n\
+    word window,_turns,_record,_queue_or_lift:window place:#11 value:#\n\
     word turns place:#1 value:#\n\
     prepare thread:@ back_or_front:back|front reading:~\n\
     account thread:@ mode:strict|priority|protected|ordinary|borrow start:~ end:~\n\
@@ -101,6 +126,9 @@ pub const FORMS: [u8; 1090] =
     select reading:~ .. current thread:@\n\
     deadline thread:@ reading:~\n\
     run end_of_the_run:~\n\
+    lift reading:~ width:~\n\
+    slide reading:~\n\
+    word lift place:# value:#\n\
     thread name:= policy:fifo priority:#255 role:ordinary|priority|protected .. hook hook:^\n\
     thread name:= policy:fair backend:stride|round-robin weight:#65_535 slice:~ role:ordinary|priority|protected \
     .. hook hook:^\n\

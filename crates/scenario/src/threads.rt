@@ -89,10 +89,9 @@ fn judged(statement: u64, a: Values) -> u64 {
 }
 
 // It always works; a board starts with it.
-fn idle(given: Run, id: u64) -> Run {
-    let work = given.work;
+fn idle(mut x: Run, id: u64) -> Run {
+    let work = x.work;
     let endless = with(work, id, ENDLESS);
-    let mut x = given;
     x.work = endless;
     x.idle = id;
     x.current = id;
@@ -101,11 +100,10 @@ fn idle(given: Run, id: u64) -> Run {
 }
 
 // The name goes behind the others.
-fn named(given: Run, word: &[u8]) -> Run {
-    let mut names = given.names;
-    let place = text::nth(&names, SPACE, given.threads as usize);
+fn named(mut x: Run, word: &[u8]) -> Run {
+    let mut names = x.names;
+    let place = text::nth(&names, SPACE, x.threads as usize);
     text::fill(&mut names, place.start, b"%@ ", &[0], word);
-    let mut x = given;
     x.names = names;
     x
 }
@@ -123,14 +121,13 @@ fn named_by(x: Run, line: &[u8]) -> Run {
 }
 
 // With one thread more, and a record for it at least.
-fn grown(given: Run, id: u64, letter: u64) -> Run {
+fn grown(mut x: Run, id: u64, letter: u64) -> Run {
     let count = text::saturating_add(id, 1);
-    let hooks = given.hooks;
+    let hooks = x.hooks;
     let after = with(hooks, id, letter);
-    let mut x = given;
     x.hooks = after;
     x.threads = count;
-    x.records = time::max_of(given.records, count);
+    x.records = time::max_of(x.records, count);
     x
 }
 
@@ -142,9 +139,8 @@ fn stored(t: &mut [Row], id: u64, row: Row) {
     }
 }
 
-pub fn thread(t: &mut [Row], given: Run, line: &[u8], statement: u64, a: Values) -> Run {
-    let id = given.threads;
-    let mut x = given;
+pub fn thread(t: &mut [Row], mut x: Run, line: &[u8], statement: u64, a: Values) -> Run {
+    let id = x.threads;
     x.number = judged(statement, a);
     if x.number != 0 {
         return x;

@@ -10,8 +10,7 @@ use lent_queue::QueueRows;
 // The turn counters.
 const BOTH: u64 = 2;
 
-pub fn set_queue(q: &mut QueueRows, given: Run, row: u64, k: u64, value: u64) -> Run {
-    let mut x = given;
+pub fn set_queue(q: &mut QueueRows, mut x: Run, row: u64, k: u64, value: u64) -> Run {
     let i = row as usize;
     let j = k as usize;
     if i < QUEUE_ROWS {
@@ -23,8 +22,7 @@ pub fn set_queue(q: &mut QueueRows, given: Run, row: u64, k: u64, value: u64) ->
     x
 }
 
-pub fn set_record(t: &mut [Row], given: Run, id: u64, k: u64, value: u64) -> Run {
-    let mut x = given;
+pub fn set_record(t: &mut [Row], mut x: Run, id: u64, k: u64, value: u64) -> Run {
     let i = id as usize;
     let j = k as usize;
     if t.len() <= i {
@@ -38,8 +36,7 @@ pub fn set_record(t: &mut [Row], given: Run, id: u64, k: u64, value: u64) -> Run
     x
 }
 
-pub fn set_window(given: Run, k: u64, value: u64) -> Run {
-    let mut x = given;
+pub fn set_window(mut x: Run, k: u64, value: u64) -> Run {
     let i = k as usize;
     if i < window_words::WINDOW_WORDS {
         x.former = x.window[i];
@@ -49,8 +46,7 @@ pub fn set_window(given: Run, k: u64, value: u64) -> Run {
 }
 
 // A turn counter, 0 the back one, 1 the front one.
-pub fn set_turns(given: Run, k: u64, value: u64) -> Run {
-    let mut x = given;
+pub fn set_turns(mut x: Run, k: u64, value: u64) -> Run {
     let i = (k % BOTH) as usize;
     x.former = x.turns[i];
     x.turns[i] = value;

@@ -12,5 +12,7 @@ pub mod QueueCases
 pub mod SelectionCases
 -- The rows about turns, accounting, the switch rule and deadlines.
 pub mod RuntimeCases
+-- The rows about the lift record.
+pub mod RecordCases
 -- The table of the ● cases, with one proof over it.
 pub mod WorkedCases

@@ -1,5 +1,5 @@
--- The ● cases of document 01, and others of the queue, of selection and of the runtime, each subject's rows in one
--- table, and one proof over it by computation.
+-- The ● cases of document 01, others of the queue, of selection and of the runtime, and those of the lift record, each
+-- subject's rows in one table, and one proof over it by computation.
 use mathlib.Core.Path.{_≡_, refl}
 use mathlib.Core.Bool.{true}
 use mathlib.Core.List.{List, _++_}
@@ -59,16 +59,20 @@ use Rattle.runtime.specs.Judging as judging
 use Rattle.runtime.specs.Prepare as prepare
 use Rattle.runtime.specs.Account as account
 use Rattle.runtime.specs.Deadline as due
+use Rattle.lift_record.specs.Record.{inOrderFrom, endedBy, startedBefore, placeOf, partAt, placed, searchLeft}
+use Rattle.lift_record.specs.Record.{samePlace, isAfresh, slidTo, slideLeft, endBefore, withRun, appendLeft}
+use Rattle.lift_record.specs.Halving.{edgeBefore, precedes, halving, halved, halvedPlace, inOrderSince, searchFromLeft}
 use Rattle.worked_cases.specs.Rows.{Row, allAsSaid}
 use Rattle.worked_cases.specs.LeafCases.{budgetRows, windowRows}
 use Rattle.worked_cases.specs.TreeCases.{treeRows}
 use Rattle.worked_cases.specs.QueueCases.{queueRows}
 use Rattle.worked_cases.specs.SelectionCases.{selectionRows}
 use Rattle.worked_cases.specs.RuntimeCases.{runtimeRows}
+use Rattle.worked_cases.specs.RecordCases.{recordRows}
 
 -- Each subject adds its rows here.
 abbrev pub table : List Row
-table = budgetRows ++ windowRows ++ treeRows ++ queueRows ++ selectionRows ++ runtimeRows
+table = budgetRows ++ windowRows ++ treeRows ++ queueRows ++ selectionRows ++ runtimeRows ++ recordRows
 
 pub worked-cases : allAsSaid table ≡ true
 unfolding choose ifLess ifEqual given compareNumbers thenBy compareParts onOrdering onPolicy onRole onBackend onBudget
@@ -101,5 +105,6 @@ unfolding choose ifLess ifEqual given compareNumbers thenBy compareParts onOrder
     prepare.storedPreparation prepare.prepared prepare.prepareEnqueue account.accountRecord account.accounting
     account.settled account.accountCurrent account.finishing account.finishTurn due.dueWith due.dueWithout due.dueAt
     due.dueOf due.armed due.refreshDeadline call.nextDeadlineCall windows.nextDeadline windows.atRenewal earliestOf
-    unlessBack
+    unlessBack inOrderFrom endedBy startedBefore placeOf partAt placed searchLeft samePlace isAfresh slidTo slideLeft
+    endBefore withRun appendLeft edgeBefore precedes halving halved halvedPlace inOrderSince searchFromLeft
 worked-cases = refl

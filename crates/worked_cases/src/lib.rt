@@ -7,5 +7,5 @@ ghost use Rattle.worked_cases.specs.WorkedCases.{table};
 pub fn count() -> u64
     ensures { λ r. ⌜ r ≡ length table ⌝ }
 {
-    66
+    95
 }

@@ -74,6 +74,38 @@
 //! # }
 //! ```
 //!
+//! # The lift record
+//!
+//! Who ran when: a list of [`Run`]s, recorded as they end. A screen asks for the part of it that lies in the stretch
+//! before a reading, and where a list is complete moves that stretch on.
+//!
+//! ```
+//! use board::{Place, Refusal, Run};
+//!
+//! # fn main() -> Result<(), Refusal> {
+//! let (mut list, mut runs) = ([Run::NONE; 6], 0);
+//! for run in [(0, 4, 0), (4, 9, 1), (10, 10, 2), (12, 20, 0), (20, 20, 1), (25, 30, 2)] {
+//!     board::append(&mut list, runs, Run::new(run.0, run.1, run.2))?;
+//!     runs += 1;
+//! }
+//!
+//! // Made by `append`, all runs are known to be in order, so that the search need not look at each of them.
+//! let (part, place) = board::lift_from(&list[..runs], runs, 15, 6)?;
+//! assert_eq!(place, Place::new(2, 2));
+//! assert_eq!(part, &[Run::new(10, 10, 2), Run::new(12, 20, 0)]);
+//!
+//! // From there to a later reading.
+//! let (part, slid) = board::slide(&list[..runs], 6, 15, place, 24)?;
+//! assert_eq!((slid.place(), slid.afresh()), (Place::new(3, 2), false));
+//! assert_eq!(part, &list[3..5]);
+//!
+//! // A list that is full, and a run that starts before the last has ended.
+//! assert_eq!(board::append(&mut list, runs, Run::new(30, 31, 0)), Err(Refusal::BadTable));
+//! assert_eq!(board::append(&mut list, 5, Run::new(19, 31, 0)), Err(Refusal::RecordOrder));
+//! # Ok(())
+//! # }
+//! ```
+//!
 //! # Linking
 //!
 //! The package links libboard.a and libimages.a from the folder that the variable `STATICLIB_DIR` names, else from the
@@ -86,6 +118,7 @@
 
 mod calls;
 mod choices;
+mod lift_record;
 mod queue;
 mod record;
 mod refusal;
@@ -99,6 +132,7 @@ pub use calls::{
     prepare, remove, select, switch, version, window,
 };
 pub use choices::{Backend, Mode, Policy, Role};
+pub use lift_record::{Place, Run, Slid, append, lift, lift_from, slide};
 pub use queue::{Path, Queue};
 pub use record::{
     Budget, Candidate, MOST_RECORDS, Membership, Record, Runtime, USUAL_BAND, USUAL_WEIGHT,
@@ -129,6 +163,8 @@ const _: () = {
     assert!(size_of::<Choice>() == size_of::<words::ChoiceWords>());
     assert!(size_of::<Lengths>() == size_of::<words::LengthWords>());
     assert!(size_of::<Turns>() == size_of::<words::TurnWords>());
+    assert!(size_of::<Run>() == size_of::<words::RunWords>());
+    assert!(align_of::<Run>() == align_of::<u64>());
 };
 
 // Words that follow one another: the last of each shape, a configuration in front of a window, a key's parts and a
@@ -149,4 +185,9 @@ const _: () = {
             && BUDGET_LENGTH + 1 == LENGTH_WORDS
     );
     assert!(CANDIDATE_TURN == READY_TURN && DEADLINE_AT + 1 == DEADLINE_WORDS);
+    assert!(
+        RUN_THREAD + 1 == RUN_WORDS
+            && PLACE_COUNT + 1 == PLACE_WORDS
+            && SLID_AFRESH + 1 == SLID_WORDS
+    );
 };

@@ -2,12 +2,13 @@
 
 use core::fmt;
 
-/// The refusals with their numbers in document 01, each said once.
+/// The refusals with their numbers in documents 01 and 02, each said once.
 macro_rules! refusals {
     ($($(#[$doc:meta])* $name:ident = $number:literal, $words:literal;)*) => {
         /// Why a call was not made. Where several hold, the first of this order is answered: [`BadTable`],
         /// [`BadConfig`], [`Halted`], [`NoThread`], [`BadRecord`], [`BadState`] of an Idle thread, [`Already`],
-        /// [`BadState`] of another processor's thread, [`Damaged`]; [`BackInTime`] and [`TurnsSpent`] come last.
+        /// [`BadState`] of another processor's thread, [`Damaged`]; [`BackInTime`] and [`TurnsSpent`] come last. Of a
+        /// lift record [`RecordOrder`] comes first, but where a run is recorded after [`BadTable`].
         ///
         /// A later version may have more of them.
         ///
@@ -21,6 +22,7 @@ macro_rules! refusals {
         /// [`Damaged`]: Refusal::Damaged
         /// [`BackInTime`]: Refusal::BackInTime
         /// [`TurnsSpent`]: Refusal::TurnsSpent
+        /// [`RecordOrder`]: Refusal::RecordOrder
         #[non_exhaustive]
         #[derive(Clone, Copy, Debug, PartialEq, Eq, Hash)]
         pub enum Refusal {
@@ -39,7 +41,7 @@ macro_rules! refusals {
                 }
             }
 
-            /// Its number in document 01, which the C call answers.
+            /// Its number in the documents, which the C call answers.
             pub const fn number(self) -> u64 {
                 match self {
                     $(Self::$name => $number,)*
@@ -47,7 +49,7 @@ macro_rules! refusals {
                 }
             }
 
-            /// Its name in document 01.
+            /// Its name there.
             pub const fn name(self) -> &'static str {
                 match self {
                     $(Self::$name => stringify!($name),)*
@@ -87,12 +89,15 @@ refusals! {
     /// The queue cannot go on. The call that meets it first keeps its stores so far and marks the queue; from then on
     /// every call on that queue is refused so and changes nothing. [`new`](crate::new) makes it empty again.
     Halted = 9, "the queue is halted";
-    /// More than [`MOST_RECORDS`](crate::MOST_RECORDS) records, or bytes that are not as many as an image has. Nothing
-    /// is changed.
-    BadTable = 10, "too many records, or not the length of an image";
+    /// More than [`MOST_RECORDS`](crate::MOST_RECORDS) records, bytes that are not as many as an image has, or a lift
+    /// record without room for a run more. Nothing is changed.
+    BadTable = 10, "too many records, not the length of an image, or no room for a run";
     /// Policy, budget and runtime of a record disagree, or its budget is bad: budget and burst are 1 to the period, the
     /// period is 1 to 1,000,000,000. Nothing is changed, but a selection keeps its stores so far.
     BadRecord = 11, "policy, budget and runtime of a record disagree, or its budget is bad";
+    /// Of a lift record: a run ends before it starts, or starts before the end of the run before; of words, also a
+    /// count that is no whole number of runs. Nothing is changed.
+    RecordOrder = 12, "the runs of a lift record are out of order";
 }
 
 impl fmt::Display for Refusal {

@@ -543,23 +543,23 @@ fn images_are_refused() {
 #[test]
 fn refusals_have_their_numbers_and_names() {
     assert_eq!(Refusal::from_number(0), None);
-    let names: Vec<_> = (1..=11)
+    let names: Vec<_> = (1..=12)
         .filter_map(Refusal::from_number)
         .map(Refusal::name)
         .collect();
-    let document = "Damaged BadState Already NoThread BadConfig BadBudget BackInTime TurnsSpent \
-        Halted BadTable BadRecord";
-    assert_eq!(names.join(" "), document);
-    for number in 1..=12 {
+    let documents = "Damaged BadState Already NoThread BadConfig BadBudget BackInTime TurnsSpent \
+        Halted BadTable BadRecord RecordOrder";
+    assert_eq!(names.join(" "), documents);
+    for number in 1..=13 {
         assert_eq!(
             Refusal::from_number(number).map(Refusal::number),
             Some(number)
         );
     }
-    let later = Refusal::from_number(12).expect("a refusal");
+    let later = Refusal::from_number(13).expect("a refusal");
     assert_eq!(
         later.to_string(),
-        "Unknown (12): a refusal of a later version"
+        "Unknown (13): a refusal of a later version"
     );
     let error: &dyn core::error::Error = &Refusal::Halted;
     assert_eq!(error.to_string(), "Halted (9): the queue is halted");

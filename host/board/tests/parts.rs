@@ -2,8 +2,8 @@
 
 use board::words::*;
 use board::{
-    Candidate, Choice, Config, Demand, Key, Lengths, Membership, Mode, Policy, Ranks, Record, Role,
-    Selection, Turns, Window,
+    Candidate, Choice, Config, Demand, Key, Lengths, Membership, Mode, Place, Policy, Ranks,
+    Record, Role, Run, Selection, Slid, Turns, Window,
 };
 
 /// Words that all differ, each of them a byte.
@@ -176,4 +176,18 @@ fn of_other_answers() {
     );
     let turns = Turns::from_words([5, 6]);
     assert_eq!((turns.back(), turns.front()), (5, 6));
+}
+
+#[test]
+fn of_a_lift_record() {
+    let run = Run::new(5, 6, 7);
+    assert_eq!(run.words(), &[5, 6, 7]);
+    assert_eq!((run.start_ns(), run.end_ns(), run.thread()), (5, 6, 7));
+    assert_eq!(Run::from_words([5, 6, 7]), run);
+    let place = Place::new(8, 9);
+    assert_eq!(place.words(), &[8, 9]);
+    assert_eq!((place.first(), place.count()), (8, 9));
+    let slid = Slid::from_words([8, 9, 1]);
+    assert_eq!((slid.place(), slid.afresh()), (place, true));
+    assert!(!Slid::from_words([8, 9, 0]).afresh());
 }

@@ -1,5 +1,5 @@
 //! The places of words are those of the definitions: each constant of `board::words` is held to the line `name =
-//! number` of the crate that defines it.
+//! number` of the crate that defines it, or to the constant of the code where no definition names the number.
 
 use std::collections::HashMap;
 use std::fs;
@@ -7,13 +7,15 @@ use std::path::PathBuf;
 
 use board::words::*;
 
-/// The lines `name = number` of a crate's definitions.
+/// The lines `name = number` of a crate's definitions, or `pub const name: usize = number;` of its code.
 fn defined(file: &str) -> HashMap<String, usize> {
     let crates = PathBuf::from(env!("CARGO_MANIFEST_DIR")).join("../../crates");
     let text = fs::read_to_string(crates.join(file)).expect("the definitions");
     let numbers = text.lines().filter_map(|line| {
-        let (name, number) = line.split_once(" = ")?;
-        Some((name.to_string(), number.parse().ok()?))
+        let (name, number) = line.trim_end_matches(';').split_once(" = ")?;
+        let name = name.trim_start_matches("pub const ");
+        let name = name.trim_end_matches(": usize").to_string();
+        Some((name, number.parse().ok()?))
     });
     numbers.collect()
 }
@@ -132,5 +134,24 @@ fn queues() {
     held(
         "lent_queue/specs/LentQueue.antt",
         &[("queueRows", QUEUE_ROWS)],
+    );
+}
+
+/// What the code stores begins with the number that the entries answer; the place stands behind it.
+#[test]
+fn runs_places_and_slides() {
+    held(
+        "lift_record/src/lib.rt",
+        &[
+            ("START", RUN_START),
+            ("END", RUN_END),
+            ("THREAD", RUN_THREAD),
+            ("RUN_WORDS", RUN_WORDS),
+            ("FOUND_FIRST", PLACE_FIRST + 1),
+            ("FOUND_COUNT", PLACE_COUNT + 1),
+            ("FOUND_WORDS", PLACE_WORDS + 1),
+            ("SLID_AFRESH", SLID_AFRESH + 1),
+            ("SLID_WORDS", SLID_WORDS + 1),
+        ],
     );
 }

@@ -18,6 +18,7 @@ macro_rules! named {
             9 => concat!($call, ", Halted"),
             10 => concat!($call, ", BadTable"),
             11 => concat!($call, ", BadRecord"),
+            12 => concat!($call, ", RecordOrder"),
             _ => concat!($call, ", a number that it does not have"),
         }
     };

@@ -1,4 +1,4 @@
--- The loop ends: what is left of the text falls; the table keeps its length.
+-- The loop ends: what is left of the text falls; the table and the list keep their lengths.
 use Prim.Native.Nat.{_-_}
 use mathlib.Core.Path.{_≡_}
 use lib.ListN.{length}
@@ -7,10 +7,10 @@ use Rattle.scenario.proofs.lines_by.Statement.{statement}
 use Rattle.scenario.proofs.lines_by.Tie as tie
 
 abbrev Inv-loop : tie.InvT-loop
-Inv-loop forms text q₀ t₀ x₀ at₀ q t x at = length t ≡ length t₀
+Inv-loop forms text q₀ t₀ list₀ x₀ at₀ q t list x at = (length t ≡ length t₀) × (length list ≡ length list₀)
 
 abbrev μ-loop : tie.MeasureT-loop
-μ-loop forms text q₀ t₀ x₀ at₀ q t x at = length text - at
+μ-loop forms text q₀ t₀ list₀ x₀ at₀ q t list x at = length text - at
 
 pub lines-by-spec : {M : Type 1} → statement M
 lines-by-spec =
@@ -25,8 +25,11 @@ lines-by-spec =
     (λ c. search needs)
     (λ c. search needs)
     (λ c. search needs)
+    (λ c. search needs)
     (λ c κs. search needs)
     (λ c. search needs)
     (λ c. search needs)
     (λ c. search needs)
+    (λ c. search needs)
+    (λ c κs. search needs)
     (λ c. search needs))

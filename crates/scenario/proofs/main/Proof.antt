@@ -5,10 +5,10 @@ use Rattle.scenario.proofs.main.Statement.{statement}
 use Rattle.scenario.proofs.main.Tie as tie
 
 abbrev Inv-loop : tie.InvT-loop
-Inv-loop count drawn₀ i₀ t4 t5 drawn i = Unit {0}
+Inv-loop count output₀ i₀ output i = Unit {0}
 
 abbrev μ-loop : tie.MeasureT-loop
-μ-loop count drawn₀ i₀ t4 t5 drawn i = count - i
+μ-loop count output₀ i₀ output i = count - i
 
 pub main-spec : {M : Type 1} → statement M
 main-spec =
@@ -19,8 +19,6 @@ main-spec =
     (λ c κs. search needs)
     (λ c. search needs)
     (λ c κs. search needs)
-    (λ c. search needs)
-    (λ c. search needs)
     (λ c. search needs)
     (λ c. search needs)
     (λ c. search needs)

@@ -1,9 +1,10 @@
-//! The C calls as crates/board exports them. The table goes as its address and its count of rows, an array as its
-//! address. A count has 64 bits on every target: the library reads it so, also where an address has 32.
+//! The C calls as crates/board exports them. The table goes as its address and its count of rows, a lift record as its
+//! address and its count of words, an array as its address. A count has 64 bits on every target: the library reads it
+//! so, also where an address has 32.
 
 use super::{
     ChoiceWords, ConfigWords, DeadlineWords, DemandWords, FlagWord, KeyWords, LengthWords, Path,
-    QueueWords, Row, SelectionWords, TurnWords, WindowWords,
+    PlaceWords, QueueWords, Row, SelectionWords, SlidWords, TurnWords, WindowWords,
 };
 
 unsafe extern "C" {
@@ -102,5 +103,38 @@ unsafe extern "C" {
         ready: u64,
         demand: *const DemandWords,
         answer: *mut DeadlineWords,
+    ) -> u64;
+    pub fn board_lift(
+        list: *const u64,
+        words: u64,
+        now_ns: u64,
+        width_ns: u64,
+        place: *mut PlaceWords,
+    ) -> u64;
+    pub fn board_lift_from(
+        list: *const u64,
+        words: u64,
+        ordered: u64,
+        now_ns: u64,
+        width_ns: u64,
+        place: *mut PlaceWords,
+    ) -> u64;
+    pub fn board_slide(
+        list: *const u64,
+        words: u64,
+        width_ns: u64,
+        earlier_ns: u64,
+        first: u64,
+        count: u64,
+        now_ns: u64,
+        slid: *mut SlidWords,
+    ) -> u64;
+    pub fn board_append(
+        list: *mut u64,
+        words: u64,
+        runs: u64,
+        start: u64,
+        end: u64,
+        thread: u64,
     ) -> u64;
 }

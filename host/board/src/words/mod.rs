@@ -1,11 +1,12 @@
-//! The C calls on words: each takes plain numbers, arrays and slices, and each but [`version`] answers document 01's
-//! number, 0 where it was made.
+//! The C calls on words: each takes plain numbers, arrays and slices, and each but [`version`] answers the number of
+//! documents 01 and 02, 0 where it was made.
 //!
 //! For whoever has words of any kind, such as the programs that compare the entries with the Rust. Any words are taken:
 //! a flag is set where its word is not 0, a byte is its word's remainder by 256, a number beyond the last of a choice
 //! stands for the last. What the words stand for: a row crates/codec/specs/Codec.antt; a window, candidate, demand and
 //! key crates/window_words/specs/WindowWords.antt; a selection, counters and a choice
-//! crates/board_words/specs/BoardWords.antt; a queue crates/lent_queue/specs/LentQueue.antt. The calls of the crate's
+//! crates/board_words/specs/BoardWords.antt; a queue crates/lent_queue/specs/LentQueue.antt; a lift record
+//! crates/lift_record/specs/Record.antt. The calls of the crate's
 //! root are these calls on types of their own, and say what each does.
 
 mod declared;
@@ -70,6 +71,21 @@ pub type DeadlineWords = [u64; DEADLINE_WORDS];
 pub const FLAG_WORDS: usize = 1;
 /// One flag.
 pub type FlagWord = [u64; FLAG_WORDS];
+
+/// How many words a run of a lift record has.
+pub const RUN_WORDS: usize = 3;
+/// The run's start, its end and its thread's number.
+pub type RunWords = [u64; RUN_WORDS];
+
+/// How many words a place in a lift record has.
+pub const PLACE_WORDS: usize = 2;
+/// The first run of a part, and how many runs it has.
+pub type PlaceWords = [u64; PLACE_WORDS];
+
+/// How many words a slide answers.
+pub const SLID_WORDS: usize = 3;
+/// The place, and whether the slide searched afresh.
+pub type SlidWords = [u64; SLID_WORDS];
 
 /// A selection's thread as the ready thread of `switch`.
 #[inline]
@@ -259,4 +275,54 @@ pub fn deadline(
             answer,
         )
     }
+}
+
+/// Document 02's search in a lift record, whose words may be no whole number of runs.
+#[inline]
+pub fn lift(list: &[u64], now_ns: u64, width_ns: u64, place: &mut PlaceWords) -> u64 {
+    // SAFETY: addresses and count are those of what is lent.
+    unsafe { board_lift(list.as_ptr(), list.len() as u64, now_ns, width_ns, place) }
+}
+
+/// The same, where order is judged from run number `ordered` on.
+#[inline]
+pub fn lift_from(
+    list: &[u64],
+    ordered: u64,
+    now_ns: u64,
+    width_ns: u64,
+    place: &mut PlaceWords,
+) -> u64 {
+    let (words, count) = (list.as_ptr(), list.len() as u64);
+    // SAFETY: addresses and count are those of what is lent.
+    unsafe { board_lift_from(words, count, ordered, now_ns, width_ns, place) }
+}
+
+/// Document 02's slide, from the place of an earlier reading.
+#[inline]
+pub fn slide(
+    list: &[u64],
+    width_ns: u64,
+    earlier_ns: u64,
+    place: PlaceWords,
+    now_ns: u64,
+    slid: &mut SlidWords,
+) -> u64 {
+    let (words, count) = (list.as_ptr(), list.len() as u64);
+    let [first, runs] = place;
+    // SAFETY: addresses and count are those of what is lent.
+    unsafe {
+        board_slide(
+            words, count, width_ns, earlier_ns, first, runs, now_ns, slid,
+        )
+    }
+}
+
+/// A run behind the first `runs` of a lift record; the words are those of all its room.
+#[inline]
+pub fn append(list: &mut [u64], runs: u64, run: &RunWords) -> u64 {
+    let (words, count) = (list.as_mut_ptr(), list.len() as u64);
+    let [start, end, thread] = *run;
+    // SAFETY: address and count are those of what is lent.
+    unsafe { board_append(words, count, runs, start, end, thread) }
 }

@@ -1,5 +1,5 @@
 //! Where each word stands. The numbers are those of the definitions in crates policy_words, codec, window_words and
-//! board_words, to which tests/places.rs holds them.
+//! board_words, and of the code in crate lift_record, to which tests/places.rs holds them.
 
 /// The most rows that a table may have.
 pub const MAX_RECORDS: usize = 4096;
@@ -153,3 +153,17 @@ pub const TO_FRONT: usize = 1;
 pub const DEADLINE_TAG: usize = 0;
 /// Of a deadline: when it is.
 pub const DEADLINE_AT: usize = 1;
+
+/// Of a run: its start.
+pub const RUN_START: usize = 0;
+/// Of a run: its end.
+pub const RUN_END: usize = 1;
+/// Of a run: its thread's number.
+pub const RUN_THREAD: usize = 2;
+
+/// Of a place, and of what a slide answers: the number of the first run.
+pub const PLACE_FIRST: usize = 0;
+/// Of a place, and of what a slide answers: how many runs.
+pub const PLACE_COUNT: usize = 1;
+/// Of what a slide answers: whether it searched afresh.
+pub const SLID_AFRESH: usize = 2;

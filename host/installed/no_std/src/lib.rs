@@ -1,18 +1,18 @@
 //! What a board's own program has: no standard library, no allocation, and every call of both libraries that a cycle
-//! makes. main.c calls it.
+//! makes, and those on a lift record. main.c calls it.
 
 #![no_std]
 
 use core::panic::PanicInfo;
 
-use board::{Config, Mode, Path, QUEUE_BYTES, Queue, Record, Refusal, Role, Turns, Window};
+use board::{Config, Mode, Path, QUEUE_BYTES, Queue, Record, Refusal, Role, Run, Turns, Window};
 
 const CPU: u8 = 0;
 const BRAKE: u64 = 0;
 const IDLE: u64 = 1;
 const RAN_NS: u64 = 400_000;
 
-/// What `trial` answers where another thread is named.
+/// What `trial` answers where another thread is named, or the record has another part.
 const OTHER: i32 = -1;
 
 #[panic_handler]
@@ -76,11 +76,23 @@ impl Board {
     }
 }
 
+/// The brake's stretch is recorded, and whether every search finds it.
+fn lifted() -> Result<bool, Refusal> {
+    let (mut list, run) = ([Run::NONE], Run::new(0, RAN_NS, BRAKE));
+    board::append(&mut list, 0, run)?;
+    let (part, place) = board::lift(&list, RAN_NS, RAN_NS)?;
+    let (again, same) = board::lift_from(&list, list.len(), RAN_NS, RAN_NS)?;
+    let (later, slid) = board::slide(&list, RAN_NS, RAN_NS, place, RAN_NS + 1)?;
+    let one = |part: &[Run]| part.first() == Some(&run);
+    Ok(one(part) && one(again) && one(later) && place == same && !slid.afresh())
+}
+
 fn named() -> Result<Option<u64>, Refusal> {
     let mut board = Board::new()?;
     board.wake()?;
     board.save()?;
-    board.cycle()
+    let (named, found) = (board.cycle()?, lifted()?);
+    Ok(named.filter(|_| found))
 }
 
 /// 0 where the brake is named, else the number of a refusal or `OTHER`.

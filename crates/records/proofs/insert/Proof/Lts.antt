@@ -3621,7 +3621,7 @@ module _ (claims· : Claims) where
           d3 = Typed.g-pre 𝓤 H A W 𝓣 E G11 G12 b5 Δ1 (Typed.pass T11 T12 s9) at2 (Scalar.g-room 𝓤 H A W E G11 13 Types.refusal·Refusal (Local.room-whole 𝓤 H A W (Declared.row Refusal.the-type) Types.refusal·Refusal Path'.refl)) d2
 
           d4 : Typed.Typed 𝓤 H A 𝓣 E G10 b6 Δ1 at4
-          d4 = Typed.s-seq 𝓤 H A W 𝓣 E G10 G11 b4 b5 Δ1 (Typed.pass T10 T11 s8) at3 (Make.t-enum-make-wt 𝓤 H A W E 𝓣 Verdict.the-type Laws.the-laws Laws.the-plain tt G10 0 (List._∷_ (Scalar.oInt Syntax.w8 1) (List._∷_ (Scalar.oAt 13 Types.refusal·Refusal (Laws'4.val Refusal.the-type Laws'.the-laws)) List.[])) (λ m. Verdict.enum .make (Logic.inr (Logic.inl (m .1 .1 .1 .1 .1 .1 .1 .1 .1 .1 .1 .1 .1 .0, tt)))) (Reads.room-gone 𝓤 H A Types.queue·Verdict) (tt, ((Whole.reads-enum 𝓤 H A W Refusal.the-type Laws'.the-laws, Path'.refl), tt)) Path'.refl (λ m wa. Make.made-val Verdict.the-type Laws.the-laws (List._∷_ (Laws'4.val Refusal.the-type Laws'.the-laws (m .1 .1 .1 .1 .1 .1 .1 .1 .1 .1 .1 .1 .1 .0)) List.[]) (Verdict.enum .make (Logic.inr (Logic.inl (m .1 .1 .1 .1 .1 .1 .1 .1 .1 .1 .1 .1 .1 .0, tt)))) (Signed.made-wt Refusal.the-field Laws'.the-field-laws (Whole.enum-wt Refusal.the-type Laws'.the-laws (tt, (tt, (tt, (tt, (tt, (tt, (tt, (tt, (tt, (tt, (tt, tt)))))))))))) (Refusal.the-type .to (m .1 .1 .1 .1 .1 .1 .1 .1 .1 .1 .1 .1 .1 .0)), tt) (wa .1)) λ m wa. Make.made-is Verdict.the-type Laws.the-laws (List._∷_ (Laws'4.val Refusal.the-type Laws'.the-laws (m .1 .1 .1 .1 .1 .1 .1 .1 .1 .1 .1 .1 .1 .0)) List.[]) (Verdict.enum .make (Logic.inr (Logic.inl (m .1 .1 .1 .1 .1 .1 .1 .1 .1 .1 .1 .1 .1 .0, tt)))) (Signed.made-wt Refusal.the-field Laws'.the-field-laws (Whole.enum-wt Refusal.the-type Laws'.the-laws (tt, (tt, (tt, (tt, (tt, (tt, (tt, (tt, (tt, (tt, (tt, tt)))))))))))) (Refusal.the-type .to (m .1 .1 .1 .1 .1 .1 .1 .1 .1 .1 .1 .1 .1 .0)), tt) (wa .1)) d3
+          d4 = Typed.s-seq 𝓤 H A W 𝓣 E G10 G11 b4 b5 Δ1 (Typed.pass T10 T11 s8) at3 (Make.t-enum-make-wt 𝓤 H A W E 𝓣 Verdict.the-type Laws.the-laws Laws.the-plain tt G10 0 (List._∷_ (Scalar.oInt Syntax.w8 1) (List._∷_ (Scalar.oAt 13 Types.refusal·Refusal (Laws'4.val Refusal.the-type Laws'.the-laws)) List.[])) (λ m. Verdict.enum .make (Logic.inr (Logic.inl (m .1 .1 .1 .1 .1 .1 .1 .1 .1 .1 .1 .1 .1 .0, tt)))) (Reads.room-gone 𝓤 H A Types.queue·Verdict) (tt, ((Whole.reads-enum 𝓤 H A W Refusal.the-type Laws'.the-laws, Path'.refl), tt)) Path'.refl (λ m wa. Make.made-val Verdict.the-type Laws.the-laws (List._∷_ (Laws'4.val Refusal.the-type Laws'.the-laws (m .1 .1 .1 .1 .1 .1 .1 .1 .1 .1 .1 .1 .1 .0)) List.[]) (Verdict.enum .make (Logic.inr (Logic.inl (m .1 .1 .1 .1 .1 .1 .1 .1 .1 .1 .1 .1 .1 .0, tt)))) (Signed.made-wt Refusal.the-field Laws'.the-field-laws (Whole.enum-wt Refusal.the-type Laws'.the-laws (tt, (tt, (tt, (tt, (tt, (tt, (tt, (tt, (tt, (tt, (tt, (tt, tt))))))))))))) (Refusal.the-type .to (m .1 .1 .1 .1 .1 .1 .1 .1 .1 .1 .1 .1 .1 .0)), tt) (wa .1)) λ m wa. Make.made-is Verdict.the-type Laws.the-laws (List._∷_ (Laws'4.val Refusal.the-type Laws'.the-laws (m .1 .1 .1 .1 .1 .1 .1 .1 .1 .1 .1 .1 .1 .0)) List.[]) (Verdict.enum .make (Logic.inr (Logic.inl (m .1 .1 .1 .1 .1 .1 .1 .1 .1 .1 .1 .1 .1 .0, tt)))) (Signed.made-wt Refusal.the-field Laws'.the-field-laws (Whole.enum-wt Refusal.the-type Laws'.the-laws (tt, (tt, (tt, (tt, (tt, (tt, (tt, (tt, (tt, (tt, (tt, (tt, tt))))))))))))) (Refusal.the-type .to (m .1 .1 .1 .1 .1 .1 .1 .1 .1 .1 .1 .1 .1 .0)), tt) (wa .1)) d3
 
           d5 : Typed.Typed 𝓤 H A 𝓣 E G9 b7 Δ1 at5
           d5 = Typed.s-seq 𝓤 H A W 𝓣 E G9 G10 b3 b6 Δ1 (Typed.pass T9 T10 s7) at4 (Make.t-enum-make-wt 𝓤 H A W E 𝓣 Refusal.the-type Laws'.the-laws Laws'.the-plain tt G9 13 (List._∷_ (Scalar.oInt Syntax.w8 9) List.[]) (λ m. Refusal.enum .make (Logic.inr (Logic.inr (Logic.inr (Logic.inr (Logic.inr (Logic.inr (Logic.inr (Logic.inr (Logic.inr (Logic.inl tt))))))))))) (Reads.room-gone 𝓤 H A Types.refusal·Refusal) (tt, tt) Path'.refl (λ m wa. Make.made-val Refusal.the-type Laws'.the-laws List.[] (Refusal.enum .make (Logic.inr (Logic.inr (Logic.inr (Logic.inr (Logic.inr (Logic.inr (Logic.inr (Logic.inr (Logic.inr (Logic.inl tt))))))))))) tt (wa .1)) λ m wa. Make.made-is Refusal.the-type Laws'.the-laws List.[] (Refusal.enum .make (Logic.inr (Logic.inr (Logic.inr (Logic.inr (Logic.inr (Logic.inr (Logic.inr (Logic.inr (Logic.inr (Logic.inl tt))))))))))) tt (wa .1)) d4

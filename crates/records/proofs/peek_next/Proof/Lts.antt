@@ -4886,13 +4886,13 @@ module _ (claims· : Claims) where
           d5 = Typed.g-pre 𝓤 H A W 𝓣 E G13 G14 b6 Δ1 (Typed.pass T13 T14 s11) at4 (Scalar.g-room 𝓤 H A W E G13 7 Types.arbitration·CpuWindow (Local.room-whole 𝓤 H A W (Declared'.row CpuWindow.the-type) Types.arbitration·CpuWindow Path'.refl)) d4
 
           d6 : Typed.Typed 𝓤 H A 𝓣 E G12 b7 Δ1 at6
-          d6 = Typed.s-seq 𝓤 H A W 𝓣 E G12 G13 b5 b6 Δ1 (Typed.pass T12 T13 s10) at5 (Make'.t-struct-make 𝓤 H A W E 𝓣 (Apart.apartT WindowPeek.the-type) Laws'13.the-laws Laws'13.the-plain G12 0 (List._∷_ (Scalar.oAt 15 Types.selection·PeekAnswer (Laws'19.val PeekAnswer.the-type Laws'9.the-laws)) (List._∷_ (Scalar.oAt 7 Types.arbitration·CpuWindow (Laws'20.val CpuWindow.the-type Laws'.the-laws)) List.[])) (λ m. (m .1 .1 .1 .1 .1 .1 .1 .1 .1 .1 .1 .1 .1 .1 .1 .0, (m .1 .1 .1 .1 .1 .1 .1 .0, tt))) (Reads'.room-gone 𝓤 H A Types.selection·WindowPeek) ((Whole.reads-enum 𝓤 H A W PeekAnswer.the-type Laws'9.the-laws, Path'.refl), ((Reads.reads-struct 𝓤 H A W CpuWindow.the-type Laws'.the-laws, Path'.refl), tt)) Path'.refl (λ u. Path'.refl) λ m. Make'.is-wt (Apart.apartT WindowPeek.the-type) Laws'13.the-laws (Whole.enum-wt PeekAnswer.the-type Laws'9.the-laws ((Make'.struct-wt Selection.the-type Laws'12.the-laws (Whole.enum-wt ReadyOption.the-type Laws'10.the-laws (tt, ((Make'.struct-wt ReadyThread.the-type Laws'11.the-laws (Make'.struct-wt ThreadId.the-type Laws'15.the-laws (Make'.u64-wt, tt), (Whole.enum-wt SchedulingPolicy.the-type Laws'6.the-laws ((Make'.struct-wt ThreadPriority.the-type Laws'7.the-laws (Make'.u8-wt, tt), tt), (tt, (tt, (tt, tt)))), (Make'.struct-wt DispatchKey.the-type Laws'5.the-laws (Make'.u8-wt, (Make'.u8-wt, (Make'.u8-wt, (Make'.struct-wt Wide.the-type Laws.the-laws (Make'.u64-wt, (Make'.u64-wt, tt)), (Make'.u8-wt, (Make'.u64-wt, tt)))))), tt))), tt), tt)), (Make'.struct-wt Demand.the-type Laws''.the-laws (Make'.bool-wt, (Make'.bool-wt, (Make'.bool-wt, (Make'.bool-wt, (Make'.bool-wt, tt))))), (Whole.enum-wt PassOption.the-type Laws'4.the-laws (tt, ((Make'.struct-wt Wide.the-type Laws.the-laws (Make'.u64-wt, (Make'.u64-wt, tt)), tt), tt)), tt))), tt), ((Whole.enum-wt Refusal.the-type Laws'8.the-laws (tt, (tt, (tt, (tt, (tt, (tt, (tt, (tt, (tt, (tt, (tt, tt))))))))))), tt), tt)), (Make'.struct-wt CpuWindow.the-type Laws'.the-laws (Make'.struct-wt ArbitrationConfig.the-type Laws'17.the-laws (Make'.u64-wt, (Make'.u64-wt, (Make'.u64-wt, (Make'.struct-wt ArbitrationOrder.the-type Laws'18.the-laws (Make'.u8-wt, (Make'.u8-wt, (Make'.u8-wt, (Make'.u8-wt, tt)))), (Make'.bool-wt, tt))))), (Whole.enum-wt Epoch.the-type Laws'16.the-laws (tt, ((Make'.u64-wt, tt), tt)), (Make'.u64-wt, (Make'.u64-wt, tt)))), tt)) (m .1 .1 .1 .1 .1 .1 .1 .1 .1 .1 .1 .1 .1 .1 .1 .0, (m .1 .1 .1 .1 .1 .1 .1 .0, tt))) d5
+          d6 = Typed.s-seq 𝓤 H A W 𝓣 E G12 G13 b5 b6 Δ1 (Typed.pass T12 T13 s10) at5 (Make'.t-struct-make 𝓤 H A W E 𝓣 (Apart.apartT WindowPeek.the-type) Laws'13.the-laws Laws'13.the-plain G12 0 (List._∷_ (Scalar.oAt 15 Types.selection·PeekAnswer (Laws'19.val PeekAnswer.the-type Laws'9.the-laws)) (List._∷_ (Scalar.oAt 7 Types.arbitration·CpuWindow (Laws'20.val CpuWindow.the-type Laws'.the-laws)) List.[])) (λ m. (m .1 .1 .1 .1 .1 .1 .1 .1 .1 .1 .1 .1 .1 .1 .1 .0, (m .1 .1 .1 .1 .1 .1 .1 .0, tt))) (Reads'.room-gone 𝓤 H A Types.selection·WindowPeek) ((Whole.reads-enum 𝓤 H A W PeekAnswer.the-type Laws'9.the-laws, Path'.refl), ((Reads.reads-struct 𝓤 H A W CpuWindow.the-type Laws'.the-laws, Path'.refl), tt)) Path'.refl (λ u. Path'.refl) λ m. Make'.is-wt (Apart.apartT WindowPeek.the-type) Laws'13.the-laws (Whole.enum-wt PeekAnswer.the-type Laws'9.the-laws ((Make'.struct-wt Selection.the-type Laws'12.the-laws (Whole.enum-wt ReadyOption.the-type Laws'10.the-laws (tt, ((Make'.struct-wt ReadyThread.the-type Laws'11.the-laws (Make'.struct-wt ThreadId.the-type Laws'15.the-laws (Make'.u64-wt, tt), (Whole.enum-wt SchedulingPolicy.the-type Laws'6.the-laws ((Make'.struct-wt ThreadPriority.the-type Laws'7.the-laws (Make'.u8-wt, tt), tt), (tt, (tt, (tt, tt)))), (Make'.struct-wt DispatchKey.the-type Laws'5.the-laws (Make'.u8-wt, (Make'.u8-wt, (Make'.u8-wt, (Make'.struct-wt Wide.the-type Laws.the-laws (Make'.u64-wt, (Make'.u64-wt, tt)), (Make'.u8-wt, (Make'.u64-wt, tt)))))), tt))), tt), tt)), (Make'.struct-wt Demand.the-type Laws''.the-laws (Make'.bool-wt, (Make'.bool-wt, (Make'.bool-wt, (Make'.bool-wt, (Make'.bool-wt, tt))))), (Whole.enum-wt PassOption.the-type Laws'4.the-laws (tt, ((Make'.struct-wt Wide.the-type Laws.the-laws (Make'.u64-wt, (Make'.u64-wt, tt)), tt), tt)), tt))), tt), ((Whole.enum-wt Refusal.the-type Laws'8.the-laws (tt, (tt, (tt, (tt, (tt, (tt, (tt, (tt, (tt, (tt, (tt, (tt, tt)))))))))))), tt), tt)), (Make'.struct-wt CpuWindow.the-type Laws'.the-laws (Make'.struct-wt ArbitrationConfig.the-type Laws'17.the-laws (Make'.u64-wt, (Make'.u64-wt, (Make'.u64-wt, (Make'.struct-wt ArbitrationOrder.the-type Laws'18.the-laws (Make'.u8-wt, (Make'.u8-wt, (Make'.u8-wt, (Make'.u8-wt, tt)))), (Make'.bool-wt, tt))))), (Whole.enum-wt Epoch.the-type Laws'16.the-laws (tt, ((Make'.u64-wt, tt), tt)), (Make'.u64-wt, (Make'.u64-wt, tt)))), tt)) (m .1 .1 .1 .1 .1 .1 .1 .1 .1 .1 .1 .1 .1 .1 .1 .0, (m .1 .1 .1 .1 .1 .1 .1 .0, tt))) d5
 
           d7 : Typed.Typed 𝓤 H A 𝓣 E G11 b7 Δ1 at7
           d7 = Typed.g-pre 𝓤 H A W 𝓣 E G11 G12 b7 Δ1 (Typed.pass T11 T12 s9) at6 (Scalar.g-room 𝓤 H A W E G11 14 Types.refusal·Refusal (Local.room-whole 𝓤 H A W (Declared.row Refusal.the-type) Types.refusal·Refusal Path'.refl)) d6
 
           d8 : Typed.Typed 𝓤 H A 𝓣 E G10 b8 Δ1 at8
-          d8 = Typed.s-seq 𝓤 H A W 𝓣 E G10 G11 b4 b7 Δ1 (Typed.pass T10 T11 s8) at7 (Make.t-enum-make-wt 𝓤 H A W E 𝓣 PeekAnswer.the-type Laws'9.the-laws Laws'9.the-plain tt G10 15 (List._∷_ (Scalar.oInt Syntax.w8 1) (List._∷_ (Scalar.oAt 14 Types.refusal·Refusal (Laws'19.val Refusal.the-type Laws'8.the-laws)) List.[])) (λ m. PeekAnswer.enum .make (Logic.inr (Logic.inl (m .1 .1 .1 .1 .1 .1 .1 .1 .1 .1 .1 .1 .1 .1 .0, tt)))) (Reads'.room-gone 𝓤 H A Types.selection·PeekAnswer) (tt, ((Whole.reads-enum 𝓤 H A W Refusal.the-type Laws'8.the-laws, Path'.refl), tt)) Path'.refl (λ m wa. Make.made-val PeekAnswer.the-type Laws'9.the-laws (List._∷_ (Laws'19.val Refusal.the-type Laws'8.the-laws (m .1 .1 .1 .1 .1 .1 .1 .1 .1 .1 .1 .1 .1 .1 .0)) List.[]) (PeekAnswer.enum .make (Logic.inr (Logic.inl (m .1 .1 .1 .1 .1 .1 .1 .1 .1 .1 .1 .1 .1 .1 .0, tt)))) (Signed.made-wt Refusal.the-field Laws'8.the-field-laws (Whole.enum-wt Refusal.the-type Laws'8.the-laws (tt, (tt, (tt, (tt, (tt, (tt, (tt, (tt, (tt, (tt, (tt, tt)))))))))))) (Refusal.the-type .to (m .1 .1 .1 .1 .1 .1 .1 .1 .1 .1 .1 .1 .1 .1 .0)), tt) (wa .1)) λ m wa. Make.made-is PeekAnswer.the-type Laws'9.the-laws (List._∷_ (Laws'19.val Refusal.the-type Laws'8.the-laws (m .1 .1 .1 .1 .1 .1 .1 .1 .1 .1 .1 .1 .1 .1 .0)) List.[]) (PeekAnswer.enum .make (Logic.inr (Logic.inl (m .1 .1 .1 .1 .1 .1 .1 .1 .1 .1 .1 .1 .1 .1 .0, tt)))) (Signed.made-wt Refusal.the-field Laws'8.the-field-laws (Whole.enum-wt Refusal.the-type Laws'8.the-laws (tt, (tt, (tt, (tt, (tt, (tt, (tt, (tt, (tt, (tt, (tt, tt)))))))))))) (Refusal.the-type .to (m .1 .1 .1 .1 .1 .1 .1 .1 .1 .1 .1 .1 .1 .1 .0)), tt) (wa .1)) d7
+          d8 = Typed.s-seq 𝓤 H A W 𝓣 E G10 G11 b4 b7 Δ1 (Typed.pass T10 T11 s8) at7 (Make.t-enum-make-wt 𝓤 H A W E 𝓣 PeekAnswer.the-type Laws'9.the-laws Laws'9.the-plain tt G10 15 (List._∷_ (Scalar.oInt Syntax.w8 1) (List._∷_ (Scalar.oAt 14 Types.refusal·Refusal (Laws'19.val Refusal.the-type Laws'8.the-laws)) List.[])) (λ m. PeekAnswer.enum .make (Logic.inr (Logic.inl (m .1 .1 .1 .1 .1 .1 .1 .1 .1 .1 .1 .1 .1 .1 .0, tt)))) (Reads'.room-gone 𝓤 H A Types.selection·PeekAnswer) (tt, ((Whole.reads-enum 𝓤 H A W Refusal.the-type Laws'8.the-laws, Path'.refl), tt)) Path'.refl (λ m wa. Make.made-val PeekAnswer.the-type Laws'9.the-laws (List._∷_ (Laws'19.val Refusal.the-type Laws'8.the-laws (m .1 .1 .1 .1 .1 .1 .1 .1 .1 .1 .1 .1 .1 .1 .0)) List.[]) (PeekAnswer.enum .make (Logic.inr (Logic.inl (m .1 .1 .1 .1 .1 .1 .1 .1 .1 .1 .1 .1 .1 .1 .0, tt)))) (Signed.made-wt Refusal.the-field Laws'8.the-field-laws (Whole.enum-wt Refusal.the-type Laws'8.the-laws (tt, (tt, (tt, (tt, (tt, (tt, (tt, (tt, (tt, (tt, (tt, (tt, tt))))))))))))) (Refusal.the-type .to (m .1 .1 .1 .1 .1 .1 .1 .1 .1 .1 .1 .1 .1 .1 .0)), tt) (wa .1)) λ m wa. Make.made-is PeekAnswer.the-type Laws'9.the-laws (List._∷_ (Laws'19.val Refusal.the-type Laws'8.the-laws (m .1 .1 .1 .1 .1 .1 .1 .1 .1 .1 .1 .1 .1 .1 .0)) List.[]) (PeekAnswer.enum .make (Logic.inr (Logic.inl (m .1 .1 .1 .1 .1 .1 .1 .1 .1 .1 .1 .1 .1 .1 .0, tt)))) (Signed.made-wt Refusal.the-field Laws'8.the-field-laws (Whole.enum-wt Refusal.the-type Laws'8.the-laws (tt, (tt, (tt, (tt, (tt, (tt, (tt, (tt, (tt, (tt, (tt, (tt, tt))))))))))))) (Refusal.the-type .to (m .1 .1 .1 .1 .1 .1 .1 .1 .1 .1 .1 .1 .1 .1 .0)), tt) (wa .1)) d7
 
           d9 : Typed.Typed 𝓤 H A 𝓣 E G9 b9 Δ1 at9
           d9 = Typed.s-seq 𝓤 H A W 𝓣 E G9 G10 b3 b8 Δ1 (Typed.pass T9 T10 s7) at8 (Make.t-enum-make-wt 𝓤 H A W E 𝓣 Refusal.the-type Laws'8.the-laws Laws'8.the-plain tt G9 14 (List._∷_ (Scalar.oInt Syntax.w8 9) List.[]) (λ m. Refusal.enum .make (Logic.inr (Logic.inr (Logic.inr (Logic.inr (Logic.inr (Logic.inr (Logic.inr (Logic.inr (Logic.inr (Logic.inl tt))))))))))) (Reads'.room-gone 𝓤 H A Types.refusal·Refusal) (tt, tt) Path'.refl (λ m wa. Make.made-val Refusal.the-type Laws'8.the-laws List.[] (Refusal.enum .make (Logic.inr (Logic.inr (Logic.inr (Logic.inr (Logic.inr (Logic.inr (Logic.inr (Logic.inr (Logic.inr (Logic.inl tt))))))))))) tt (wa .1)) λ m wa. Make.made-is Refusal.the-type Laws'8.the-laws List.[] (Refusal.enum .make (Logic.inr (Logic.inr (Logic.inr (Logic.inr (Logic.inr (Logic.inr (Logic.inr (Logic.inr (Logic.inr (Logic.inl tt))))))))))) tt (wa .1)) d8

@@ -3293,13 +3293,13 @@ module _ (claims· : Claims) where
           d6 = Typed.g-pre 𝓤 H A W 𝓣 E G12 G13 b6 Δ1 (Typed.pass T12 T13 s10) at5 (Scalar.g-room 𝓤 H A W E G12 6 Types.decisions·Turns (Local.room-whole 𝓤 H A W (Declared'.row Turns.the-type) Types.decisions·Turns Path'.refl)) d5
 
           d7 : Typed.Typed 𝓤 H A 𝓣 E G11 b7 Δ1 at7
-          d7 = Typed.s-seq 𝓤 H A W 𝓣 E G11 G12 b5 b6 Δ1 (Typed.pass T11 T12 s9) at6 (Make'.t-struct-make 𝓤 H A W E 𝓣 (Apart.apartT Prepared.the-type) Laws'3.the-laws Laws'3.the-plain G11 0 (List._∷_ (Scalar.oAt 13 Types.arbitration·Verdict (Laws'5.val Verdict.the-type Laws.the-laws)) (List._∷_ (Scalar.oAt 6 Types.decisions·Turns (Laws'6.val Turns.the-type Laws'.the-laws)) List.[])) (λ m. (m .1 .1 .1 .1 .1 .1 .1 .1 .1 .1 .1 .1 .1 .0, (m .1 .1 .1 .1 .1 .1 .0, tt))) (Reads'.room-gone 𝓤 H A Types.runtime·Prepared) ((Whole.reads-enum 𝓤 H A W Verdict.the-type Laws.the-laws, Path'.refl), ((Reads.reads-struct 𝓤 H A W Turns.the-type Laws'.the-laws, Path'.refl), tt)) Path'.refl (λ u. Path'.refl) λ m. Make'.is-wt (Apart.apartT Prepared.the-type) Laws'3.the-laws (Whole.enum-wt Verdict.the-type Laws.the-laws (tt, ((Whole.enum-wt Refusal.the-type Laws''.the-laws (tt, (tt, (tt, (tt, (tt, (tt, (tt, (tt, (tt, (tt, (tt, tt))))))))))), tt), tt)), (Make'.struct-wt Turns.the-type Laws'.the-laws (Make'.u64-wt, (Make'.u64-wt, tt)), tt)) (m .1 .1 .1 .1 .1 .1 .1 .1 .1 .1 .1 .1 .1 .0, (m .1 .1 .1 .1 .1 .1 .0, tt))) d6
+          d7 = Typed.s-seq 𝓤 H A W 𝓣 E G11 G12 b5 b6 Δ1 (Typed.pass T11 T12 s9) at6 (Make'.t-struct-make 𝓤 H A W E 𝓣 (Apart.apartT Prepared.the-type) Laws'3.the-laws Laws'3.the-plain G11 0 (List._∷_ (Scalar.oAt 13 Types.arbitration·Verdict (Laws'5.val Verdict.the-type Laws.the-laws)) (List._∷_ (Scalar.oAt 6 Types.decisions·Turns (Laws'6.val Turns.the-type Laws'.the-laws)) List.[])) (λ m. (m .1 .1 .1 .1 .1 .1 .1 .1 .1 .1 .1 .1 .1 .0, (m .1 .1 .1 .1 .1 .1 .0, tt))) (Reads'.room-gone 𝓤 H A Types.runtime·Prepared) ((Whole.reads-enum 𝓤 H A W Verdict.the-type Laws.the-laws, Path'.refl), ((Reads.reads-struct 𝓤 H A W Turns.the-type Laws'.the-laws, Path'.refl), tt)) Path'.refl (λ u. Path'.refl) λ m. Make'.is-wt (Apart.apartT Prepared.the-type) Laws'3.the-laws (Whole.enum-wt Verdict.the-type Laws.the-laws (tt, ((Whole.enum-wt Refusal.the-type Laws''.the-laws (tt, (tt, (tt, (tt, (tt, (tt, (tt, (tt, (tt, (tt, (tt, (tt, tt)))))))))))), tt), tt)), (Make'.struct-wt Turns.the-type Laws'.the-laws (Make'.u64-wt, (Make'.u64-wt, tt)), tt)) (m .1 .1 .1 .1 .1 .1 .1 .1 .1 .1 .1 .1 .1 .0, (m .1 .1 .1 .1 .1 .1 .0, tt))) d6
 
           d8 : Typed.Typed 𝓤 H A 𝓣 E G10 b7 Δ1 at8
           d8 = Typed.g-pre 𝓤 H A W 𝓣 E G10 G11 b7 Δ1 (Typed.pass T10 T11 s8) at7 (Scalar.g-room 𝓤 H A W E G10 12 Types.refusal·Refusal (Local.room-whole 𝓤 H A W (Declared.row Refusal.the-type) Types.refusal·Refusal Path'.refl)) d7
 
           d9 : Typed.Typed 𝓤 H A 𝓣 E G9 b8 Δ1 at9
-          d9 = Typed.s-seq 𝓤 H A W 𝓣 E G9 G10 b4 b7 Δ1 (Typed.pass T9 T10 s7) at8 (Make.t-enum-make-wt 𝓤 H A W E 𝓣 Verdict.the-type Laws.the-laws Laws.the-plain tt G9 13 (List._∷_ (Scalar.oInt Syntax.w8 1) (List._∷_ (Scalar.oAt 12 Types.refusal·Refusal (Laws'5.val Refusal.the-type Laws''.the-laws)) List.[])) (λ m. Verdict.enum .make (Logic.inr (Logic.inl (m .1 .1 .1 .1 .1 .1 .1 .1 .1 .1 .1 .1 .0, tt)))) (Reads'.room-gone 𝓤 H A Types.arbitration·Verdict) (tt, ((Whole.reads-enum 𝓤 H A W Refusal.the-type Laws''.the-laws, Path'.refl), tt)) Path'.refl (λ m wa. Make.made-val Verdict.the-type Laws.the-laws (List._∷_ (Laws'5.val Refusal.the-type Laws''.the-laws (m .1 .1 .1 .1 .1 .1 .1 .1 .1 .1 .1 .1 .0)) List.[]) (Verdict.enum .make (Logic.inr (Logic.inl (m .1 .1 .1 .1 .1 .1 .1 .1 .1 .1 .1 .1 .0, tt)))) (Signed.made-wt Refusal.the-field Laws''.the-field-laws (Whole.enum-wt Refusal.the-type Laws''.the-laws (tt, (tt, (tt, (tt, (tt, (tt, (tt, (tt, (tt, (tt, (tt, tt)))))))))))) (Refusal.the-type .to (m .1 .1 .1 .1 .1 .1 .1 .1 .1 .1 .1 .1 .0)), tt) (wa .1)) λ m wa. Make.made-is Verdict.the-type Laws.the-laws (List._∷_ (Laws'5.val Refusal.the-type Laws''.the-laws (m .1 .1 .1 .1 .1 .1 .1 .1 .1 .1 .1 .1 .0)) List.[]) (Verdict.enum .make (Logic.inr (Logic.inl (m .1 .1 .1 .1 .1 .1 .1 .1 .1 .1 .1 .1 .0, tt)))) (Signed.made-wt Refusal.the-field Laws''.the-field-laws (Whole.enum-wt Refusal.the-type Laws''.the-laws (tt, (tt, (tt, (tt, (tt, (tt, (tt, (tt, (tt, (tt, (tt, tt)))))))))))) (Refusal.the-type .to (m .1 .1 .1 .1 .1 .1 .1 .1 .1 .1 .1 .1 .0)), tt) (wa .1)) d8
+          d9 = Typed.s-seq 𝓤 H A W 𝓣 E G9 G10 b4 b7 Δ1 (Typed.pass T9 T10 s7) at8 (Make.t-enum-make-wt 𝓤 H A W E 𝓣 Verdict.the-type Laws.the-laws Laws.the-plain tt G9 13 (List._∷_ (Scalar.oInt Syntax.w8 1) (List._∷_ (Scalar.oAt 12 Types.refusal·Refusal (Laws'5.val Refusal.the-type Laws''.the-laws)) List.[])) (λ m. Verdict.enum .make (Logic.inr (Logic.inl (m .1 .1 .1 .1 .1 .1 .1 .1 .1 .1 .1 .1 .0, tt)))) (Reads'.room-gone 𝓤 H A Types.arbitration·Verdict) (tt, ((Whole.reads-enum 𝓤 H A W Refusal.the-type Laws''.the-laws, Path'.refl), tt)) Path'.refl (λ m wa. Make.made-val Verdict.the-type Laws.the-laws (List._∷_ (Laws'5.val Refusal.the-type Laws''.the-laws (m .1 .1 .1 .1 .1 .1 .1 .1 .1 .1 .1 .1 .0)) List.[]) (Verdict.enum .make (Logic.inr (Logic.inl (m .1 .1 .1 .1 .1 .1 .1 .1 .1 .1 .1 .1 .0, tt)))) (Signed.made-wt Refusal.the-field Laws''.the-field-laws (Whole.enum-wt Refusal.the-type Laws''.the-laws (tt, (tt, (tt, (tt, (tt, (tt, (tt, (tt, (tt, (tt, (tt, (tt, tt))))))))))))) (Refusal.the-type .to (m .1 .1 .1 .1 .1 .1 .1 .1 .1 .1 .1 .1 .0)), tt) (wa .1)) λ m wa. Make.made-is Verdict.the-type Laws.the-laws (List._∷_ (Laws'5.val Refusal.the-type Laws''.the-laws (m .1 .1 .1 .1 .1 .1 .1 .1 .1 .1 .1 .1 .0)) List.[]) (Verdict.enum .make (Logic.inr (Logic.inl (m .1 .1 .1 .1 .1 .1 .1 .1 .1 .1 .1 .1 .0, tt)))) (Signed.made-wt Refusal.the-field Laws''.the-field-laws (Whole.enum-wt Refusal.the-type Laws''.the-laws (tt, (tt, (tt, (tt, (tt, (tt, (tt, (tt, (tt, (tt, (tt, (tt, tt))))))))))))) (Refusal.the-type .to (m .1 .1 .1 .1 .1 .1 .1 .1 .1 .1 .1 .1 .0)), tt) (wa .1)) d8
 
           d10 : Typed.Typed 𝓤 H A 𝓣 E G8 b9 Δ1 at10
           d10 = Typed.s-seq 𝓤 H A W 𝓣 E G8 G9 b3 b8 Δ1 (Typed.pass T8 T9 s6) at9 (Make.t-enum-make-wt 𝓤 H A W E 𝓣 Refusal.the-type Laws''.the-laws Laws''.the-plain tt G8 12 (List._∷_ (Scalar.oInt Syntax.w8 9) List.[]) (λ m. Refusal.enum .make (Logic.inr (Logic.inr (Logic.inr (Logic.inr (Logic.inr (Logic.inr (Logic.inr (Logic.inr (Logic.inr (Logic.inl tt))))))))))) (Reads'.room-gone 𝓤 H A Types.refusal·Refusal) (tt, tt) Path'.refl (λ m wa. Make.made-val Refusal.the-type Laws''.the-laws List.[] (Refusal.enum .make (Logic.inr (Logic.inr (Logic.inr (Logic.inr (Logic.inr (Logic.inr (Logic.inr (Logic.inr (Logic.inr (Logic.inl tt))))))))))) tt (wa .1)) λ m wa. Make.made-is Refusal.the-type Laws''.the-laws List.[] (Refusal.enum .make (Logic.inr (Logic.inr (Logic.inr (Logic.inr (Logic.inr (Logic.inr (Logic.inr (Logic.inr (Logic.inr (Logic.inl tt))))))))))) tt (wa .1)) d9

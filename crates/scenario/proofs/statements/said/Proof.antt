@@ -8,7 +8,7 @@ abbrev Inv-loop : tie.InvT-loop
 Inv-loop x forms line best₀ number₀ best number = Unit {0}
 
 abbrev μ-loop : tie.MeasureT-loop
-μ-loop x forms line best₀ number₀ best number = 24 - number
+μ-loop x forms line best₀ number₀ best number = 27 - number
 
 pub said-spec : {M : Type 1} → statement M
 said-spec =

@@ -1,0 +1,17 @@
+-- The first run has none before it; else by the word.
+use Rattle.lift_record.specs.OrderLaws.{ordering}
+use borrow.Author.Needs.{needs}
+use Rattle.lift_record.proofs.ordering.end_before.Statement.{statement}
+use Rattle.lift_record.proofs.ordering.end_before.Tie as tie
+
+pub end-before-spec : {M : Type 1} → statement M
+end-before-spec =
+    tie.close
+    (tie.spec
+    (λ c. search (ordering, needs))
+    (λ c. search needs)
+    (λ c. search needs)
+    (λ c. search needs)
+    (λ c. search needs)
+    (λ c. search needs)
+    (λ c. search (ordering, needs)))
