@@ -11,9 +11,7 @@ use crate::run::RecordWords;
 use crate::run::Run;
 use crate::run::TEXT;
 use crate::statements;
-use crate::statements::Fields;
 use crate::statements::Values;
-use crate::statements::fields_in;
 use text::saturating_add;
 
 // A run's words in the list: its start, its end and its thread.
@@ -71,8 +69,15 @@ const BAD_TABLE: u64 = 10;
 
 const STDOUT: i32 = 1;
 
-// After an entry's answer to a run. One that finds no room is counted, and not refused: the scenario goes on.
-fn noted(mut w: RecordWords, answer: u64) -> RecordWords {
+// A run more, by the entry. One that finds no room is counted, and not refused: the scenario goes on.
+fn appended(
+    list: &mut [u64],
+    mut w: RecordWords,
+    start: u64,
+    end: u64,
+    thread: u64,
+) -> RecordWords {
+    let answer = board::board_append(list, w[RUNS], start, end, thread);
     w[NUMBER] = 0;
     match answer {
         0 => w[RUNS] = saturating_add(w[RUNS], 1),
@@ -80,11 +85,6 @@ fn noted(mut w: RecordWords, answer: u64) -> RecordWords {
         _ => w[NUMBER] = answer,
     }
     w
-}
-
-fn appended(list: &mut [u64], w: RecordWords, start: u64, end: u64, thread: u64) -> RecordWords {
-    let answer = board::board_append(list, w[RUNS], start, end, thread);
-    noted(w, answer)
 }
 
 // A stretch that was charged is a run, from its first reading up to now, but for the idle thread's. A wake is none.
@@ -99,17 +99,12 @@ pub fn kept(list: &mut [u64], mut x: Run, start: u64, woken: u64) -> Run {
     x
 }
 
-// The last run of a part. (Of an empty one it is not told.)
-fn last(first: u64, count: u64) -> u64 {
-    time::saturating_sub(saturating_add(first, count), 1)
-}
-
-// With the answer of a search; a refused one has stored zeros as the place.
+// With the answer of a search; a refused one stored zeros as the place. (The last run of an empty part is not told.)
 fn searched(mut w: RecordWords, number: u64, now: u64, first: u64, count: u64) -> RecordWords {
     w[NUMBER] = number;
     w[READING] = now;
     w[FIRST] = first;
-    w[LAST] = last(first, count);
+    w[LAST] = time::saturating_sub(saturating_add(first, count), 1);
     w[COUNT] = count;
     w
 }
@@ -151,21 +146,18 @@ fn set_word(list: &mut [u64], mut w: RecordWords, k: u64, value: u64) -> RecordW
     w
 }
 
-// On the words that the list has.
-fn on_words(list: &mut [u64], w: RecordWords, n: u64, v: Fields) -> RecordWords {
-    match n {
-        statements::LIFT => lift(list, w, v.first, v.second),
-        statements::SLIDE => slide(list, w, v.first),
-        _ => set_word(list, w, v.second, v.third),
-    }
-}
-
+// A statement on the words that the list has.
 fn on_list(list: &mut [u64], w: RecordWords, n: u64, a: Values) -> RecordWords {
     let count = (w[RUNS] % (MOST_RUNS + 1) * RUN_WORDS) as usize;
     if list.len() < count {
         return w;
     }
-    on_words(&mut list[0..count], w, n, fields_in(a))
+    let words = &mut list[0..count];
+    match n {
+        statements::LIFT => lift(words, w, a[1], a[2]),
+        statements::SLIDE => slide(words, w, a[1]),
+        _ => set_word(words, w, a[2], a[3]),
+    }
 }
 
 // The k-th run.
@@ -230,20 +222,15 @@ fn told_full(fd: i32, left_out: u64) {
     }
 }
 
-// The whole record, for other programs.
-fn told_all(list: &[u64], w: RecordWords, names: Names, threads: u64) {
-    rows(list, names, threads, 0, w[RUNS], b"%a %b %c ");
-    told_full(libc::STDERR_FILENO, w[LEFT_OUT]);
-}
-
-// After a file's last line.
+// After a file's last line; a record that is asked for is printed whole, for other programs.
 pub fn ended(list: &[u64], x: Run) {
     let w = x.record;
     let names = x.names;
-    let output = x.output;
-    match output {
-        TEXT => told_full(STDOUT, w[LEFT_OUT]),
-        RECORD => told_all(list, w, names, x.threads),
-        _ => (),
+    if x.output == RECORD {
+        rows(list, names, x.threads, 0, w[RUNS], b"%a %b %c ");
+        told_full(libc::STDERR_FILENO, w[LEFT_OUT]);
+    }
+    if x.output == TEXT {
+        told_full(STDOUT, w[LEFT_OUT]);
     }
 }

@@ -38,26 +38,27 @@ fn new_queue(q: &mut lent_queue::QueueRows) {
     board::board_new(q);
 }
 
-// Each line in turn, by the forms of the statements, on a new board.
-fn lines_by(given: run::Run, forms: &[u8], text: &[u8]) -> run::Run {
+// Each line in turn, by the forms of the statements, on a new board, with the list of the lift record.
+fn lines_by(given: run::Run, list: &mut [u64], forms: &[u8], text: &[u8]) -> run::Run {
     let mut q = [[0u64; lent_queue::QUEUE_ROW_WORDS]; lent_queue::QUEUE_ROWS];
     let mut t = [[0u64; policy_words::ROW_WORDS]; run::TABLE_ROWS];
-    let mut list = [0u64; lift::ROOM];
     new_queue(&mut q);
     let mut x = given;
     let mut at: usize = 0;
     while at < text.len() {
-        let end = text::end_of(text, at, NEW_LINE);
-        x = lines::line(&mut q, &mut t, &mut list, x, forms, &text[at..end]);
+        let start = at;
+        let end = text::end_of(text, start, NEW_LINE);
         at = end + 1;
+        x = lines::line(&mut q, &mut t, list, x, forms, &text[start..end]);
     }
-    lift::ended(&list, x);
+    lift::ended(list, x);
     x
 }
 
 // (The forms are long, and stand in one place of the program, which is cheaper to check.)
 fn lines_of(given: run::Run, text: &[u8]) -> run::Run {
-    lines_by(given, &statements::FORMS, text)
+    let mut list = [0u64; lift::ROOM];
+    lines_by(given, &mut list, &statements::FORMS, text)
 }
 
 fn print(text: &[u8]) {
@@ -73,11 +74,6 @@ fn picture(name: &[u8], text: &[u8]) {
     sheet::end();
 }
 
-// The runs of a file alone.
-fn record(text: &[u8]) {
-    lines_of(run::new(run::RECORD), text);
-}
-
 // A file's text is printed under its name; or its picture, or its lift record.
 fn shown(name: &[u8], text: &[u8], output: u64) {
     if output == run::PICTURE {
@@ -85,7 +81,7 @@ fn shown(name: &[u8], text: &[u8], output: u64) {
         return;
     }
     if output == run::RECORD {
-        record(text);
+        lines_of(run::new(run::RECORD), text);
         return;
     }
     io::write_all(STDOUT, name);
@@ -223,18 +219,14 @@ fn argument(i: usize, output: u64) -> u64 {
     said(&word[..n], output)
 }
 
-// An option is the last word.
-fn unfinished(option: &[u8]) {
-    complain(option, b": a file has to follow\n");
-}
-
-fn ended(output: u64) {
+// An option is the last word of the call.
+fn unfinished(output: u64) {
     if output == run::PICTURE {
-        unfinished(b"--picture");
+        io::write_all(libc::STDERR_FILENO, b"--picture");
+    } else {
+        io::write_all(libc::STDERR_FILENO, b"--record");
     }
-    if output == run::RECORD {
-        unfinished(b"--record");
-    }
+    io::write_all(libc::STDERR_FILENO, b": a file has to follow\n");
 }
 
 fn main() {
@@ -245,7 +237,9 @@ fn main() {
         output = argument(i, output);
         i += 1;
     }
-    ended(output);
+    if output != run::TEXT {
+        unfinished(output);
+    }
     if count < 2 {
         input();
     }

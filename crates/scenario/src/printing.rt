@@ -1,6 +1,5 @@
 // What is printed: words of lists and names of threads. Templates are those of crate text.
 use crate::run::LAST_NUMBER;
-use crate::run::NO_IDLE;
 use crate::run::Names;
 use crate::run::Run;
 use crate::run::TEXT;
@@ -118,27 +117,18 @@ pub fn mode(n: u64, template: &[u8]) {
     );
 }
 
-// A refusal of the program itself, in words, in the order of run.rt.
-fn own_refusal(n: u64) {
-    listed(
-        b": refused, %@\n",
-        b"there is no idle thread: a line 'thread NAME idle' makes one|the table has no such record\
-            |the lift record has no such word",
-        n,
-    );
-}
-
-// A refusal by its name and the number that document 01 or 02 gives it.
+// A refusal by its name and the number that document 01 or 02 gives it, one of the program itself in words. (The list
+// has no names yet for the numbers that document 02 gives later.)
 pub fn refusal(number: u64) {
-    if LAST_NUMBER < number {
-        own_refusal(number - NO_IDLE);
-        return;
-    }
     listed(
         b": refused, %@",
         b"made|Damaged|BadState|Already|NoThread|BadConfig|BadBudget|BackInTime|TurnsSpent|Halted|BadTable|BadRecord\
-            |RecordOrder",
+            |RecordOrder|||||||||there is no idle thread: a line 'thread NAME idle' makes one\
+            |the table has no such record|the lift record has no such word",
         number,
     );
-    put_one(b" (%a)\n", number);
+    if number <= LAST_NUMBER {
+        put_one(b" (%a)", number);
+    }
+    plain(b"\n");
 }

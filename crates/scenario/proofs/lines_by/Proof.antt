@@ -7,10 +7,10 @@ use Rattle.scenario.proofs.lines_by.Statement.{statement}
 use Rattle.scenario.proofs.lines_by.Tie as tie
 
 abbrev Inv-loop : tie.InvT-loop
-Inv-loop forms text q₀ t₀ list₀ x₀ at₀ q t list x at = (length t ≡ length t₀) × (length list ≡ length list₀)
+Inv-loop list₀ forms text q₀ t₀ x₀ at₀ list q t x at = (length list ≡ length list₀) × (length t ≡ length t₀)
 
 abbrev μ-loop : tie.MeasureT-loop
-μ-loop forms text q₀ t₀ list₀ x₀ at₀ q t list x at = length text - at
+μ-loop list₀ forms text q₀ t₀ x₀ at₀ list q t x at = length text - at
 
 pub lines-by-spec : {M : Type 1} → statement M
 lines-by-spec =
@@ -29,7 +29,6 @@ lines-by-spec =
     (λ c κs. search needs)
     (λ c. search needs)
     (λ c. search needs)
-    (λ c. search needs)
-    (λ c. search needs)
     (λ c κs. search needs)
+    (λ c. search needs)
     (λ c. search needs))
