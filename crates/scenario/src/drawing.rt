@@ -19,9 +19,10 @@ use crate::shapes::THIN_HEIGHT;
 use crate::shapes::in_milliseconds;
 use crate::shapes::mark;
 use crate::shapes::time_width;
+use board_words::SelectionWords;
 use text::saturating_add;
 use time::saturating_sub;
-use window_words::WINDOW_PERIOD;
+use window_words::KeyWords;
 
 // A bar that is shorter is drawn so long; one that is longer has room for a mark, and for its mode.
 const LEAST: u64 = 10;
@@ -65,15 +66,14 @@ fn due_at(place: u64, anchor: u64, reading: u64) {
 fn labelled(mut x: Run, left: u64) -> Run {
     let width = saturating_add(time_width(x.now), DUE_WIDTH);
     let start = time::min_of(left, saturating_sub(RIGHT, width));
-    if start < x.labelled {
-        return x;
+    if x.labelled <= start {
+        if start < left {
+            due_at(RIGHT, ENDS, x.now);
+        } else {
+            due_at(left, STARTS, x.now);
+        }
+        x.labelled = saturating_add(start, width);
     }
-    if start < left {
-        due_at(RIGHT, ENDS, x.now);
-    } else {
-        due_at(left, STARTS, x.now);
-    }
-    x.labelled = saturating_add(start, width);
     x
 }
 
@@ -92,29 +92,34 @@ fn shaded_to(mut x: Run, end: u64) -> Run {
     x
 }
 
-// Once in a period.
-fn shade(x: Run) -> Run {
-    let end = period_end(x.window[WINDOW_PERIOD], x.now);
-    if end <= x.shaded {
-        return x;
-    }
-    shaded_to(x, end)
-}
-
 // Protection is due where a protected thread asks, and what is left of the period is no more than what is left of the
 // floor.
-fn is_due(x: Run) -> bool {
-    let floor = x.window[window_words::FLOOR_LEFT];
-    if x.demand[window_words::DEMAND_PROTECTED] == 0 || floor == 0 {
+fn is_due(selected: SelectionWords, floor: u64, now: u64, end: u64) -> bool {
+    if selected[board_words::SELECTION_PROTECTED] == 0 || floor == 0 {
         return false;
     }
-    let end = period_end(x.window[WINDOW_PERIOD], x.now);
-    saturating_sub(end, floor) <= x.now
+    saturating_sub(end, floor) <= now
 }
 
-// The mode's name, where the bar has room for it.
-fn mode_in(left: u64, width: u64, y: u64, its_mode: u64) {
-    if width < WORDED || its_mode == STRICT && width < WORDED_STRICT {
+// Once in a period.
+fn shade(mut x: Run) -> Run {
+    let selected = x.selected;
+    let window = x.window;
+    let end = period_end(window[window_words::WINDOW_PERIOD], x.now);
+    let floor = window[window_words::FLOOR_LEFT];
+    if x.shaded < end && is_due(selected, floor, x.now, end) {
+        x = shaded_to(x, end);
+    }
+    x
+}
+
+// The mode's name, where there is one and the bar has room for it.
+fn mode_in(left: u64, width: u64, y: u64, key: KeyWords) {
+    let its_mode = key[window_words::KEY_MODE];
+    if key[window_words::KEY_TAG] == 0 || width < WORDED {
+        return;
+    }
+    if its_mode == STRICT && width < WORDED_STRICT {
         return;
     }
     put(
@@ -152,22 +157,18 @@ fn stretch(x: Run, end: u64) {
         return;
     }
     let hooks = x.hooks;
+    let key = x.key;
     let left = across(x.span, x.now);
     let width = wide(left, across(x.span, end));
     bar_at(left, width, down(id), at(hooks, id));
-    if x.key[window_words::KEY_TAG] != 0 {
-        mode_in(left, width, down(id), x.key[window_words::KEY_MODE]);
-    }
+    mode_in(left, width, down(id), key);
 }
 
 pub fn bar(mut x: Run, end: u64) -> Run {
-    if x.output != PICTURE {
-        return x;
-    }
-    if is_due(x) {
+    if x.output == PICTURE {
         x = shade(x);
+        stretch(x, end);
     }
-    stretch(x, end);
     x
 }
 
@@ -202,11 +203,11 @@ fn with_wait(mut x: Run, id: u64, word: u64) -> Run {
 }
 
 // A thread that was enqueued waits from now on.
-pub fn starts_waiting(x: Run, id: u64) -> Run {
-    if x.number != 0 {
-        return x;
+pub fn starts_waiting(mut x: Run, id: u64) -> Run {
+    if x.number == 0 {
+        x = with_wait(x, id, saturating_add(x.now, 1));
     }
-    with_wait(x, id, saturating_add(x.now, 1))
+    x
 }
 
 // A thread waits no longer.
@@ -220,25 +221,25 @@ pub fn stops_waiting(x: Run, id: u64) -> Run {
 }
 
 // A thread that waits where a run ends is drawn up to there, and goes on from there in the next one.
-fn keeps_waiting(x: Run, id: u64) -> Run {
+fn keeps_waiting(mut x: Run, id: u64) -> Run {
     let words = x.waits;
-    if at(words, id) == 0 {
-        return x;
+    if at(words, id) != 0 {
+        x = stops_waiting(x, id);
+        x = starts_waiting(x, id);
     }
-    starts_waiting(stops_waiting(x, id), id)
+    x
 }
 
 // A statement took it out of the queue.
-pub fn removed(x: Run, id: u64) -> Run {
-    if x.number != 0 {
-        return x;
+pub fn removed(mut x: Run, id: u64) -> Run {
+    if x.number == 0 {
+        x = with_wait(x, id, 0);
     }
-    with_wait(x, id, 0)
+    x
 }
 
-pub fn all_keep_waiting(given: Run) -> Run {
-    let mut x = given;
-    let mut left: u64 = given.lanes;
+pub fn all_keep_waiting(mut x: Run) -> Run {
+    let mut left: u64 = x.lanes;
     while 0 < left {
         left -= 1;
         x = keeps_waiting(x, left);

@@ -1,5 +1,5 @@
 // The lift record: the list of who ran from when to when, and the part of it that a reading and a width name. The list
-// is lent; what is kept beside it goes by value.
+// is lent; what is kept beside it is the run's.
 use crate::printing::listed;
 use crate::printing::named;
 use crate::printing::plain;
@@ -7,11 +7,10 @@ use crate::printing::put;
 use crate::run::NO_WORD;
 use crate::run::Names;
 use crate::run::RECORD;
-use crate::run::RecordWords;
 use crate::run::Run;
 use crate::run::TEXT;
 use crate::statements;
-use crate::statements::Values;
+use crate::statements::Fields;
 use text::saturating_add;
 
 // A run's words in the list: its start, its end and its thread.
@@ -36,29 +35,6 @@ const SLID_AFRESH: usize = 2;
 
 const SLID_WORDS: usize = 3;
 
-// What is kept beside the list: how many runs it has; of the last part the first run, the last one, how many there are,
-// and how it was searched; the reading and the width of that search; how many runs found no room; the number of the
-// last call; the word that a statement overwrote. (Templates name the first ones by their letters, from %a on.)
-const RUNS: usize = 0;
-
-const FIRST: usize = 1;
-
-const LAST: usize = 2;
-
-const COUNT: usize = 3;
-
-const HOW: usize = 4;
-
-const READING: usize = 5;
-
-const WIDTH: usize = 6;
-
-const LEFT_OUT: usize = 7;
-
-const NUMBER: usize = 8;
-
-const FORMER: usize = 9;
-
 // How a part was searched: by a lift; by a slide, which is one more than whether that searched afresh.
 const LIFTED: u64 = 0;
 
@@ -69,95 +45,18 @@ const BAD_TABLE: u64 = 10;
 
 const STDOUT: i32 = 1;
 
-// A run more, by the entry. One that finds no room is counted, and not refused: the scenario goes on.
-fn appended(
-    list: &mut [u64],
-    mut w: RecordWords,
-    start: u64,
-    end: u64,
-    thread: u64,
-) -> RecordWords {
-    let answer = board::board_append(list, w[RUNS], start, end, thread);
-    w[NUMBER] = 0;
-    match answer {
-        0 => w[RUNS] = saturating_add(w[RUNS], 1),
-        BAD_TABLE => w[LEFT_OUT] = saturating_add(w[LEFT_OUT], 1),
-        _ => w[NUMBER] = answer,
-    }
-    w
-}
-
-// A stretch that was charged is a run, from its first reading up to now, but for the idle thread's. A wake is none.
+// A stretch that was charged is a run, from its first reading up to now, but for the idle thread's. A wake is none. A
+// run that finds no room is counted, and not refused: the scenario goes on.
 pub fn kept(list: &mut [u64], mut x: Run, start: u64, woken: u64) -> Run {
-    if x.number != 0 || x.woken != woken || x.current == x.idle {
-        return x;
+    if x.number == 0 && x.woken == woken && x.current != x.idle {
+        let answer = board::board_append(list, x.runs, start, x.now, x.current);
+        match answer {
+            0 => x.runs = saturating_add(x.runs, 1),
+            BAD_TABLE => x.left_out = saturating_add(x.left_out, 1),
+            _ => x.number = answer,
+        }
     }
-    let before = x.record;
-    let after = appended(list, before, start, x.now, x.current);
-    x.record = after;
-    x.number = after[NUMBER];
     x
-}
-
-// With the answer of a search; a refused one stored zeros as the place. (The last run of an empty part is not told.)
-fn searched(mut w: RecordWords, number: u64, now: u64, first: u64, count: u64) -> RecordWords {
-    w[NUMBER] = number;
-    w[READING] = now;
-    w[FIRST] = first;
-    w[LAST] = time::saturating_sub(saturating_add(first, count), 1);
-    w[COUNT] = count;
-    w
-}
-
-fn lift(list: &[u64], given: RecordWords, now: u64, width: u64) -> RecordWords {
-    let mut place = [0u64; PLACE_WORDS];
-    let number = board::board_lift(list, now, width, &mut place);
-    let mut w = searched(given, number, now, place[PLACE_FIRST], place[PLACE_COUNT]);
-    w[WIDTH] = width;
-    w[HOW] = LIFTED;
-    w
-}
-
-// From the last lift or slide.
-fn slide(list: &[u64], given: RecordWords, now: u64) -> RecordWords {
-    let mut slid = [0u64; SLID_WORDS];
-    let number = board::board_slide(
-        list,
-        given[WIDTH],
-        given[READING],
-        given[FIRST],
-        given[COUNT],
-        now,
-        &mut slid,
-    );
-    let mut w = searched(given, number, now, slid[PLACE_FIRST], slid[PLACE_COUNT]);
-    w[HOW] = saturating_add(SLID, slid[SLID_AFRESH]);
-    w
-}
-
-fn set_word(list: &mut [u64], mut w: RecordWords, k: u64, value: u64) -> RecordWords {
-    let i = k as usize;
-    w[NUMBER] = NO_WORD;
-    if i < list.len() {
-        w[NUMBER] = 0;
-        w[FORMER] = list[i];
-        list[i] = value;
-    }
-    w
-}
-
-// A statement on the words that the list has.
-fn on_list(list: &mut [u64], w: RecordWords, n: u64, a: Values) -> RecordWords {
-    let count = (w[RUNS] % (MOST_RUNS + 1) * RUN_WORDS) as usize;
-    if list.len() < count {
-        return w;
-    }
-    let words = &mut list[0..count];
-    match n {
-        statements::LIFT => lift(words, w, a[1], a[2]),
-        statements::SLIDE => slide(words, w, a[1]),
-        _ => set_word(words, w, a[2], a[3]),
-    }
 }
 
 // The k-th run.
@@ -168,8 +67,7 @@ fn row(list: &[u64], names: Names, threads: u64, k: u64, template: &[u8]) {
         return;
     }
     put(template, &list[at..end]);
-    named(names, threads, list[at + THREAD], b"%@");
-    plain(b"\n");
+    named(names, threads, list[at + THREAD], b"%@\n");
 }
 
 fn rows(list: &[u64], names: Names, threads: u64, first: u64, count: u64, template: &[u8]) {
@@ -183,54 +81,102 @@ fn rows(list: &[u64], names: Names, threads: u64, first: u64, count: u64, templa
 }
 
 // Where the part lies among the runs; an empty one lies at a run, or at their end.
-fn told_place(w: RecordWords) {
-    if w[COUNT] == 0 {
-        put(b": no run, at %b of %a", &w);
-    } else {
-        put(b": runs %b to %c of %a", &w);
+fn told_place(runs: u64, first: u64, count: u64) {
+    if count == 0 {
+        put(b": no run, at %a of %b", &[first, runs]);
+        return;
     }
-    listed(b"%@\n", b"|, not afresh|, searched afresh", w[HOW]);
+    let last = time::saturating_sub(saturating_add(first, count), 1);
+    put(b": runs %a to %b of %c", &[first, last, runs]);
+}
+
+fn told_how(how: u64, count: u64) {
+    listed(b"%@\n", b"|, not afresh|, searched afresh", how);
+    if count != 0 {
+        plain(b"         start            end  thread\n");
+    }
 }
 
 // In a text, the part of a search that was not refused: its place, and its runs.
-fn told(list: &[u64], w: RecordWords, names: Names, threads: u64, output: u64, n: u64) {
-    if w[NUMBER] != 0 || output != TEXT || n == statements::LIFT_WORD {
-        return;
+fn told(list: &[u64], x: Run) {
+    if x.number == 0 && x.output == TEXT {
+        let names = x.names;
+        told_place(x.runs, x.first, x.count);
+        told_how(x.how, x.count);
+        rows(list, names, x.threads, x.first, x.count, b"%14A%15B  ");
     }
-    told_place(w);
-    if w[COUNT] != 0 {
-        plain(b"         start            end  thread\n");
-    }
-    rows(list, names, threads, w[FIRST], w[COUNT], b"%14A%15B  ");
 }
 
-pub fn performed(list: &mut [u64], mut x: Run, n: u64, a: Values) -> Run {
-    let before = x.record;
-    let names = x.names;
-    let after = on_list(list, before, n, a);
-    told(list, after, names, x.threads, x.output, n);
-    x.record = after;
-    x.number = after[NUMBER];
-    x.former = after[FORMER];
+// A refused search stores zeros as the place, and so does a refused slide.
+fn lift(list: &[u64], mut x: Run, now: u64, width: u64) -> Run {
+    let mut place = [0u64; PLACE_WORDS];
+    x.number = board::board_lift(list, now, width, &mut place);
+    x.first = place[PLACE_FIRST];
+    x.count = place[PLACE_COUNT];
+    x.how = LIFTED;
+    x.reading = now;
+    x.width = width;
+    told(list, x);
     x
 }
 
-// Where runs found no room.
-fn told_full(fd: i32, left_out: u64) {
-    if left_out != 0 {
-        io::write_all(fd, b"the lift record is full: later runs are left out\n");
+// From the last lift or slide.
+fn slide(list: &[u64], mut x: Run, now: u64) -> Run {
+    let mut slid = [0u64; SLID_WORDS];
+    x.number = board::board_slide(list, x.width, x.reading, x.first, x.count, now, &mut slid);
+    x.first = slid[PLACE_FIRST];
+    x.count = slid[PLACE_COUNT];
+    x.how = saturating_add(SLID, slid[SLID_AFRESH]);
+    x.reading = now;
+    told(list, x);
+    x
+}
+
+fn set_word(list: &mut [u64], mut x: Run, k: u64, value: u64) -> Run {
+    let i = k as usize;
+    if i < list.len() {
+        x.former = list[i];
+        list[i] = value;
+    } else {
+        x.number = NO_WORD;
     }
+    x
+}
+
+// A statement on the words that the list has.
+fn on_list(list: &mut [u64], mut x: Run, n: u64, v: Fields) -> Run {
+    match n {
+        statements::LIFT => x = lift(list, x, v.first, v.second),
+        statements::SLIDE => x = slide(list, x, v.first),
+        _ => x = set_word(list, x, v.second, v.third),
+    }
+    x
+}
+
+pub fn performed(list: &mut [u64], mut x: Run, n: u64, v: Fields) -> Run {
+    let count = (x.runs % (MOST_RUNS + 1) * RUN_WORDS) as usize;
+    if count <= list.len() {
+        x = on_list(&mut list[0..count], x, n, v);
+    }
+    x
+}
+
+// Runs found no room.
+fn told_full(output: u64) {
+    let mut fd = STDOUT;
+    if output == RECORD {
+        fd = libc::STDERR_FILENO;
+    }
+    io::write_all(fd, b"the lift record is full: later runs are left out\n");
 }
 
 // After a file's last line; a record that is asked for is printed whole, for other programs.
 pub fn ended(list: &[u64], x: Run) {
-    let w = x.record;
     let names = x.names;
     if x.output == RECORD {
-        rows(list, names, x.threads, 0, w[RUNS], b"%a %b %c ");
-        told_full(libc::STDERR_FILENO, w[LEFT_OUT]);
+        rows(list, names, x.threads, 0, x.runs, b"%a %b %c ");
     }
-    if x.output == TEXT {
-        told_full(STDOUT, w[LEFT_OUT]);
+    if x.left_out != 0 && (x.output == RECORD || x.output == TEXT) {
+        told_full(x.output);
     }
 }

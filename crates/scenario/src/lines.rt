@@ -69,10 +69,11 @@ fn mistaken(x: Run, forms: &[u8], line: &[u8], said: Statement, mistake: u64) ->
     if x.output == TEXT {
         mistakes::told(forms, x.line, line, said, mistake);
     }
+    let mut kind = NOT_UNDERSTOOD;
     if mistakes::is_refused(mistake) {
-        return counted(x, REFUSED);
+        kind = REFUSED;
     }
-    counted(x, NOT_UNDERSTOOD)
+    counted(x, kind)
 }
 
 fn understood(
@@ -92,7 +93,7 @@ fn understood(
         answer(x, said.number);
     }
     if x.number != 0 {
-        return counted(x, REFUSED);
+        x = counted(x, REFUSED);
     }
     x
 }
@@ -106,13 +107,16 @@ fn worded(
     forms: &[u8],
     line: &[u8],
 ) -> Run {
-    let said = statements::said(x, forms, line);
+    let names = x.names;
+    let said = statements::said(names, x.threads, forms, line);
     x = counted(x, STATEMENTS);
     let mistake = mistakes::mistake(said, x.wakes);
-    if mistake != causes::NONE {
-        return mistaken(x, forms, line, said, mistake);
+    if mistake == causes::NONE {
+        x = understood(q, t, list, x, line, said);
+    } else {
+        x = mistaken(x, forms, line, said, mistake);
     }
-    understood(q, t, list, x, line, said)
+    x
 }
 
 pub fn line(
@@ -126,8 +130,8 @@ pub fn line(
     x.line = text::saturating_add(x.line, 1);
     let start = text::start_of(line, 0, SPACE);
     let end = last_end(line);
-    if end <= start || line.len() < end {
-        return x;
+    if start < end && end <= line.len() {
+        x = worded(q, t, list, x, forms, &line[start..end]);
     }
-    worded(q, t, list, x, forms, &line[start..end])
+    x
 }

@@ -39,11 +39,10 @@ fn new_queue(q: &mut lent_queue::QueueRows) {
 }
 
 // Each line in turn, by the forms of the statements, on a new board, with the list of the lift record.
-fn lines_by(given: run::Run, list: &mut [u64], forms: &[u8], text: &[u8]) -> run::Run {
+fn lines_by(mut x: run::Run, list: &mut [u64], forms: &[u8], text: &[u8]) -> run::Run {
     let mut q = [[0u64; lent_queue::QUEUE_ROW_WORDS]; lent_queue::QUEUE_ROWS];
     let mut t = [[0u64; policy_words::ROW_WORDS]; run::TABLE_ROWS];
     new_queue(&mut q);
-    let mut x = given;
     let mut at: usize = 0;
     while at < text.len() {
         let start = at;

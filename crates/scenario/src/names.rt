@@ -1,7 +1,7 @@
 // Names in a picture: whatever their bytes are, what is drawn is text of XML.
 use crate::printing::SPACE;
 use crate::printing::spaced;
-use crate::run::Run;
+use crate::run::Names;
 
 // As much of a name is drawn, with up to six bytes for each of its own.
 pub const DRAWN: usize = 200;
@@ -120,8 +120,8 @@ fn part(text: &[u8], start: usize, end: usize) {
 }
 
 // The name of a thread.
-pub fn name(x: Run, id: u64) {
-    let mut names = x.names;
+pub fn name(given: Names, id: u64) {
+    let mut names = given;
     let its = text::nth(&names, SPACE, id as usize);
     spaced(&mut names);
     part(&names, its.start, its.end);

@@ -1,7 +1,6 @@
 // What is printed: words of lists and names of threads. Templates are those of crate text.
 use crate::run::LAST_NUMBER;
 use crate::run::Names;
-use crate::run::Run;
 use crate::run::TEXT;
 use text::print;
 
@@ -31,12 +30,6 @@ pub fn put_one(template: &[u8], value: u64) {
 }
 
 // The same, in a text.
-pub fn say(output: u64, template: &[u8], values: &[u64]) {
-    if output == TEXT {
-        put(template, values);
-    }
-}
-
 pub fn say_one(output: u64, template: &[u8], value: u64) {
     if output == TEXT {
         put_one(template, value);
@@ -85,16 +78,17 @@ fn part(template: &[u8], list: &[u8], start: usize, end: usize) {
     }
 }
 
-// The name of a thread; # and its number where it has none.
-pub fn name(x: Run, id: u64, template: &[u8]) {
-    let names = x.names;
-    named(names, x.threads, id, template);
+// What stands for the name of a thread that has none.
+fn numbered(id: u64, template: &[u8]) {
+    let mut out = [0u8; WORDS];
+    let n = text::fill(&mut out, 0, b"#%a", &[id], b"");
+    part(template, &out, 0, n);
 }
 
-// The same, by the names of so many threads.
+// The name of a thread, by the names of so many; # and its number where it has none.
 pub fn named(given: Names, threads: u64, id: u64, template: &[u8]) {
     if threads <= id {
-        put_one(b"#%a", id);
+        numbered(id, template);
         return;
     }
     let mut names = given;
@@ -117,9 +111,9 @@ pub fn mode(n: u64, template: &[u8]) {
     );
 }
 
-// A refusal by its name and the number that document 01 or 02 gives it, one of the program itself in words. (The list
-// has no names yet for the numbers that document 02 gives later.)
-pub fn refusal(number: u64) {
+// The name of a refusal; of one of the program itself its words. (The list has no names yet for the numbers that
+// document 02 gives later.)
+fn refused(number: u64) {
     listed(
         b": refused, %@",
         b"made|Damaged|BadState|Already|NoThread|BadConfig|BadBudget|BackInTime|TurnsSpent|Halted|BadTable|BadRecord\
@@ -127,6 +121,11 @@ pub fn refusal(number: u64) {
             |the table has no such record|the lift record has no such word",
         number,
     );
+}
+
+// A refusal, with the number that document 01 or 02 gives it.
+pub fn refusal(number: u64) {
+    refused(number);
     if number <= LAST_NUMBER {
         put_one(b" (%a)", number);
     }

@@ -17,11 +17,6 @@ pub const NAMES: usize = 512;
 
 pub type Names = [u8; NAMES];
 
-// What is kept of the lift record beside its list (lift.rt says what).
-pub const RECORD_WORDS: usize = 10;
-
-pub type RecordWords = [u64; RECORD_WORDS];
-
 // What becomes of the output: text, nothing, a picture, or the lift record.
 pub const TEXT: u64 = 0;
 
@@ -50,6 +45,8 @@ pub const REFUSED: usize = 1;
 pub const NOT_UNDERSTOOD: usize = 2;
 
 pub const COUNTS: usize = 3;
+
+pub type Counts = [u64; COUNTS];
 
 // The number of no thread.
 pub const NOBODY: u64 = 18_446_744_073_709_551_615;
@@ -90,13 +87,12 @@ pub struct Run {
     pub explains: u64,
     pub output: u64,
     pub line: u64,
-    pub counts: [u64; COUNTS],
-    // What the last calls left: document 01's number; the running thread as a candidate; a selection, and its demand; a
-    // key; whether a turn is spent; whether to switch; the lengths; a deadline.
+    pub counts: Counts,
+    // What the last calls left: document 01's number; the running thread as a candidate; a selection; a key; whether a
+    // turn is spent; whether to switch; the lengths; a deadline.
     pub number: u64,
     pub candidate: codec::Row,
     pub selected: board_words::SelectionWords,
-    pub demand: window_words::DemandWords,
     pub key: window_words::KeyWords,
     pub expired: u64,
     pub choice: board_words::ChoiceWords,
@@ -104,8 +100,15 @@ pub struct Run {
     pub deadline: policy_words::DeadlineWords,
     // The word that a statement overwrote.
     pub former: u64,
-    // What is kept of the lift record.
-    pub record: RecordWords,
+    // Of the lift record: how many runs its list has, and how many found no room; of the last part the first run, how
+    // many there are, and how it was searched (lift.rt); the reading and the width of that search.
+    pub runs: u64,
+    pub left_out: u64,
+    pub first: u64,
+    pub count: u64,
+    pub how: u64,
+    pub reading: u64,
+    pub width: u64,
     // Of a picture: the last reading of all, how many lanes, up to which reading protected windows are drawn, and up to
     // which place their labels.
     pub span: u64,
@@ -143,14 +146,19 @@ pub fn new(output: u64) -> Run {
         number: 0,
         candidate: [0; policy_words::ROW_WORDS],
         selected: [0; board_words::SELECTION_WORDS],
-        demand: [0; window_words::DEMAND_WORDS],
         key: [0; window_words::KEY_WORDS],
         expired: 0,
         choice: [0; board_words::CHOICE_WORDS],
         lengths: [0; board_words::LENGTH_WORDS],
         deadline: [0; policy_words::DEADLINE_WORDS],
         former: 0,
-        record: [0; RECORD_WORDS],
+        runs: 0,
+        left_out: 0,
+        first: 0,
+        count: 0,
+        how: 0,
+        reading: 0,
+        width: 0,
         span: 0,
         lanes: 0,
         shaded: 0,
@@ -175,10 +183,9 @@ pub fn at(words: Each, k: u64) -> u64 {
 }
 
 // With another word; of none, as it is.
-pub fn with(words: Each, k: u64, word: u64) -> Each {
-    let mut after = words;
+pub fn with(mut words: Each, k: u64, word: u64) -> Each {
     if k < MOST_THREADS {
-        after[k as usize] = word;
+        words[k as usize] = word;
     }
-    after
+    words
 }

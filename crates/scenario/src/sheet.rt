@@ -7,6 +7,7 @@ use crate::names::legible;
 use crate::names::name;
 use crate::printing::plain;
 use crate::printing::put;
+use crate::run::Names;
 use crate::run::Run;
 use crate::scale::LEFT;
 use crate::scale::RIGHT;
@@ -15,6 +16,7 @@ use crate::scale::down;
 use crate::shapes::label;
 use crate::shapes::rectangle;
 use text::saturating_add;
+use window_words::WindowWords;
 
 // The title: where it starts, how wide it may be, and a letter's height where there is room.
 const TITLE_LEFT: u64 = 120;
@@ -70,19 +72,19 @@ fn name_place(y: u64) {
     );
 }
 
-fn lane(x: Run, id: u64) {
+fn lane(names: Names, id: u64) {
     let y = down(id);
     lane_line(y);
     name_place(y);
-    name(x, id);
+    name(names, id);
     plain(b"</text>\n");
 }
 
-fn lanes(x: Run) {
-    let mut left: u64 = x.threads;
+fn lanes(names: Names, threads: u64) {
+    let mut left = threads;
     while 0 < left {
         left -= 1;
-        lane(x, left);
+        lane(names, left);
     }
 }
 
@@ -107,22 +109,24 @@ fn paper(height: u64) {
 }
 
 // The time, or that there was none.
-fn timed(x: Run, bottom: u64) {
-    if x.span == 0 {
+fn timed(span: u64, window: WindowWords, bottom: u64) {
+    if span == 0 {
         label(LEFT, saturating_add(bottom, TIME_DOWN), b"no run");
         return;
     }
-    axis(x.span, bottom, x.window[window_words::WINDOW_PERIOD]);
+    axis(span, bottom, window[window_words::WINDOW_PERIOD]);
 }
 
 pub fn sheet(x: Run, name: &[u8]) {
     let bottom = down(x.lanes);
     let below = saturating_add(bottom, LEGEND_DOWN);
     let hooks = x.hooks;
+    let names = x.names;
+    let window = x.window;
     paper(saturating_add(below, legend::height(hooks)));
     title(name);
-    timed(x, bottom);
-    lanes(x);
+    timed(x.span, window, bottom);
+    lanes(names, x.threads);
     legend::legend(hooks, below);
 }
 

@@ -2,7 +2,7 @@
 // line is tried. An underline in a field's name is printed as a space.
 use crate::causes;
 use crate::run::MOST_THREADS;
-use crate::run::Run;
+use crate::run::Names;
 
 // Of the board alone.
 pub const WINDOW: u64 = 0;
@@ -136,8 +136,7 @@ pub const FORMS: [u8; 1161] =
     thread name:= policy:idle .. hook hook:^";
 
 // By the n-th of some forms.
-fn by(x: Run, forms: &[u8], n: u64, line: &[u8]) -> Statement {
-    let names = x.names;
+fn by(names: Names, threads: u64, forms: &[u8], n: u64, line: &[u8]) -> Statement {
     let mut values = [0u64; VALUES];
     let form = text::nth(forms, NEW_LINE, n as usize);
     let start = form.start;
@@ -146,7 +145,7 @@ fn by(x: Run, forms: &[u8], n: u64, line: &[u8]) -> Statement {
         &forms[start..end],
         line,
         &names,
-        x.threads,
+        threads,
         MOST_THREADS,
         &mut values,
     );
@@ -174,12 +173,12 @@ fn further(a: Statement, b: Statement) -> Statement {
     a
 }
 
-// What a line says by the forms.
-pub fn said(x: Run, forms: &[u8], line: &[u8]) -> Statement {
-    let mut best = by(x, forms, 0, line);
+// What a line says by the forms, where so many threads have these names.
+pub fn said(names: Names, threads: u64, forms: &[u8], line: &[u8]) -> Statement {
+    let mut best = by(names, threads, forms, 0, line);
     let mut number: u64 = 1;
     while number < COUNT {
-        best = further(best, by(x, forms, number, line));
+        best = further(best, by(names, threads, forms, number, line));
         number += 1;
     }
     best

@@ -109,15 +109,15 @@ fn named(mut x: Run, word: &[u8]) -> Run {
 }
 
 // By the second word of its line.
-fn named_by(x: Run, line: &[u8]) -> Run {
+fn named_by(mut x: Run, line: &[u8]) -> Run {
     let first = text::word_after(line, 0, SPACE);
     let name = text::word_after(line, first.end, SPACE);
     let start = name.start;
     let end = name.end;
-    if line.len() < end {
-        return x;
+    if end <= line.len() {
+        x = named(x, &line[start..end]);
     }
-    named(x, &line[start..end])
+    x
 }
 
 // With one thread more, and a record for it at least.
@@ -142,13 +142,13 @@ fn stored(t: &mut [Row], id: u64, row: Row) {
 pub fn thread(t: &mut [Row], mut x: Run, line: &[u8], statement: u64, a: Values) -> Run {
     let id = x.threads;
     x.number = judged(statement, a);
-    if x.number != 0 {
-        return x;
+    if x.number == 0 {
+        stored(t, id, row(statement, a));
+        x = named_by(x, line);
+        x = grown(x, id, hook(statement, a));
+        if statement == statements::IDLE {
+            x = idle(x, id);
+        }
     }
-    stored(t, id, row(statement, a));
-    let after = grown(named_by(x, line), id, hook(statement, a));
-    if statement == statements::IDLE {
-        return idle(after, id);
-    }
-    after
+    x
 }

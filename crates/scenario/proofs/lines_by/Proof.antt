@@ -7,10 +7,10 @@ use Rattle.scenario.proofs.lines_by.Statement.{statement}
 use Rattle.scenario.proofs.lines_by.Tie as tie
 
 abbrev Inv-loop : tie.InvT-loop
-Inv-loop list₀ forms text q₀ t₀ x₀ at₀ list q t x at = (length list ≡ length list₀) × (length t ≡ length t₀)
+Inv-loop x₀ list₀ forms text q₀ t₀ at₀ x list q t at = (length list ≡ length list₀) × (length t ≡ length t₀)
 
 abbrev μ-loop : tie.MeasureT-loop
-μ-loop list₀ forms text q₀ t₀ x₀ at₀ list q t x at = length text - at
+μ-loop x₀ list₀ forms text q₀ t₀ at₀ x list q t at = length text - at
 
 pub lines-by-spec : {M : Type 1} → statement M
 lines-by-spec =

@@ -4,10 +4,10 @@ use Rattle.scenario.proofs.explaining.others.Statement.{statement}
 use Rattle.scenario.proofs.explaining.others.Tie as tie
 
 abbrev Inv-loop : tie.InvT-loop
-Inv-loop t x w₀ left₀ t6 w left = Unit {0}
+Inv-loop t names threads w₀ left₀ t7 w left = Unit {0}
 
 abbrev μ-loop : tie.MeasureT-loop
-μ-loop t x w₀ left₀ t6 w left = left
+μ-loop t names threads w₀ left₀ t7 w left = left
 
 pub others-spec : {M : Type 1} → statement M
 others-spec =

@@ -5,10 +5,10 @@ use Rattle.scenario.proofs.explaining.trees.Statement.{statement}
 use Rattle.scenario.proofs.explaining.trees.Tie as tie
 
 abbrev Inv-loop : tie.InvT-loop
-Inv-loop q t now x₀ number₀ x number = Unit {0}
+Inv-loop q t x₀ now number₀ x number = Unit {0}
 
 abbrev μ-loop : tie.MeasureT-loop
-μ-loop q t now x₀ number₀ x number = 12 - number
+μ-loop q t x₀ now number₀ x number = 12 - number
 
 pub trees-spec : {M : Type 1} → statement M
 trees-spec =

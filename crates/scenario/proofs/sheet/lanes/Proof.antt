@@ -4,10 +4,10 @@ use Rattle.scenario.proofs.sheet.lanes.Statement.{statement}
 use Rattle.scenario.proofs.sheet.lanes.Tie as tie
 
 abbrev Inv-loop : tie.InvT-loop
-Inv-loop x left₀ left = Unit {0}
+Inv-loop names threads left₀ left = Unit {0}
 
 abbrev μ-loop : tie.MeasureT-loop
-μ-loop x left₀ left = left
+μ-loop names threads left₀ left = left
 
 pub lanes-spec : {M : Type 1} → statement M
 lanes-spec =

@@ -5,10 +5,10 @@ use Rattle.scenario.proofs.statements.said.Statement.{statement}
 use Rattle.scenario.proofs.statements.said.Tie as tie
 
 abbrev Inv-loop : tie.InvT-loop
-Inv-loop x forms line best₀ number₀ best number = Unit {0}
+Inv-loop names threads forms line best₀ number₀ best number = Unit {0}
 
 abbrev μ-loop : tie.MeasureT-loop
-μ-loop x forms line best₀ number₀ best number = 27 - number
+μ-loop names threads forms line best₀ number₀ best number = 27 - number
 
 pub said-spec : {M : Type 1} → statement M
 said-spec =
