@@ -1,19 +1,20 @@
 -- Laws by which the calls meet their contracts: each way to an answer.
 use Prim.Native.Nat.{ℕ, suc, _+_, _-_, _*_, _<_, _≤_, max}
 use native.Mathlib.Omega.{arith}
-use mathlib.Core.Path.{_≡_, refl, sym, _∙_}
+use mathlib.Core.Path.{_≡_, refl, sym, ap, _∙_}
 use mathlib.Core.Bool.{Bool, true, false, not}
 use mathlib.Core.List.{List, [], _∷_}
-use lib.ListN.{set}
+use lib.ListN.{length, set, length-set}
 use lib.Seq.{sets-eq}
 use lib.Dec.{ltb}
 use borrow.Author.Tests.{ltb-false, lt-ltb, le-ltb, not-true, not-false}
-use Rattle.refusal.specs.Answer.{recordOrder}
-use Rattle.refusal.specs.Cases.{choose, ifLess, never}
+use Rattle.refusal.specs.Answer.{badTable, recordOrder}
+use Rattle.refusal.specs.Cases.{choose, ifLess, never, less, not-less, is}
 use Rattle.lift_record.specs.declared.Place.{Place}
 use Rattle.lift_record.specs.declared.Edge.the-variants as edge
 use Rattle.lift_record.specs.Record.{runs, inOrder, place, placeOf, partAt, isAfresh}
-use Rattle.lift_record.specs.Record.{Found, foundAt, placed, searchLeft, slidTo, slideLeft, withRun}
+use Rattle.lift_record.specs.Record.{Found, foundAt, placed, searchLeft, slidTo, slideLeft}
+use Rattle.lift_record.specs.Record.{endBefore, withRun, appended, appendLeft}
 use Rattle.lift_record.specs.Halving.{precedes, halvedPlace, inOrderSince, searchFromLeft}
 use Rattle.lift_record.specs.Neighbours.{First, isPlace}
 use Rattle.lift_record.specs.SearchLaws.{halved-place, in-order-since-none, search-from-none}
@@ -104,13 +105,42 @@ module _ (w : List ℕ) (earlier : ℕ) (p : Place) (now width : ℕ) where
 
 pub ruleset slides = (slide-disordered, slide-back, slide-afresh, slide-on, slid-at)
 
--- The three words of a run.
-pub run-put : (w : List ℕ) (k start end thread : ℕ) {a b c : List ℕ} → k < runs w → a ≡ set w (3 * k + 0) start
-    → b ≡ set a (3 * k + 1) end → c ≡ set b (3 * k + 2) thread → c ≡ withRun w k start end thread
-unfolding withRun
-run-put w k start end thread l e f g =
-    let x : 3 * k + 0 ≡ 3 * k = omega arith in
-    let y : 3 * k + 1 ≡ suc (3 * k) = omega arith in
-    let z : 3 * k + 2 ≡ suc (suc (3 * k)) = omega arith in
-    let n : 3 * k + 3 ≡ 3 * suc k = omega arith in
-    rw (g, f, e, x, y, z) (rw n at (sets-eq (start ∷ (end ∷ (thread ∷ []))) w (3 * k) (omega arith)))
+-- The three words of a run, one behind the other: each stands in the list, and they make the run.
+module _ (w : List ℕ) (k : ℕ) (l : k < runs w) where
+  pub second-inside : (i start : ℕ) → 3 * k + 1 < length (set w i start)
+  second-inside i start = omega (arith, length-set w i start)
+
+  pub third-inside : (i start j end : ℕ) → 3 * k + 2 < length (set (set w i start) j end)
+  third-inside i start j end = omega (arith, length-set w i start, length-set (set w i start) j end)
+
+  pub run-put : (start end thread : ℕ)
+      → set (set (set w (3 * k + 0) start) (3 * k + 1) end) (3 * k + 2) thread ≡ withRun w k start end thread
+  unfolding withRun
+  run-put start end thread =
+      let x : 3 * k + 0 ≡ 3 * k = omega arith in
+      let y : 3 * k + 1 ≡ suc (3 * k) = omega arith in
+      let z : 3 * k + 2 ≡ suc (suc (3 * k)) = omega arith in
+      let n : 3 * k + 3 ≡ 3 * suc k = omega arith in
+      rw (x, y, z) (rw n at (sets-eq (start ∷ (end ∷ (thread ∷ []))) w (3 * k) (omega arith)))
+
+-- A run more: each way to an answer.
+module _ (w : List ℕ) (k start end thread : ℕ) where
+  pub no-room : runs w ≤ k → appended badTable w ≡ appendLeft w k start end thread
+  unfolding appendLeft
+  no-room l = not-less _ _ _ _ l refl
+
+  module _ (l : k < runs w) where
+    pub ends-early : end < start → appended recordOrder w ≡ appendLeft w k start end thread
+    unfolding appendLeft
+    ends-early h = less _ _ _ _ l (less _ _ _ _ h refl)
+
+    module _ {last : ℕ} (h : start ≤ end) (e : last ≡ endBefore 0 w k) where
+      pub starts-early : start < last → appended recordOrder w ≡ appendLeft w k start end thread
+      unfolding appendLeft
+      starts-early m = less _ _ _ _ l (not-less _ _ _ _ h (is _ e (less _ _ _ _ m refl)))
+
+      pub run-appended : {v : List ℕ} → last ≤ start → v ≡ withRun w k start end thread
+          → appended 0 v ≡ appendLeft w k start end thread
+      unfolding appendLeft
+      run-appended m p =
+          less _ _ _ _ l (not-less _ _ _ _ h (is _ e (not-less _ _ _ _ m (ap (λ (u : List ℕ). appended 0 u) p))))

@@ -22,13 +22,13 @@ module _ (w : List ℕ) (side : Edge) (time i : ℕ) where
   pub no-edge : runs w ≤ i → false ≡ precedes w side time i
   no-edge h = sym (precedes-outside w side time i h)
 
-  pub start-edge : i < runs w → side ≡ edge.Start → ltb (startOf w i) time ≡ precedes w side time i
+  pub start-edge : {s : ℕ} → i < runs w → side ≡ edge.Start → s ≡ startOf w i → ltb s time ≡ precedes w side time i
   unfolding edgeBefore
-  start-edge l e = rw e (sym (precedes-inside w edge.Start time i l))
+  start-edge l e h = rw (e, h) (sym (precedes-inside w edge.Start time i l))
 
-  pub end-edge : i < runs w → side ≡ edge.End → leb (endOf w i) time ≡ precedes w side time i
+  pub end-edge : {n : ℕ} → i < runs w → side ≡ edge.End → n ≡ endOf w i → leb n time ≡ precedes w side time i
   unfolding edgeBefore
-  end-edge l e = rw e (sym (precedes-inside w edge.End time i l))
+  end-edge l e h = rw (e, h) (sym (precedes-inside w edge.End time i l))
 
 pub ruleset edges = (no-edge, start-edge, end-edge)
 

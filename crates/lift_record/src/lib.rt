@@ -2,10 +2,10 @@
 // Document 02, T-01.
 mod ordering;
 mod placing;
+mod words;
 
 ghost use mathlib.Core.Path.{_≡_};
 ghost use Prim.Native.Nat.{_<_};
-ghost use lib.ListN.{length, set};
 ghost use Rattle.lift_record.specs.Halving.{halvedPlace, searchFromLeft};
 ghost use Rattle.lift_record.specs.Record.{runs, foundAt, searchLeft, slidTo, slideLeft, withRun};
 ghost use Rattle.lift_record.specs.Record.{appended, appendLeft};
@@ -15,7 +15,8 @@ use placing::halved_place;
 use placing::is_place;
 use placing::part;
 use placing::walk_on;
-use refusal::Refusal;
+use refusal::BAD_TABLE;
+use refusal::RECORD_ORDER;
 
 // The words of a run: its start, its end, its thread's number.
 pub const START: usize = 0;
@@ -76,7 +77,7 @@ pub fn search_from<'a>(
         «width_ns» ⌝ }
 {
     if !in_order_since(list, ordered) {
-        *found = [Refusal::RecordOrder.number(), 0, 0];
+        *found = [RECORD_ORDER, 0, 0];
         return &list[..0];
     }
     let place = halved_place(list, now_ns, width_ns);
@@ -107,7 +108,7 @@ pub fn slide<'a>(
         «width_ns» ⌝ }
 {
     if !in_order_since(list, 0) {
-        *slid = [Refusal::RecordOrder.number(), 0, 0, 0];
+        *slid = [RECORD_ORDER, 0, 0, 0];
         return &list[..0];
     }
     if now_ns < earlier_ns {
@@ -121,22 +122,15 @@ pub fn slide<'a>(
     part(list, next)
 }
 
-// One word of the list.
-fn put(list: &mut [u64], at: usize, word: u64)
-    requires { ⌜ at < length (now list) ⌝ }
-    ensures { λ r. ⌜ now (list .exit) ≡ set (now (list .entry)) at word ⌝ }
-{
-    list[at] = word;
-}
-
 // The words of run k.
 fn put_run(list: &mut [u64], k: usize, start: u64, end: u64, thread: u64)
     requires { ⌜ k < runs (now list) ⌝ }
     ensures { λ r. ⌜ now (list .exit) ≡ withRun (now (list .entry)) k start end thread ⌝ }
 {
-    put(list, RUN_WORDS * k + START, start);
-    put(list, RUN_WORDS * k + END, end);
-    put(list, RUN_WORDS * k + THREAD, thread);
+    let at = RUN_WORDS * k;
+    list[at + START] = start;
+    list[at + END] = end;
+    list[at + THREAD] = thread;
 }
 
 // A run behind the first `runs` of the list: 0, or the number of the refusal.
@@ -145,13 +139,13 @@ pub fn append(list: &mut [u64], runs: u64, start: u64, end: u64, thread: u64) ->
 {
     let k = runs as usize;
     if list.len() / RUN_WORDS <= k {
-        return Refusal::BadTable.number();
+        return BAD_TABLE;
     }
     if end < start {
-        return Refusal::RecordOrder.number();
+        return RECORD_ORDER;
     }
     if start < end_before(list, k) {
-        return Refusal::RecordOrder.number();
+        return RECORD_ORDER;
     }
     put_run(list, k, start, end, thread);
     0

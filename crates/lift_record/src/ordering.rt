@@ -1,14 +1,14 @@
 // Whether runs are in order, and the end of the run before one.
 ghost use mathlib.Core.Path.{_≡_};
 ghost use Prim.Native.Nat.{_+_, _*_, _<_, _≤_};
-ghost use lib.Dec.{eqb};
-ghost use lib.ListN.{drop, length};
+ghost use lib.ListN.{drop};
 ghost use Rattle.lift_record.specs.Halving.{inOrderSince};
-ghost use Rattle.lift_record.specs.OrderLaws.{follows, pairFollows};
+ghost use Rattle.lift_record.specs.OrderLaws.{follows, fourFollow, pairFollows};
 ghost use Rattle.lift_record.specs.Record.{endBefore, inOrderFrom, runWords, runs};
 use crate::END;
 use crate::RUN_WORDS;
 use crate::START;
+use crate::words::word;
 use time::min_of;
 
 // The end of the run before run k, 0 before the first.
@@ -19,42 +19,35 @@ pub(crate) fn end_before(list: &[u64], k: usize) -> u64
     if k == 0 {
         return 0;
     }
-    list[RUN_WORDS * (k - 1) + END]
+    word(list, k - 1, END)
 }
 
 // Whether a run stands behind a time: it starts there or later, and ends at its start or later.
-fn follows(last: u64, start: u64, end: u64) -> bool
-    ensures { λ r. ⌜ r ≡ follows last start end ⌝ }
+fn follows(list: &[u64], i: usize, last: u64) -> bool
+    requires { ⌜ i < runs (now list) ⌝ }
+    ensures { λ r. ⌜ r ≡ follows (now (list .entry)) i last ⌝ }
 {
+    let start = word(list, i, START);
     if start < last {
         return false;
     }
-    start <= end
+    start <= word(list, i, END)
 }
 
-fn has_whole_runs(list: &[u64]) -> bool
-    ensures { λ r. ⌜ r ≡ eqb (runWords * runs (now (list .entry))) (length (now (list .entry))) ⌝ }
+// Whether the runs from run i on are in order behind a time, and no word is left over.
+fn rest_in_order(list: &[u64], mut i: usize, mut last: u64) -> bool
+    requires { ⌜ i ≤ runs (now list) ⌝ }
+    ensures { λ r. ⌜ r ≡ inOrderFrom last (drop (runWords * i) (now (list .entry))) ⌝ }
 {
-    RUN_WORDS * (list.len() / RUN_WORDS) == list.len()
-}
-
-// Whether the runs from one on are in order behind a time, and no word is left over.
-fn rest_in_order(list: &[u64], from: usize, last: u64) -> bool
-    requires { ⌜ from ≤ runs (now list) ⌝ }
-    ensures { λ r. ⌜ r ≡ inOrderFrom last (drop (runWords * from) (now (list .entry))) ⌝ }
-{
-    let count = list.len() / RUN_WORDS;
-    let mut i = from;
-    let mut end = last;
-    while i < count {
-        let before = end;
-        end = list[RUN_WORDS * i + END];
-        if !follows(before, list[RUN_WORDS * i + START], end) {
+    while i < list.len() / RUN_WORDS {
+        if follows(list, i, last) {
+            last = word(list, i, END);
+            i += 1;
+        } else {
             return false;
         }
-        i += 1;
     }
-    has_whole_runs(list)
+    RUN_WORDS * i == list.len()
 }
 
 // Whether two runs are in order behind a time.
@@ -62,37 +55,46 @@ fn pair_follows(list: &[u64], i: usize, last: u64) -> bool
     requires { ⌜ i + 1 < runs (now list) ⌝ }
     ensures { λ r. ⌜ r ≡ pairFollows (now (list .entry)) i last ⌝ }
 {
-    let end = list[RUN_WORDS * i + END];
-    if !follows(last, list[RUN_WORDS * i + START], end) {
-        return false;
+    if follows(list, i, last) {
+        return follows(list, i + 1, word(list, i, END));
     }
-    follows(
-        end,
-        list[RUN_WORDS * (i + 1) + START],
-        list[RUN_WORDS * (i + 1) + END],
-    )
+    false
+}
+
+// Whether four runs are in order behind a time.
+fn four_follow(list: &[u64], i: usize, last: u64) -> bool
+    requires { ⌜ i + 3 < runs (now list) ⌝ }
+    ensures { λ r. ⌜ r ≡ fourFollow (now (list .entry)) i last ⌝ }
+{
+    if pair_follows(list, i, last) {
+        return pair_follows(list, i + 2, word(list, i + 1, END));
+    }
+    false
+}
+
+// What `rest_in_order` judges, four runs at a time, so that counting costs each of them little.
+fn fours_in_order(list: &[u64], mut i: usize, mut last: u64) -> bool
+    requires { ⌜ i ≤ runs (now list) ⌝ }
+    ensures { λ r. ⌜ r ≡ inOrderFrom last (drop (runWords * i) (now (list .entry))) ⌝ }
+{
+    let mut fours = (list.len() / RUN_WORDS - i) / 4;
+    while 0 < fours {
+        if four_follow(list, i, last) {
+            last = word(list, i + 3, END);
+            i += 4;
+            fours -= 1;
+        } else {
+            return false;
+        }
+    }
+    rest_in_order(list, i, last)
 }
 
 // Whether the runs from run `ordered` on are in order, behind the end of the one before; a word count that is not
-// whole runs is not. Four runs at a time, so that counting costs each of them little.
+// whole runs is not.
 pub(crate) fn in_order_since(list: &[u64], ordered: u64) -> bool
     ensures { λ r. ⌜ r ≡ inOrderSince (now (list .entry)) ordered ⌝ }
 {
-    let count = list.len() / RUN_WORDS;
-    let mut i = min_of(ordered, count as u64) as usize;
-    let mut last = end_before(list, i);
-    let mut fours = (count - i) / 4;
-    while 0 < fours {
-        if !pair_follows(list, i, last) {
-            return false;
-        }
-        let middle = list[RUN_WORDS * (i + 1) + END];
-        if !pair_follows(list, i + 2, middle) {
-            return false;
-        }
-        last = list[RUN_WORDS * (i + 3) + END];
-        i += 4;
-        fours -= 1;
-    }
-    rest_in_order(list, i, last)
+    let k = min_of(ordered, (list.len() / RUN_WORDS) as u64) as usize;
+    fours_in_order(list, k, end_before(list, k))
 }

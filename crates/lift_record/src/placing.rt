@@ -10,6 +10,7 @@ use crate::Edge;
 use crate::Place;
 use crate::RUN_WORDS;
 use crate::START;
+use crate::words::word;
 use time::max_of;
 use time::saturating_sub;
 
@@ -21,16 +22,15 @@ fn precedes(list: &[u64], side: Edge, time: u64, i: usize) -> bool
         return false;
     }
     match side {
-        Edge::Start => list[RUN_WORDS * i + START] < time,
-        Edge::End => list[RUN_WORDS * i + END] <= time,
+        Edge::Start => word(list, i, START) < time,
+        Edge::End => word(list, i, END) <= time,
     }
 }
 
-// The first run from `from` on that does not precede, by halving.
-fn halve(list: &[u64], side: Edge, time: u64, from: usize) -> usize
-    ensures { λ r. ⌜ r ≡ halved (precedes (now (list .entry)) side time) from (runs (now (list .entry))) ⌝ }
+// The first run from run `lo` on that does not precede, by halving.
+fn halve(list: &[u64], side: Edge, time: u64, mut lo: usize) -> usize
+    ensures { λ r. ⌜ r ≡ halved (precedes (now (list .entry)) side time) lo (runs (now (list .entry))) ⌝ }
 {
-    let mut lo = from;
     let mut hi = list.len() / RUN_WORDS;
     while lo < hi {
         let middle = lo + (hi - lo) / 2;
@@ -56,11 +56,10 @@ pub(crate) fn halved_place(list: &[u64], now_ns: u64, width_ns: u64) -> Place
     }
 }
 
-// The first run from `from` on that does not precede, run by run.
-fn walk(list: &[u64], side: Edge, time: u64, from: usize) -> usize
-    ensures { λ r. ⌜ First (precedes (now (list .entry)) side time) from r ⌝ }
+// The first run from run i on that does not precede, run by run.
+fn walk(list: &[u64], side: Edge, time: u64, mut i: usize) -> usize
+    ensures { λ r. ⌜ First (precedes (now (list .entry)) side time) i r ⌝ }
 {
-    let mut i = from;
     while precedes(list, side, time, i) {
         i += 1;
     }

@@ -20,6 +20,11 @@ pub enum Refusal {
 // The number of the refusal that leaves a mark.
 pub const HALTED: u64 = 9;
 
+// The numbers of the refusals on a lift record: a number costs its callers a shorter derivation than a refusal's value.
+pub const BAD_TABLE: u64 = 10;
+
+pub const RECORD_ORDER: u64 = 12;
+
 impl Refusal {
     // The refusal's number in documents 01 and 02.
     pub fn number(self) -> u64
@@ -36,9 +41,9 @@ impl Refusal {
             Refusal::BackInTime => 7,
             Refusal::TurnsSpent => 8,
             Refusal::Halted => HALTED,
-            Refusal::BadTable => 10,
+            Refusal::BadTable => BAD_TABLE,
             Refusal::BadRecord => 11,
-            Refusal::RecordOrder => 12,
+            Refusal::RecordOrder => RECORD_ORDER,
         }
     }
 }

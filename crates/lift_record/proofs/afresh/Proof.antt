@@ -7,4 +7,4 @@ use Rattle.lift_record.proofs.afresh.Tie as tie
 pub afresh-spec : {M : Type 1} → statement M
 afresh-spec =
     tie.close
-    (tie.spec (λ c κs. search needs) (λ c κs. search needs) (λ c. search (slid-at, needs)))
+    (tie.spec (λ c κs. tt) (λ c κs. search needs) (λ c. search slid-at))

@@ -1,5 +1,6 @@
 -- Three words, one behind the other.
-use Rattle.lift_record.specs.AnswerLaws.{run-put}
+use native.Mathlib.Omega.{arith}
+use Rattle.lift_record.specs.AnswerLaws.{second-inside, third-inside, run-put}
 use borrow.Author.Needs.{needs}
 use Rattle.lift_record.proofs.put_run.Statement.{statement}
 use Rattle.lift_record.proofs.put_run.Tie as tie
@@ -8,14 +9,15 @@ pub put-run-spec : {M : Type 1} → statement M
 put-run-spec =
     tie.close
     (tie.spec
+    (λ c. omega arith)
+    (λ c. omega arith)
+    (λ c. omega arith)
+    (λ c. omega arith)
+    (λ c. omega arith)
+    (λ c. omega arith)
+    (λ c. search second-inside)
+    (λ c. omega arith)
+    (λ c. omega arith)
+    (λ c. search third-inside)
     (λ c. search needs)
-    (λ c. search needs)
-    (λ c κs. search needs)
-    (λ c. search needs)
-    (λ c. search needs)
-    (λ c κs. search needs)
-    (λ c. search needs)
-    (λ c. search needs)
-    (λ c κs. search needs)
-    (λ c. search needs)
-    (λ c. search (run-put, needs)))
+    (λ c. search run-put))

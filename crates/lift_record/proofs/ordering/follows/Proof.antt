@@ -1,10 +1,14 @@
 -- In the order of the definition.
-use Rattle.refusal.specs.Cases.{cases}
-use Rattle.lift_record.specs.OrderLaws.{follows}
-use borrow.Author.Needs.{needs}
+use native.Mathlib.Omega.{arith}
+use Rattle.lift_record.specs.OrderLaws.{following}
 use Rattle.lift_record.proofs.ordering.follows.Statement.{statement}
 use Rattle.lift_record.proofs.ordering.follows.Tie as tie
 
 pub follows-spec : {M : Type 1} → statement M
-unfolding follows
-follows-spec = tie.close (tie.spec (λ c. search (cases, needs)) (λ c. search (cases, needs)))
+follows-spec =
+    tie.close
+    (tie.spec
+    (λ c κs. omega arith)
+    (λ c. search following)
+    (λ c κs. omega arith)
+    (λ c. search following))

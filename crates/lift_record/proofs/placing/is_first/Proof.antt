@@ -1,7 +1,7 @@
 -- In the order of the definition.
+use native.Mathlib.Omega.{arith}
 use Rattle.refusal.specs.Cases.{cases}
 use Rattle.lift_record.specs.Neighbours.{isFirst}
-use borrow.Author.Needs.{needs}
 use Rattle.lift_record.proofs.placing.is_first.Statement.{statement}
 use Rattle.lift_record.proofs.placing.is_first.Tie as tie
 
@@ -10,9 +10,9 @@ unfolding isFirst
 is-first-spec =
     tie.close
     (tie.spec
-    (λ c κs. search needs)
-    (λ c. search (cases, needs))
-    (λ c. search (cases, needs))
-    (λ c. search needs)
-    (λ c κs. search needs)
-    (λ c. search (cases, needs)))
+    (λ c κs. tt)
+    (λ c. search cases)
+    (λ c. search cases)
+    (λ c. omega arith)
+    (λ c κs. tt)
+    (λ c. search cases))
