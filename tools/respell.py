@@ -169,7 +169,7 @@ if trouble:
 
 
 def turn(text, f):
-    own, others = imports(text)
+    own, others = imports(TEXT[f])
 
     def one(m):
         w = m.group()
@@ -192,16 +192,19 @@ def turn(text, f):
 
 
 def ghost(text, f):
-    """A source file: its clauses and its `ghost use` lines, and what comments and strings do not hold."""
+    """A source file: names in its clauses and its `ghost use` lines, and between back quotes in comments. Code has no name
+    in camel case but types', so such a name is a clause's wherever it stands outside strings."""
     out = []
     for line in text.split('\n'):
-        code = re.match(r'\s*(//|requires\b|ensures\b|ghost\b|\})', line) or 'ensures' in line
         if line.lstrip().startswith('//'):
             out.append(re.sub(r'`[^`]*`', lambda m: turn(m.group(), f), line))
-        elif code:
+        elif re.match(r'\s*(requires\b|ensures\b|ghost\b)', line):
             out.append(turn(line, f))
         else:
-            out.append(line)
+            parts = re.split(r'("(?:[^"\\]|\\.)*"|//.*)', line)
+            out.append(''.join(
+                re.sub(r"(?<![\w'])[a-z]+[\w']*[A-Z][\w']*", lambda m: turn(m.group(), f), p) if i % 2 == 0 else p
+                for i, p in enumerate(parts)))
     return '\n'.join(out)
 
 

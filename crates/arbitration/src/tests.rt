@@ -133,8 +133,8 @@ pub fn is_favoured(
     role: SchedulingRole,
 ) -> bool
     ensures { result ≡ if_equal priority_remaining_ns 0 false
-        (choose (isPriority role) true
-        (choose prefer_fair (onPolicy policy (λ priority. false) true false false) false)) }
+        (choose (is_priority role) true
+        (choose prefer_fair (on_policy policy (λ priority. false) true false false) false)) }
 {
     if priority_remaining_ns == 0 {
         return false;
@@ -173,7 +173,7 @@ pub fn algorithm_of(
     ensures { result ≡ on_policy policy
         (λ priority. given priority.0
         (λ number. AlgorithmOption.Some (record { rank = 0; key = record { high = 0; low = number } })))
-        (onBackend backend (AlgorithmOption.Some (record { rank = 1; key = pass }))
+        (on_backend backend (AlgorithmOption.Some (record { rank = 1; key = pass }))
         (AlgorithmOption.Some (record { rank = 1; key = record { high = 0; low = turn } })))
         (AlgorithmOption.Some (record { rank = 2; key = record { high = 0; low = turn } })) AlgorithmOption.None }
 {

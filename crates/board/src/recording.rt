@@ -41,7 +41,7 @@ pub extern "C" fn board_lift_from(
     place: &mut PlaceWords,
 ) -> u64
     ensures { left result place.new
-        ≡ placeLeft (searchFromLeft list.now ordered now_ns width_ns) }
+        ≡ place_left (search_from_left list.now ordered now_ns width_ns) }
 {
     let mut found = [0; FOUND_WORDS];
     search_from(list, ordered, now_ns, width_ns, &mut found);
@@ -60,7 +60,7 @@ pub extern "C" fn board_slide(
     slid: &mut SlideWords,
 ) -> u64
     ensures { left result slid.new
-        ≡ slidLeft (slideLeft list.now earlier_ns (place first count) now_ns width_ns) }
+        ≡ slid_left (slide_left list.now earlier_ns (place first count) now_ns width_ns) }
 {
     let mut found = [0; SLID_WORDS];
     let earlier = Place {

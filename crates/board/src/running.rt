@@ -53,8 +53,8 @@ pub extern "C" fn board_prepare(
     turns: &mut TurnWords,
 ) -> u64
     ensures t_after { left result (turns_of turns.new, table t.new)
-        ≡ prepareLeft
-        (prepareEnqueue (table t.old) id (flagFrom front) now_ns (turnsOf turns.old)) }
+        ≡ prepare_left
+        (prepare_enqueue (table t.old) id (flag_from front) now_ns (turns_of turns.old)) }
     ensures stays { Stays result t.old t.new }
     ensures stays_2 { Stays result turns.old turns.new }
     ensures framed { Framed t.old t.new }
@@ -83,8 +83,8 @@ pub extern "C" fn board_account(
     end: u64,
 ) -> u64
     ensures t_after { left result (window_of window.new, table t.new)
-        ≡ accountLeft
-        (accountCurrent (table t.old) id (windowOf window.old) (modeFrom mode) start end) }
+        ≡ account_left
+        (account_current (table t.old) id (window_of window.old) (mode_from mode) start end) }
     ensures stays { Stays result t.old t.new }
     ensures stays_2 { Stays result window.old window.new }
     ensures framed { Framed t.old t.new }
@@ -113,8 +113,8 @@ pub extern "C" fn board_candidate(
     current: &mut Row,
 ) -> u64
     ensures t_after { left result (candidate_of current.new, table t.new)
-        ≡ candidateLeft (candidateOf current.old)
-        (currentCandidate (table t.old) id (flagFrom running) now_ns) }
+        ≡ candidate_left (candidate_of current.old)
+        (current_candidate (table t.old) id (flag_from running) now_ns) }
     ensures stays { Stays result t.old t.new }
     ensures stays_2 { Stays result current.old current.new }
     ensures current_unchanged { flag_from running ≡ false → current.new ≡ current.old }
@@ -125,7 +125,7 @@ pub extern "C" fn board_candidate(
 
 fn store_expired(answer: &mut FlagWord, given: ExpiredAnswer) -> u64
     ensures answer_after { left result (flag_of answer.new)
-        ≡ answered (flagOf answer.old) (expiredAnswer given) }
+        ≡ answered (flag_of answer.old) (expired_answer given) }
     ensures stays { Stays result answer.old answer.new }
 {
     match given {
@@ -141,7 +141,7 @@ fn store_expired(answer: &mut FlagWord, given: ExpiredAnswer) -> u64
 #[unsafe(no_mangle)]
 pub extern "C" fn board_expired(t: &[Row], id: u64, answer: &mut FlagWord) -> u64
     ensures answer_after { left result (flag_of answer.new)
-        ≡ answered (flagOf answer.old) (expired (table t.now) id) }
+        ≡ answered (flag_of answer.old) (expired (table t.now) id) }
     ensures stays { Stays result answer.old answer.new }
 {
     let given = expired(t, ThreadId(id));
@@ -171,8 +171,8 @@ pub extern "C" fn board_switch(
 ) -> u64
     ensures { left result (choice_of answer.new)
         ≡ left 0
-        (chooseReady (readyKeyOf ready.now) (keyOptionOf key.now)
-        (parametersOf current.now) (flagFrom expired) (flagFrom yielding) (flagFrom tail)) }
+        (choose_ready (ready_key_of ready.now) (key_option_of key.now)
+        (parameters_of current.now) (flag_from expired) (flag_from yielding) (flag_from tail)) }
 {
     let ready_key = ready_key_of(*ready);
     let its_key = key_option_of(*key);
@@ -200,8 +200,8 @@ fn arm(
     answer: &mut DeadlineWords,
 ) -> u64
     ensures t_after { left result (deadline_of answer.new, (window_of window.new, table t.new))
-        ≡ deadlineLeft (deadlineOf answer.old)
-        (refreshDeadline (table t.old) id now_ns mode (windowOf window.old) others) }
+        ≡ deadline_left (deadline_of answer.old)
+        (refresh_deadline (table t.old) id now_ns mode (window_of window.old) others) }
     ensures stays { Stays result t.old t.new }
     ensures stays_2 { Stays result window.old window.new }
     ensures stays_3 { Stays result answer.old answer.new }
@@ -236,11 +236,11 @@ pub extern "C" fn board_deadline(
     answer: &mut DeadlineWords,
 ) -> u64
     ensures t_after { left result (deadline_of answer.new, (window_of window.new, table t.new))
-        ≡ deadlineLeft (deadlineOf answer.old)
-        (refreshDeadline (table t.old) id now_ns (mode_of (keyOptionOf key.now))
-        (windowOf window.old)
-        (contention (flagFrom competition) (flagFrom budget_peer) (flagFrom ready)
-        (demandOf demand.now))) }
+        ≡ deadline_left (deadline_of answer.old)
+        (refresh_deadline (table t.old) id now_ns (mode_of (key_option_of key.now))
+        (window_of window.old)
+        (contention (flag_from competition) (flag_from budget_peer) (flag_from ready)
+        (demand_of demand.now))) }
     ensures stays { Stays result t.old t.new }
     ensures stays_2 { Stays result window.old window.new }
     ensures stays_3 { Stays result answer.old answer.new }

@@ -28,9 +28,9 @@ fn store_answer(
     fresh: CpuWindow,
 ) -> u64
     ensures answer_after { left result (selection_from answer.new)
-        ≡ answered (selectionFrom answer.old) (peekAnswer peeked) }
+        ≡ answered (selection_from answer.old) (peek_answer peeked) }
     ensures window_after { window_of window.new
-        ≡ windowLeft (windowOf window.old) fresh (peekAnswer peeked) }
+        ≡ window_left (window_of window.old) fresh (peek_answer peeked) }
     ensures stays { Stays result answer.old answer.new }
     ensures stays_2 { Stays result window.old window.new }
 {

@@ -39,7 +39,7 @@ fn config_in(w: ConfigWords) -> ArbitrationConfig
 
 fn store_made(window: &mut WindowWords, made: WindowMade) -> u64
     ensures window_after { left result (window_of window.new)
-        ≡ answered (windowOf window.old) (windowMade made) }
+        ≡ answered (window_of window.old) (window_made made) }
     ensures stays { Stays result window.old window.new }
 {
     match made {
@@ -55,7 +55,7 @@ fn store_made(window: &mut WindowWords, made: WindowMade) -> u64
 #[unsafe(no_mangle)]
 pub extern "C" fn board_window(window: &mut WindowWords, config: &ConfigWords) -> u64
     ensures window_after { left result (window_of window.new)
-        ≡ answered (windowOf window.old) (madeWindow (configOf config.now)) }
+        ≡ answered (window_of window.old) (made_window (config_of config.now)) }
     ensures stays { Stays result window.old window.new }
 {
     store_made(window, made_window(config_in(*config)))
@@ -71,9 +71,9 @@ pub extern "C" fn board_key(
     key: &mut KeyWords,
 ) -> u64
     ensures window_after { left result (key_option_of key.new, window_of window.new)
-        ≡ keyLeft (keyOptionOf key.old)
-        (keyCall (windowOf window.old) now_ns (candidateOf current.now)
-        (demandOf demand.now)) }
+        ≡ key_left (key_option_of key.old)
+        (key_call (window_of window.old) now_ns (candidate_of current.now)
+        (demand_of demand.now)) }
     ensures stays { Stays result window.old window.new }
     ensures stays_2 { Stays result key.old key.new }
 {

@@ -240,7 +240,7 @@ fn parts_of(q: &QueueRows, membership: QueueMembership, index: u64) -> Parts
 fn store_real_time(q: &mut QueueRows, priority: u8, index: u64, parts: Parts)
     requires { index < tree_count }
     ensures q_after { queue_of q.new ≡ calls.stored (queue_of q.old) index parts
-        (set (queueOf q.old).realtime priority parts.list) (queueOf q.old).fair }
+        (set (queue_of q.old).realtime priority parts.list) (queue_of q.old).fair }
     ensures queue_framed { QueueFramed q.old q.new }
 {
     let list = parts.list;
@@ -253,7 +253,7 @@ fn store_real_time(q: &mut QueueRows, priority: u8, index: u64, parts: Parts)
 fn store_fair(q: &mut QueueRows, index: u64, parts: Parts)
     requires { index < tree_count }
     ensures q_after { queue_of q.new ≡ calls.stored (queue_of q.old) index parts
-        (queueOf q.old).realtime parts.list }
+        (queue_of q.old).realtime parts.list }
     ensures queue_framed { QueueFramed q.old q.new }
 {
     let list = parts.list;
@@ -286,7 +286,7 @@ fn store_parts(q: &mut QueueRows, membership: QueueMembership, index: u64, parts
 fn settle(q: &mut QueueRows, membership: QueueMembership, index: u64, worked: Worked) -> Verdict
     requires { index < tree_count }
     ensures q_after { calls.step (verdict_answer result) (queue_of q.new)
-        ≡ plans.settled (queueOf q.old) membership index (workOf worked) }
+        ≡ plans.settled (queue_of q.old) membership index (work_of worked) }
     ensures untouched { Untouched (work_of worked) q.old q.new }
     ensures queue_framed { QueueFramed q.old q.new }
 {
@@ -313,7 +313,7 @@ fn insert_by(
 ) -> Verdict
     requires { plan.index < tree_count }
     ensures t_after { out (calls.step (verdict_answer result) (queue_of q.new)) (table t.new)
-        ≡ plans.insertBy front (table t.old) (queueOf q.old) id plan }
+        ≡ plans.insert_by front (table t.old) (queue_of q.old) id plan }
     ensures spared { Spared (verdict_answer result) q.old q.new }
     ensures spared_2 { Spared (verdict_answer result) t.old t.new }
     ensures framed { Framed t.old t.new }
@@ -337,7 +337,7 @@ fn insert_by(
 fn remove_by(q: &mut QueueRows, t: &mut [Row], path: &mut Path, id: u64, plan: Plan) -> Verdict
     requires { plan.index < tree_count }
     ensures t_after { out (calls.step (verdict_answer result) (queue_of q.new)) (table t.new)
-        ≡ plans.removeBy (table t.old) (queueOf q.old) id plan }
+        ≡ plans.remove_by (table t.old) (queue_of q.old) id plan }
     ensures spared { Spared (verdict_answer result) q.old q.new }
     ensures spared_2 { Spared (verdict_answer result) t.old t.new }
     ensures framed { Framed t.old t.new }
@@ -360,7 +360,7 @@ fn remove_filed(
 ) -> Verdict
     requires { filed.index < tree_count }
     ensures t_after { out (calls.step (verdict_answer result) (queue_of q.new)) (table t.new)
-        ≡ plans.removeFiled (table t.old) (queueOf q.old) id cpu filed }
+        ≡ plans.remove_filed (table t.old) (queue_of q.old) id cpu filed }
     ensures spared { Spared (verdict_answer result) q.old q.new }
     ensures spared_2 { Spared (verdict_answer result) t.old t.new }
     ensures framed { Framed t.old t.new }
@@ -415,7 +415,7 @@ pub fn enqueue_lent(
     front: bool,
 ) -> Verdict
     ensures t_after { out (calls.step (verdict_answer result) (queue_of q.new)) (table t.new)
-        ≡ calls.enqueueCall front (table t.old) (queueOf q.old) id.0 cpu }
+        ≡ calls.enqueue_call front (table t.old) (queue_of q.old) id.0 cpu }
     ensures spared { Spared (verdict_answer result) q.old q.new }
     ensures spared_2 { Spared (verdict_answer result) t.old t.new }
     ensures q_unchanged { (queue_of q.old).halted ≡ true → q.new ≡ q.old }
@@ -440,7 +440,7 @@ pub fn remove_lent(
     cpu: CpuIndex,
 ) -> Verdict
     ensures t_after { out (calls.step (verdict_answer result) (queue_of q.new)) (table t.new)
-        ≡ calls.removeCall (table t.old) (queueOf q.old) id.0 cpu }
+        ≡ calls.remove_call (table t.old) (queue_of q.old) id.0 cpu }
     ensures spared { Spared (verdict_answer result) q.old q.new }
     ensures spared_2 { Spared (verdict_answer result) t.old t.new }
     ensures q_unchanged { (queue_of q.old).halted ≡ true → q.new ≡ q.old }

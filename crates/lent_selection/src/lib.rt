@@ -71,7 +71,7 @@ fn store_mark(q: &mut QueueRows, refusal: Refusal)
 fn renew_roots(q: &mut [QueueRow], t: &mut [Row], path: &mut Path, reading: u64) -> Verdict
     requires { length q.old ≡ queue_rows }
     ensures t_after { out (leaves (verdict_answer result) (queue_of q.new)) (table t.new)
-        ≡ renewedRoots (table t.old) (queueOf q.old) reading }
+        ≡ renewed_roots (table t.old) (queue_of q.old) reading }
     ensures framed { Framed t.old t.new }
     ensures queue_framed { QueueFramed q.old q.new }
 {
@@ -90,7 +90,7 @@ fn renew_lent(
     epoch: u64,
 ) -> Verdict
     ensures t_after { out (leaves (verdict_answer result) (queue_of q.new)) (table t.new)
-        ≡ renewedQueue (table t.old) (queueOf q.old) reading epoch }
+        ≡ renewed_queue (table t.old) (queue_of q.old) reading epoch }
     ensures framed { Framed t.old t.new }
     ensures queue_framed { QueueFramed q.old q.new }
 {
@@ -121,7 +121,7 @@ fn peek_roots(
 ) -> WindowPeek
     requires { length q.now ≡ queue_rows }
     ensures t_after { out (looked_of result) (table t.new)
-        ≡ lookedAt (table t.old) (queueOf q.now).indices cpu reading window current }
+        ≡ looked_at (table t.old) (queue_of q.now).indices cpu reading window current }
     ensures framed { Framed t.old t.new }
 {
     let start = ROOT_ROWS;
@@ -141,8 +141,8 @@ fn peek_running(
     current: CandidateOption,
 ) -> WindowPeek
     ensures t_after { out (peek.peeked (peek_answer result.answer) result.window (queue_of q.new))
-        (table t.new) ≡ runningQueue (table t.old)
-        (queueOf q.old) cpu reading window current }
+        (table t.new) ≡ running_queue (table t.old)
+        (queue_of q.old) cpu reading window current }
     ensures framed { Framed t.old t.new }
     ensures queue_framed { QueueFramed q.old q.new }
 {
@@ -169,8 +169,8 @@ pub fn peek_lent(
     current: CandidateOption,
 ) -> WindowPeek
     ensures t_after { out (peek.peeked (peek_answer result.answer) result.window (queue_of q.new))
-        (table t.new) ≡ peek.peekNext (table t.old)
-        (queueOf q.old) cpu reading window current }
+        (table t.new) ≡ peek.peek_next (table t.old)
+        (queue_of q.old) cpu reading window current }
     ensures q_unchanged { Early t.old window (queue_of q.old) → q.new ≡ q.old }
     ensures t_unchanged { Early t.old window (queue_of q.old) → t.new ≡ t.old }
     ensures framed { Framed t.old t.new }

@@ -352,7 +352,7 @@ pub fn push_at(
     membership: QueueMembership,
 ) -> Listed
     ensures t_after { out (listed result) (table t.new)
-        ≡ choose front (pushFront (table t.old) queue id membership)
+        ≡ choose front (push_front (table t.old) queue id membership)
         (push (table t.old) queue id membership) }
     ensures unmoved { Unmoved (listed result) t.old t.new }
     ensures framed { Framed t.old t.new }
@@ -380,7 +380,7 @@ pub fn push(t: &mut [Row], queue: ThreadQueue, id: u64, membership: QueueMembers
 // The thread becomes the list's first.
 pub fn push_front(t: &mut [Row], queue: ThreadQueue, id: u64, membership: QueueMembership) -> Listed
     ensures t_after { out (listed result) (table t.new)
-        ≡ pushFrontCall (table t.old) queue id membership }
+        ≡ push_front_call (table t.old) queue id membership }
     ensures unmoved { Unmoved (listed result) t.old t.new }
     ensures framed { Framed t.old t.new }
 {
@@ -519,7 +519,7 @@ pub fn remove_from(
 // The thread leaves the list, wherever it stands in it.
 pub fn remove(t: &mut [Row], queue: ThreadQueue, id: u64, membership: QueueMembership) -> Listed
     ensures t_after { out (listed result) (table t.new)
-        ≡ removeCall (table t.old) queue id membership }
+        ≡ remove_call (table t.old) queue id membership }
     ensures unmoved { Unmoved (listed result) t.old t.new }
     ensures framed { Framed t.old t.new }
 {

@@ -123,7 +123,7 @@ fn counted_out(budgeted: bool, parts: Parts) -> Worked
 // A thread that stands in its list goes into its tree; an error there halts with list and total stored.
 fn insert_into_tree(t: &mut [Row], path: &mut Path, parts: Parts, id: u64, budgeted: bool) -> Worked
     ensures t_after { out (work.work_of result) (table t.new)
-        ≡ work.treeInserted budgeted (table t.old) parts id }
+        ≡ work.tree_inserted budgeted (table t.old) parts id }
     ensures stores { work.Stores (work.work_of result) }
     ensures framed { Framed t.old t.new }
 {
@@ -151,7 +151,7 @@ fn insert_into_tree(t: &mut [Row], path: &mut Path, parts: Parts, id: u64, budge
 // A thread that its list has let go leaves its tree; an error there halts with list and total stored.
 fn remove_from_tree(t: &mut [Row], path: &mut Path, parts: Parts, id: u64, budgeted: bool) -> Worked
     ensures t_after { out (work.work_of result) (table t.new)
-        ≡ work.treeRemoved budgeted (table t.old) parts id }
+        ≡ work.tree_removed budgeted (table t.old) parts id }
     ensures stores { work.Stores (work.work_of result) }
     ensures framed { Framed t.old t.new }
 {
@@ -188,7 +188,7 @@ pub fn insert_work(
     budgeted: bool,
 ) -> Worked
     ensures t_after { out (work.work_of result) (table t.new)
-        ≡ work.insertWork front fifo budgeted (table t.old) parts id membership }
+        ≡ work.insert_work front fifo budgeted (table t.old) parts id membership }
     ensures untouched { work.Untouched (work.work_of result) t.old t.new }
     ensures framed { Framed t.old t.new }
 {
@@ -230,7 +230,7 @@ pub fn remove_work(
     budgeted: bool,
 ) -> Worked
     ensures t_after { out (work.work_of result) (table t.new)
-        ≡ work.removeWork fifo budgeted (table t.old) parts id membership }
+        ≡ work.remove_work fifo budgeted (table t.old) parts id membership }
     ensures untouched { work.Untouched (work.work_of result) t.old t.new }
     ensures framed { Framed t.old t.new }
 {

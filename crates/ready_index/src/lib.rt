@@ -263,7 +263,7 @@ fn walk(t: &[Row], path: &mut [PathStep], key: TreeKey, root: Link) -> Walked
 // before the store and not again: a load that may or may not meet a store just made waits for it.
 fn rebuild_step(t: &mut [Row], step: [u64; 2], sub: Link) -> Turned
     ensures t_after { out (turned_answer result) (table t.new)
-        ≡ answering turnedAnswer (index.rebuildStep (table t.old) (step_of step) sub) }
+        ≡ answering turned_answer (index.rebuild_step (table t.old) (step_of step) sub) }
     ensures framed { Framed t.old t.new }
 {
     let parent = step[0];
@@ -338,7 +338,7 @@ fn insert_at(t: &mut [Row], path: &mut [PathStep], key: TreeKey, root: Link, id:
 // A thread put into the tree under a root, by a path that is lent for the time of the call.
 pub fn insert_under(t: &mut [Row], path: &mut Path, root: Link, id: u64) -> Rooted
     ensures t_after { out (rooted_answer result) (table t.new)
-        ≡ answering rootedAnswer (index.insert (table t.old) root id) }
+        ≡ answering rooted_answer (index.insert (table t.old) root id) }
     ensures framed { Framed t.old t.new }
 {
     let KeyRead::Got(key) = key_at(t, id) else {
@@ -573,7 +573,7 @@ fn remove_at(t: &mut [Row], path: &mut [PathStep], key: TreeKey, root: Link, id:
 // A thread taken out of the tree under a root, by a path that is lent for the time of the call.
 pub fn remove_under(t: &mut [Row], path: &mut Path, root: Link, id: u64) -> Rooted
     ensures t_after { out (rooted_answer result) (table t.new)
-        ≡ answering rootedAnswer (index.remove (table t.old) root id) }
+        ≡ answering rooted_answer (index.remove (table t.old) root id) }
     ensures framed { Framed t.old t.new }
 {
     let KeyRead::Got(key) = key_at(t, id) else {

@@ -67,7 +67,7 @@ pub extern "C" fn budget_parameters_new(
     answer: &mut BudgetWords,
 ) -> u64
     ensures answer_after { told result (budget_of answer.new) ≡ told_of (budget_of answer.old)
-        (newBudget budget_ns period_ns burst_ns) }
+        (new_budget budget_ns period_ns burst_ns) }
     ensures answer_unchanged { result ≢ 0 → answer.new ≡ answer.old }
 {
     let made = BudgetParameters::new(budget_ns, period_ns, burst_ns);
@@ -142,7 +142,7 @@ pub extern "C" fn policy_fair(answer: &mut PairWords)
 #[unsafe(no_mangle)]
 pub extern "C" fn policy_class_and_priority(tag: u64, priority: u64, answer: &mut PairWords) -> u64
     ensures { told result (priority_option_of answer.new)
-        ≡ told (classNumber (class_of (policyFrom tag priority))) (priorityOf (policyFrom tag priority)) }
+        ≡ told (class_number (class_of (policy_from tag priority))) (priority_of (policy_from tag priority)) }
 {
     let policy = policy_from(tag, priority);
     *answer = words_of_priority(policy.priority());
@@ -180,7 +180,7 @@ pub extern "C" fn parameters_fair(
     backend: u64,
 ) -> u64
     ensures { told result (parameters_of answer.new) ≡ parameters_told (parameters_of answer.old)
-        (newFair (record { 0 = weight }) quantum_ns (record { 0 = band }) (roleFrom role) (backendFrom backend)) }
+        (new_fair (record { 0 = weight }) quantum_ns (record { 0 = band }) (role_from role) (backend_from backend)) }
 {
     let made = SchedulingParameters::fair(
         ThreadWeight(weight),
@@ -194,7 +194,7 @@ pub extern "C" fn parameters_fair(
 
 fn store_parameters(answer: &mut ParameterWords, made: ParametersOption) -> u64
     ensures { told result (parameters_of answer.new)
-        ≡ parametersTold (parametersOf answer.old) made }
+        ≡ parameters_told (parameters_of answer.old) made }
 {
     match made {
         ParametersOption::Some(parameters) => {
@@ -214,7 +214,7 @@ pub extern "C" fn parameters_budget(
     role: u64,
 )
     ensures { parameters_of answer.new ≡ of_budget (budget_of budget.now) (record { 0 = band })
-        (roleFrom role) }
+        (role_from role) }
 {
     *answer = words_of_parameters(SchedulingParameters::budget(
         budget_of(*budget),
@@ -227,7 +227,7 @@ pub extern "C" fn parameters_budget(
 #[unsafe(no_mangle)]
 pub extern "C" fn parameters_fifo(answer: &mut ParameterWords, priority: u8, band: u8, role: u64)
     ensures { parameters_of answer.new ≡ of_fifo (record { 0 = priority }) (record { 0 = band })
-        (roleFrom role) }
+        (role_from role) }
 {
     *answer = words_of_parameters(SchedulingParameters::fifo(
         ThreadPriority(priority),
@@ -313,7 +313,7 @@ fn words_of_budget_runtime(runtime: BudgetRuntime) -> RuntimeWords
 
 fn store_budget_runtime(runtime: &mut RuntimeWords, answer: BudgetAnswer) -> u64
     ensures runtime_after { told result (budget_runtime_of runtime.new) ≡ told_of (budget_runtime_of runtime.old)
-        (budgetAnswer answer) }
+        (budget_answer answer) }
     ensures runtime_unchanged { result ≢ 0 → runtime.new ≡ runtime.old }
 {
     match answer {
@@ -327,7 +327,7 @@ fn store_budget_runtime(runtime: &mut RuntimeWords, answer: BudgetAnswer) -> u64
 
 fn store_deadline(answer: &mut DeadlineWords, given: DeadlineAnswer) -> u64
     ensures answer_after { told result (deadline_of answer.new) ≡ told_of (deadline_of answer.old)
-        (deadlineAnswer given) }
+        (deadline_answer given) }
     ensures answer_unchanged { result ≢ 0 → answer.new ≡ answer.old }
 {
     match given {
@@ -343,7 +343,7 @@ fn store_deadline(answer: &mut DeadlineWords, given: DeadlineAnswer) -> u64
 #[unsafe(no_mangle)]
 pub extern "C" fn budget_new(runtime: &mut RuntimeWords, budget: &BudgetWords) -> u64
     ensures runtime_after { told result (budget_runtime_of runtime.new) ≡ told_of (budget_runtime_of runtime.old)
-        (budgets.made (budgetOf budget.now)) }
+        (budgets.made (budget_of budget.now)) }
     ensures runtime_unchanged { result ≢ 0 → runtime.new ≡ runtime.old }
 {
     let given = BudgetRuntime::new(budget_of(*budget));
@@ -358,7 +358,7 @@ pub extern "C" fn budget_refresh(
     budget: &BudgetWords,
 ) -> u64
     ensures runtime_after { told result (budget_runtime_of runtime.new) ≡ told_of (budget_runtime_of runtime.old)
-        (budgets.refreshedJudged (budgetRuntimeOf runtime.old) now_ns (budgetOf budget.now)) }
+        (budgets.refreshed_judged (budget_runtime_of runtime.old) now_ns (budget_of budget.now)) }
     ensures runtime_unchanged { result ≢ 0 → runtime.new ≡ runtime.old }
 {
     let given = budget_runtime_of(*runtime).refresh(now_ns, budget_of(*budget));
@@ -374,8 +374,8 @@ pub extern "C" fn budget_account_interval(
     budget: &BudgetWords,
 ) -> u64
     ensures runtime_after { told result (budget_runtime_of runtime.new) ≡ told_of (budget_runtime_of runtime.old)
-        (budgets.accountedInterval (budgetRuntimeOf runtime.old) start end
-        (budgetOf budget.now)) }
+        (budgets.accounted_interval (budget_runtime_of runtime.old) start end
+        (budget_of budget.now)) }
     ensures runtime_unchanged { result ≢ 0 → runtime.new ≡ runtime.old }
 {
     let given = budget_runtime_of(*runtime).account_interval(start, end, budget_of(*budget));
@@ -386,7 +386,7 @@ pub extern "C" fn budget_account_interval(
 #[unsafe(no_mangle)]
 pub extern "C" fn budget_finish_turn(runtime: &mut RuntimeWords, budget: &BudgetWords) -> u64
     ensures runtime_after { told result (budget_runtime_of runtime.new) ≡ told_of (budget_runtime_of runtime.old)
-        (budgets.turnFinished (budgetRuntimeOf runtime.old) (budgetOf budget.now)) }
+        (budgets.turn_finished (budget_runtime_of runtime.old) (budget_of budget.now)) }
     ensures runtime_unchanged { result ≢ 0 → runtime.new ≡ runtime.old }
 {
     let given = budget_runtime_of(*runtime).finish_turn(budget_of(*budget));
@@ -401,7 +401,7 @@ pub extern "C" fn budget_period_deadline(
     answer: &mut DeadlineWords,
 ) -> u64
     ensures answer_after { told result (deadline_of answer.new) ≡ told_of (deadline_of answer.old)
-        (budgets.periodDeadline now_ns (budgetOf budget.now)) }
+        (budgets.period_deadline now_ns (budget_of budget.now)) }
     ensures answer_unchanged { result ≢ 0 → answer.new ≡ answer.old }
 {
     let given = BudgetRuntime::period_deadline(now_ns, budget_of(*budget));
@@ -414,7 +414,7 @@ fn store_budget_deadline(
     given: BudgetDeadline,
 ) -> u64
     ensures answer_after { told result (budget_runtime_of runtime.new, deadline_of answer.new)
-        ≡ toldOf (budgetRuntimeOf runtime.old, deadlineOf answer.old) (budgetDeadline given) }
+        ≡ told_of (budget_runtime_of runtime.old, deadline_of answer.old) (budget_deadline given) }
     ensures runtime_unchanged { result ≢ 0 → runtime.new ≡ runtime.old }
     ensures answer_unchanged { result ≢ 0 → answer.new ≡ answer.old }
 {
@@ -438,9 +438,9 @@ pub extern "C" fn budget_deadline(
     answer: &mut DeadlineWords,
 ) -> u64
     ensures answer_after { told result (budget_runtime_of runtime.new, deadline_of answer.new)
-        ≡ toldOf (budgetRuntimeOf runtime.old, deadlineOf answer.old)
-        (budgets.deadlineJudged (budgetRuntimeOf runtime.old) now_ns
-        (budgetOf budget.now) borrow) }
+        ≡ told_of (budget_runtime_of runtime.old, deadline_of answer.old)
+        (budgets.deadline_judged (budget_runtime_of runtime.old) now_ns
+        (budget_of budget.now) borrow) }
     ensures runtime_unchanged { result ≢ 0 → runtime.new ≡ runtime.old }
     ensures answer_unchanged { result ≢ 0 → answer.new ≡ answer.old }
 {
@@ -457,8 +457,8 @@ pub extern "C" fn budget_reconfigure(
     answer: &mut PolicyRuntimeWords,
 ) -> u64
     ensures answer_after { told result (runtime_option_of answer.new) ≡ told_of (runtime_option_of answer.old)
-        (budgets.reconfiguredJudged (budgetRuntimeOf runtime.now) (budgetOf old.now)
-        (budgetOf new.now)) }
+        (budgets.reconfigured_judged (budget_runtime_of runtime.now) (budget_of old.now)
+        (budget_of new.now)) }
     ensures answer_unchanged { result ≢ 0 → answer.new ≡ answer.old }
 {
     let given = budget_runtime_of(*runtime).reconfigure(budget_of(*old), budget_of(*new));
@@ -467,7 +467,7 @@ pub extern "C" fn budget_reconfigure(
 
 fn store_reconfigured(answer: &mut PolicyRuntimeWords, given: Reconfigured) -> u64
     ensures answer_after { told result (runtime_option_of answer.new) ≡ told_of (runtime_option_of answer.old)
-        (reconfiguredAnswer given) }
+        (reconfigured_answer given) }
     ensures answer_unchanged { result ≢ 0 → answer.new ≡ answer.old }
 {
     match given {
@@ -486,7 +486,7 @@ fn store_reconfigured(answer: &mut PolicyRuntimeWords, given: Reconfigured) -> u
 
 fn store_runtime(answer: &mut PolicyRuntimeWords, given: RuntimeAnswer) -> u64
     ensures answer_after { told result (policy_runtime_of answer.new) ≡ told_of (policy_runtime_of answer.old)
-        (runtimeAnswer given) }
+        (runtime_answer given) }
     ensures answer_unchanged { result ≢ 0 → answer.new ≡ answer.old }
 {
     match given {
@@ -508,7 +508,7 @@ pub extern "C" fn runtime_new(
     answer: &mut PolicyRuntimeWords,
 ) -> u64
     ensures answer_after { told result (policy_runtime_of answer.new) ≡ told_of (policy_runtime_of answer.old)
-        (runtimes.made (parametersOf row.now)
+        (runtimes.made (parameters_of row.now)
         (record { pass = record { high = pass_high; low = pass_low }; remaining_ns = remaining_ns })) }
     ensures answer_unchanged { result ≢ 0 → answer.new ≡ answer.old }
 {
@@ -532,7 +532,7 @@ pub extern "C" fn runtime_account(
     answer: &mut PolicyRuntimeWords,
 ) -> u64
     ensures answer_after { told result (policy_runtime_of answer.new) ≡ told_of (policy_runtime_of answer.old)
-        (runtimes.accounted (runtimeOf row.now) (parametersOf row.now) start end) }
+        (runtimes.accounted (runtime_of row.now) (parameters_of row.now) start end) }
     ensures answer_unchanged { result ≢ 0 → answer.new ≡ answer.old }
 {
     let given = runtime_of(*row).account(parameters_of(*row), start, end);
@@ -547,7 +547,7 @@ pub extern "C" fn runtime_epoch_refresh(
     answer: &mut PolicyRuntimeWords,
 ) -> u64
     ensures answer_after { told result (policy_runtime_of answer.new) ≡ told_of (policy_runtime_of answer.old)
-        (runtimes.epochRefreshed (runtimeOf row.now) now_ns (parametersOf row.now)) }
+        (runtimes.epoch_refreshed (runtime_of row.now) now_ns (parameters_of row.now)) }
     ensures answer_unchanged { result ≢ 0 → answer.new ≡ answer.old }
 {
     let given = runtime_of(*row).epoch_refresh(now_ns, parameters_of(*row));
@@ -558,7 +558,7 @@ pub extern "C" fn runtime_epoch_refresh(
 #[unsafe(no_mangle)]
 pub extern "C" fn runtime_finish_turn(row: &Row, answer: &mut PolicyRuntimeWords) -> u64
     ensures answer_after { told result (policy_runtime_of answer.new) ≡ told_of (policy_runtime_of answer.old)
-        (runtimes.turnFinished (runtimeOf row.now) (parametersOf row.now)) }
+        (runtimes.turn_finished (runtime_of row.now) (parameters_of row.now)) }
     ensures answer_unchanged { result ≢ 0 → answer.new ≡ answer.old }
 {
     let given = runtime_of(*row).finish_turn(parameters_of(*row));
@@ -576,7 +576,7 @@ fn words_of_runtime_key(key: RuntimeKey) -> RuntimeKeyWords
 #[unsafe(no_mangle)]
 pub extern "C" fn runtime_candidate_key(row: &Row, turn: u64, answer: &mut RuntimeKeyWords)
     ensures { runtime_key_of answer.new ≡ runtimes.candidate_key (runtime_of row.now)
-        (parametersOf row.now) turn }
+        (parameters_of row.now) turn }
 {
     *answer = words_of_runtime_key(runtime_of(*row).candidate_key(parameters_of(*row), turn));
 }
@@ -600,7 +600,7 @@ fn store_runtime_deadline(
     given: RuntimeDeadline,
 ) -> u64
     ensures answer_after { told result (policy_runtime_of after.new, deadline_of answer.new)
-        ≡ toldOf (policyRuntimeOf after.old, deadlineOf answer.old) (runtimeDeadline given) }
+        ≡ told_of (policy_runtime_of after.old, deadline_of answer.old) (runtime_deadline given) }
     ensures after_unchanged { result ≢ 0 → after.new ≡ after.old }
     ensures answer_unchanged { result ≢ 0 → answer.new ≡ answer.old }
 {
@@ -625,9 +625,9 @@ pub extern "C" fn runtime_next_deadline(
     answer: &mut DeadlineWords,
 ) -> u64
     ensures answer_after { told result (policy_runtime_of after.new, deadline_of answer.new)
-        ≡ toldOf (policyRuntimeOf after.old, deadlineOf answer.old)
-        (runtimes.nextDeadline (runtimeOf row.now) now_ns
-        (parametersOf row.now) competition borrow) }
+        ≡ told_of (policy_runtime_of after.old, deadline_of answer.old)
+        (runtimes.next_deadline (runtime_of row.now) now_ns
+        (parameters_of row.now) competition borrow) }
     ensures after_unchanged { result ≢ 0 → after.new ≡ after.old }
     ensures answer_unchanged { result ≢ 0 → answer.new ≡ answer.old }
 {

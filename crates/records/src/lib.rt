@@ -68,8 +68,8 @@ fn insert(
     front: bool,
 ) -> Verdict
     ensures t_after { out (step (verdict_answer result) (queue_of q.new)) t.new
-        ≡ within rows.old t.old (step (refused badTable) (queueOf q.old))
-        (enqueueCall front t.old (queueOf q.old) id.0 cpu) }
+        ≡ within rows.old t.old (step (refused bad_table) (queue_of q.old))
+        (enqueue_call front t.old (queue_of q.old) id.0 cpu) }
     ensures rows_unchanged { drop (used rows.old t.old) rows.new
         ≡ drop (used rows.old t.old) rows.old }
     ensures rows_after { table (take (used rows.old t.old) rows.new)
@@ -98,8 +98,8 @@ pub fn enqueue(
     cpu: CpuIndex,
 ) -> Verdict
     ensures t_after { out (step (verdict_answer result) (queue_of q.new)) t.new
-        ≡ within rows.old t.old (step (refused badTable) (queueOf q.old))
-        (enqueueCall false t.old (queueOf q.old) id.0 cpu) }
+        ≡ within rows.old t.old (step (refused bad_table) (queue_of q.old))
+        (enqueue_call false t.old (queue_of q.old) id.0 cpu) }
     ensures rows_unchanged { drop (used rows.old t.old) rows.new
         ≡ drop (used rows.old t.old) rows.old }
     ensures rows_after { table (take (used rows.old t.old) rows.new)
@@ -120,8 +120,8 @@ pub fn enqueue_front(
     cpu: CpuIndex,
 ) -> Verdict
     ensures t_after { out (step (verdict_answer result) (queue_of q.new)) t.new
-        ≡ within rows.old t.old (step (refused badTable) (queueOf q.old))
-        (enqueueCall true t.old (queueOf q.old) id.0 cpu) }
+        ≡ within rows.old t.old (step (refused bad_table) (queue_of q.old))
+        (enqueue_call true t.old (queue_of q.old) id.0 cpu) }
     ensures rows_unchanged { drop (used rows.old t.old) rows.new
         ≡ drop (used rows.old t.old) rows.old }
     ensures rows_after { table (take (used rows.old t.old) rows.new)
@@ -142,8 +142,8 @@ pub fn remove(
     cpu: CpuIndex,
 ) -> Verdict
     ensures t_after { out (step (verdict_answer result) (queue_of q.new)) t.new
-        ≡ within rows.old t.old (step (refused badTable) (queueOf q.old))
-        (removeCall t.old (queueOf q.old) id.0 cpu) }
+        ≡ within rows.old t.old (step (refused bad_table) (queue_of q.old))
+        (remove_call t.old (queue_of q.old) id.0 cpu) }
     ensures rows_unchanged { drop (used rows.old t.old) rows.new
         ≡ drop (used rows.old t.old) rows.old }
     ensures rows_after { table (take (used rows.old t.old) rows.new)
@@ -175,8 +175,8 @@ pub fn peek_next(
     current: CandidateOption,
 ) -> WindowPeek
     ensures t_after { out (peeked (peek_answer result.answer) result.window (queue_of q.new)) t.new
-        ≡ within rows.old t.old (peeked (refused badTable) window (queueOf q.old))
-        (peekNext t.old (queueOf q.old) cpu reading window current) }
+        ≡ within rows.old t.old (peeked (refused bad_table) window (queue_of q.old))
+        (peek_next t.old (queue_of q.old) cpu reading window current) }
     ensures rows_unchanged { drop (used rows.old t.old) rows.new
         ≡ drop (used rows.old t.old) rows.old }
     ensures rows_after { table (take (used rows.old t.old) rows.new)
@@ -208,7 +208,7 @@ pub fn prepare_enqueue(
     turns: Turns,
 ) -> Prepared
     ensures t_after { out (prepared_answer result) t.new ≡ within rows.old t.old
-        (counted (refused badTable) turns) (prepareEnqueue t.old id.0 front reading turns) }
+        (counted (refused bad_table) turns) (prepare_enqueue t.old id.0 front reading turns) }
     ensures rows_unchanged { drop (used rows.old t.old) rows.new
         ≡ drop (used rows.old t.old) rows.old }
     ensures rows_after { table (take (used rows.old t.old) rows.new)
@@ -238,7 +238,7 @@ pub fn account_current(
     end: u64,
 ) -> WindowStep
     ensures t_after { out (window_step result) t.new ≡ within rows.old t.old
-        (with (refused badTable) window) (accountCurrent t.old id.0 window mode start end) }
+        (with (refused bad_table) window) (account_current t.old id.0 window mode start end) }
     ensures rows_unchanged { drop (used rows.old t.old) rows.new
         ≡ drop (used rows.old t.old) rows.old }
     ensures rows_after { table (take (used rows.old t.old) rows.new)
@@ -260,7 +260,7 @@ pub fn account_current(
 
 pub fn finish_turn(t: &mut [ThreadRecord], rows: &mut [Row], id: ThreadId) -> arbitration::Verdict
     ensures t_after { out (verdict_of result) t.new ≡ within rows.old t.old (refused bad_table)
-        (finishTurn t.old id.0) }
+        (finish_turn t.old id.0) }
     ensures rows_unchanged { drop (used rows.old t.old) rows.new
         ≡ drop (used rows.old t.old) rows.old }
     ensures rows_after { table (take (used rows.old t.old) rows.new)

@@ -81,7 +81,7 @@ pub fn head_of(t: &[Row], root: Link) -> HeadRead
 
 fn store_refreshed(t: &mut [Row], id: u64, refreshed: RuntimeAnswer) -> Verdict
     ensures t_after { out (verdict_answer result) (table t.new) ≡ steps.refreshed_stored (table t.old) id
-        (runtimeAnswer refreshed) }
+        (runtime_answer refreshed) }
     ensures framed { Framed t.old t.new }
 {
     match refreshed {
@@ -96,7 +96,7 @@ fn store_refreshed(t: &mut [Row], id: u64, refreshed: RuntimeAnswer) -> Verdict
 // A record's budget refreshed to the reading and stored: only the words of its runtime are read again.
 fn refresh_budget(t: &mut [Row], id: u64, reading: u64) -> Verdict
     ensures t_after { out (verdict_answer result) (table t.new)
-        ≡ steps.budgetRefreshed (table t.old) id reading }
+        ≡ steps.budget_refreshed (table t.old) id reading }
     ensures framed { Framed t.old t.new }
 {
     let k = id as usize;
@@ -156,7 +156,7 @@ fn refresh_at(t: &mut [Row], id: u64, reading: u64) -> Verdict
 
 fn refresh_runtime(t: &mut [Row], id: u64, reading: u64) -> Verdict
     ensures t_after { out (verdict_answer result) (table t.new)
-        ≡ steps.runtimeRefreshed (table t.old) id reading }
+        ≡ steps.runtime_refreshed (table t.old) id reading }
     ensures framed { Framed t.old t.new }
 {
     let k = id as usize;
@@ -193,7 +193,7 @@ fn refile(t: &mut [Row], path: &mut Path, trees: BudgetTrees, id: u64, reading: 
 // One thread out of the exhausted tree, refreshed, and into the ready one.
 fn move_one(t: &mut [Row], path: &mut Path, trees: BudgetTrees, id: u64, reading: u64) -> Moved
     ensures t_after { out (move_answer result) (table t.new)
-        ≡ renewal.moveOne (table t.old) trees id reading }
+        ≡ renewal.move_one (table t.old) trees id reading }
     ensures framed { Framed t.old t.new }
 {
     let old = trees.exhausted;
@@ -225,7 +225,7 @@ fn next_move(
 ) -> NextMove
     requires { 0 < moves }
     ensures t_after { out (next_answer result) (table t.new)
-        ≡ steps.nextMove moves (table t.old) exhausted ready reading }
+        ≡ steps.next_move moves (table t.old) exhausted ready reading }
     ensures framed { Framed t.old t.new }
 {
     let HeadRead::Head(head) = head_of(t, exhausted) else {
@@ -282,7 +282,7 @@ fn move_all(
     reading: u64,
 ) -> Moved
     ensures t_after { out (move_answer result) (table t.new)
-        ≡ renewal.moveAll moves (table t.old) old_exhausted old_ready reading }
+        ≡ renewal.move_all moves (table t.old) old_exhausted old_ready reading }
     ensures framed { Framed t.old t.new }
 {
     let mut exhausted = old_exhausted;
@@ -333,7 +333,7 @@ fn renew_role(
 ) -> RoleStep
     requires { role < 3 }
     ensures t_after { out (leaves (role_answer result) (roots_of roots.new)) (table t.new)
-        ≡ steps.roleRenewed role moves (table t.old) (rootsOf roots.old) reading }
+        ≡ steps.role_renewed role moves (table t.old) (roots_of roots.old) reading }
     ensures framed { Framed t.old t.new }
     ensures roots_framed { RootsFramed roots.old roots.new }
 {
@@ -357,8 +357,8 @@ fn renew_role(
 // The three roles in turn, in as many moves as there are records for all of them together.
 pub fn renew_roles(t: &mut [Row], path: &mut Path, roots: &mut [QueueRow], reading: u64) -> Verdict
     ensures t_after { out (leaves (verdict_answer result) (roots_of roots.new)) (table t.new)
-        ≡ renewal.renewRoles 3 (length (table t.old)) (table t.old)
-        (rootsOf roots.old) reading }
+        ≡ renewal.renew_roles 3 (length (table t.old)) (table t.old)
+        (roots_of roots.old) reading }
     ensures framed { Framed t.old t.new }
     ensures roots_framed { RootsFramed roots.old roots.new }
 {

@@ -50,7 +50,7 @@ fn larger(a: u8, b: u8) -> u8
 
 fn update(t: &mut [Row], i: u64, links: Links) -> Change
     ensures t_after { out (change_answer result) (table t.new)
-        ≡ answering changeAnswer (spec.update (table t.old) i links) }
+        ≡ answering change_answer (spec.update (table t.old) i links) }
     ensures framed { Framed t.old t.new }
 {
     let left = links.left;
@@ -267,7 +267,7 @@ fn lean(left: u8, right: u8) -> Lean
 
 pub fn balance(t: &mut [Row], i: u64) -> Turned
     ensures t_after { out (turned_answer result) (table t.new)
-        ≡ answering turnedAnswer (spec.balance (table t.old) i) }
+        ≡ answering turned_answer (spec.balance (table t.old) i) }
     ensures framed { Framed t.old t.new }
 {
     let LinksRead::Got(links) = links_at(t, i) else {
@@ -327,7 +327,7 @@ fn store_height(t: &mut [Row], i: u64, left: u8, right: u8) -> Turned
 // read again, the height alone is stored, and no call is made.
 pub fn rebalance(t: &mut [Row], i: u64, left: Link, right: Link) -> Turned
     ensures t_after { out (turned_answer result) (table t.new)
-        ≡ answering turnedAnswer (balanceBy (table t.old) i left right) }
+        ≡ answering turned_answer (balance_by (table t.old) i left right) }
     ensures framed { Framed t.old t.new }
 {
     let HeightRead::Got(a) = height(t, left) else {

@@ -112,8 +112,8 @@ pub extern "C" fn rows_list_push(
     second: u64,
 ) -> ListAnswer
     ensures t_after { out result (table t.new)
-        ≡ answering listWords (lists.pushCall (table t.old)
-        (list_from head_some head tail_some tail len) id (membershipFrom tag first second)) }
+        ≡ answering list_words (lists.push_call (table t.old)
+        (list_from head_some head tail_some tail len) id (membership_from tag first second)) }
     ensures t_unchanged { result.number ≢ 0 → t.new ≡ t.old }
     ensures framed { Framed t.old t.new }
 {
@@ -137,8 +137,8 @@ pub extern "C" fn rows_list_push_front(
     second: u64,
 ) -> ListAnswer
     ensures t_after { out result (table t.new)
-        ≡ answering listWords (lists.pushFrontCall (table t.old)
-        (list_from head_some head tail_some tail len) id (membershipFrom tag first second)) }
+        ≡ answering list_words (lists.push_front_call (table t.old)
+        (list_from head_some head tail_some tail len) id (membership_from tag first second)) }
     ensures t_unchanged { result.number ≢ 0 → t.new ≡ t.old }
     ensures framed { Framed t.old t.new }
 {
@@ -162,8 +162,8 @@ pub extern "C" fn rows_list_remove(
     second: u64,
 ) -> ListAnswer
     ensures t_after { out result (table t.new)
-        ≡ answering listWords (lists.removeCall (table t.old)
-        (list_from head_some head tail_some tail len) id (membershipFrom tag first second)) }
+        ≡ answering list_words (lists.remove_call (table t.old)
+        (list_from head_some head tail_some tail len) id (membership_from tag first second)) }
     ensures t_unchanged { result.number ≢ 0 → t.new ≡ t.old }
     ensures framed { Framed t.old t.new }
 {
@@ -253,7 +253,7 @@ pub extern "C" fn rows_index_insert(
     id: u64,
 ) -> IndexAnswer
     ensures t_after { out result (table t.new)
-        ≡ answering indexWords (index.insertCall (table t.old) (linkFrom some number) id) }
+        ≡ answering index_words (index.insert_call (table t.old) (link_from some number) id) }
     ensures t_unchanged { result.number ≢ 0 → result.number ≢ damaged → t.new ≡ t.old }
     ensures framed { Framed t.old t.new }
 {
@@ -271,7 +271,7 @@ pub extern "C" fn rows_index_remove(
     id: u64,
 ) -> IndexAnswer
     ensures t_after { out result (table t.new)
-        ≡ answering indexWords (index.removeCall (table t.old) (linkFrom some number) id) }
+        ≡ answering index_words (index.remove_call (table t.old) (link_from some number) id) }
     ensures t_unchanged { result.number ≢ 0 → result.number ≢ damaged → t.new ≡ t.old }
     ensures framed { Framed t.old t.new }
 {

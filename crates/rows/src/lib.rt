@@ -111,7 +111,7 @@ pub fn queue_links_at(t: &[Row], i: u64) -> QueueLinksRead
 
 pub fn set_links(t: &mut [Row], i: u64, links: Links) -> Change
     ensures t_after { out (change_answer result) (table t.new)
-        ≡ answering changeAnswer (setLinks (table t.old) i links) }
+        ≡ answering change_answer (set_links (table t.old) i links) }
     ensures framed { Framed t.old t.new }
 {
     let k = i as usize;
@@ -127,7 +127,7 @@ pub fn set_links(t: &mut [Row], i: u64, links: Links) -> Change
 // One of the tree links, or their height alone: two words or one are stored, and none has to be read.
 pub fn set_left(t: &mut [Row], i: u64, link: Link) -> Change
     ensures t_after { out (change_answer result) (table t.new)
-        ≡ answering changeAnswer (setLeft (table t.old) i link) }
+        ≡ answering change_answer (set_left (table t.old) i link) }
     ensures framed { Framed t.old t.new }
 {
     let k = i as usize;
@@ -142,7 +142,7 @@ pub fn set_left(t: &mut [Row], i: u64, link: Link) -> Change
 
 pub fn set_right(t: &mut [Row], i: u64, link: Link) -> Change
     ensures t_after { out (change_answer result) (table t.new)
-        ≡ answering changeAnswer (setRight (table t.old) i link) }
+        ≡ answering change_answer (set_right (table t.old) i link) }
     ensures framed { Framed t.old t.new }
 {
     let k = i as usize;
@@ -157,7 +157,7 @@ pub fn set_right(t: &mut [Row], i: u64, link: Link) -> Change
 
 pub fn set_height(t: &mut [Row], i: u64, height: u8) -> Change
     ensures t_after { out (change_answer result) (table t.new)
-        ≡ answering changeAnswer (setHeight (table t.old) i height) }
+        ≡ answering change_answer (set_height (table t.old) i height) }
     ensures framed { Framed t.old t.new }
 {
     let k = i as usize;
@@ -172,7 +172,7 @@ pub fn set_height(t: &mut [Row], i: u64, height: u8) -> Change
 
 pub fn set_queue_links(t: &mut [Row], i: u64, links: QueueLinks) -> Change
     ensures t_after { out (change_answer result) (table t.new)
-        ≡ answering changeAnswer (setQueueLinks (table t.old) i links) }
+        ≡ answering change_answer (set_queue_links (table t.old) i links) }
     ensures framed { Framed t.old t.new }
 {
     let k = i as usize;
@@ -187,7 +187,7 @@ pub fn set_queue_links(t: &mut [Row], i: u64, links: QueueLinks) -> Change
 
 pub fn set_runtime(t: &mut [Row], i: u64, runtime: PolicyRuntime) -> Change
     ensures t_after { out (change_answer result) (table t.new)
-        ≡ answering changeAnswer (setRuntime (table t.old) i runtime) }
+        ≡ answering change_answer (set_runtime (table t.old) i runtime) }
     ensures framed { Framed t.old t.new }
 {
     let k = i as usize;
@@ -202,7 +202,7 @@ pub fn set_runtime(t: &mut [Row], i: u64, runtime: PolicyRuntime) -> Change
 
 pub fn set_turn(t: &mut [Row], i: u64, turn: u64) -> Change
     ensures t_after { out (change_answer result) (table t.new)
-        ≡ answering changeAnswer (setTurn (table t.old) i turn) }
+        ≡ answering change_answer (set_turn (table t.old) i turn) }
     ensures framed { Framed t.old t.new }
 {
     let k = i as usize;

@@ -226,7 +226,7 @@ impl CpuRunQueue {
         current: CandidateOption,
     ) -> SelectionStep
         ensures t_after { out (selection_of result) (table t.new)
-            ≡ peekNext (table t.old) (value_of self) cpu reading window current }
+            ≡ peek_next (table t.old) (value_of self) cpu reading window current }
         ensures framed { Framed t.old t.new }
     {
         let mut q: QueueRows = [[0; QUEUE_ROW_WORDS]; QUEUE_ROWS];

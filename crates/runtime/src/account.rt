@@ -42,7 +42,7 @@ use window_words::{
 fn charge_at(t: &mut [Row], id: u64, start: u64, end: u64)
     requires { id < length t.old }
     ensures t_after { table t.new
-        ≡ chargedRow (table t.old) id (get_or t.old id []) start end }
+        ≡ charged_row (table t.old) id (get_or t.old id []) start end }
     ensures t_unchanged { end < start → t.new ≡ t.old }
     ensures framed { Framed t.old t.new }
 {
@@ -90,7 +90,7 @@ fn account_at(
 ) -> WindowStep
     requires { sound_config window.config ≡ true }
     ensures t_after { out (window_step result) (table t.new)
-        ≡ accountAt (table t.old) id window mode start end }
+        ≡ account_at (table t.old) id window mode start end }
     ensures unmoved { Unmoved (verdict_of result.answer) t.old t.new }
     ensures framed { Framed t.old t.new }
 {
@@ -255,8 +255,8 @@ pub fn refresh_at(t: &mut [Row], id: u64, reading: u64) -> bool
 // NoThread, then BadRecord.
 fn candidate_at(t: &mut [Row], id: u64, running: bool, reading: u64, current: &mut Row) -> Verdict
     ensures t_after { out (verdict_of result, words.candidate_of current.new) (table t.new)
-        ≡ candidateStored (words.candidateOf current.old)
-        (candidateAt (table t.old) id running reading) }
+        ≡ candidate_stored (words.candidate_of current.old)
+        (candidate_at (table t.old) id running reading) }
     ensures unmoved { Unmoved (verdict_of result) t.old t.new }
     ensures unmoved_2 { Unmoved (verdict_of result) current.old current.new }
     ensures current_unchanged { running ≡ false → current.new ≡ current.old }
@@ -288,8 +288,8 @@ pub fn current_candidate(
     current: &mut Row,
 ) -> Verdict
     ensures t_after { out (verdict_of result, words.candidate_of current.new) (table t.new)
-        ≡ candidateStored (words.candidateOf current.old)
-        (currentCandidate (table t.old) id.0 running reading) }
+        ≡ candidate_stored (words.candidate_of current.old)
+        (current_candidate (table t.old) id.0 running reading) }
     ensures unmoved { Unmoved (verdict_of result) t.old t.new }
     ensures unmoved_2 { Unmoved (verdict_of result) current.old current.new }
     ensures current_unchanged { running ≡ false → current.new ≡ current.old }

@@ -67,7 +67,7 @@ fn budget_end(
     budget_peer: bool,
 ) -> Deadline
     ensures t_after { out result (table t.new)
-        ≡ budgetEnd (table t.old) id row reading mode competition budget_peer }
+        ≡ budget_end (table t.old) id row reading mode competition budget_peer }
     ensures framed { Framed t.old t.new }
 {
     if !competition {
@@ -90,7 +90,7 @@ fn own_end(
 ) -> Deadline
     requires { id < length t.old }
     ensures t_after { out result (table t.new)
-        ≡ ownEnd (table t.old) id (get_or t.old id []) reading mode contention }
+        ≡ own_end (table t.old) id (get_or t.old id []) reading mode contention }
     ensures framed { Framed t.old t.new }
 {
     let k = id as usize;
@@ -137,7 +137,7 @@ fn due_with(
     requires id_in_bounds { id < length t.old }
     requires config_value { sound_config window.config ≡ true }
     ensures t_after { out (window_deadline result) (table t.new)
-        ≡ dueRow (table t.old) id (get_or t.old id []) reading mode window contention }
+        ≡ due_row (table t.old) id (get_or t.old id []) reading mode window contention }
     ensures unmoved { Unmoved (deadline_answer result.answer) t.old t.new }
     ensures framed { Framed t.old t.new }
 {
@@ -174,7 +174,7 @@ fn due_at(
 ) -> WindowDeadline
     requires { sound_config window.config ≡ true }
     ensures t_after { out (window_deadline result) (table t.new)
-        ≡ deadlineAt (table t.old) id reading mode window contention }
+        ≡ deadline_at (table t.old) id reading mode window contention }
     ensures unmoved { Unmoved (deadline_answer result.answer) t.old t.new }
     ensures framed { Framed t.old t.new }
 {

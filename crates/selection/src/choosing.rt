@@ -54,7 +54,7 @@ fn is_ready_row(w: Row, cpu: CpuIndex) -> bool
 // A head: ready on this processor, then judged and refreshed.
 fn head_at(t: &mut [Row], id: u64, cpu: CpuIndex, reading: u64) -> Verdict
     ensures t_after { out (verdict_answer result) (table t.new)
-        ≡ steps.headRefreshed (table t.old) id cpu reading }
+        ≡ steps.head_refreshed (table t.old) id cpu reading }
     ensures framed { Framed t.old t.new }
 {
     let k = id as usize;
@@ -108,7 +108,7 @@ pub fn gather_heads(
 ) -> Gathering
     requires { length heads.old ≡ tree_count }
     ensures t_after { out (found_answer result.answer (take result.count heads.new)) (table t.new)
-        ≡ numbers.gatherNumbers treeCount (table t.old) (rootsOf roots.now) cpu reading
+        ≡ numbers.gather_numbers tree_count (table t.old) (roots_of roots.now) cpu reading
         [] current }
     ensures count_le_tree_count { result.count ≤ tree_count }
     ensures framed { Framed t.old t.new }

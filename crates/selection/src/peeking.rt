@@ -64,7 +64,7 @@ pub fn peek_heads(
     current: CandidateOption,
 ) -> WindowPeek
     ensures t_after { out (looked_of result) (table t.new) ≡ steps.looked_at (table t.old)
-        (rootsOf roots.now) cpu reading window current }
+        (roots_of roots.now) cpu reading window current }
     ensures framed { Framed t.old t.new }
 {
     let asked = of_current(current);

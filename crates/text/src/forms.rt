@@ -271,7 +271,7 @@ fn ending(rest: bool) -> Cause
 
 fn step_by(names: &[u8], count: u64, most: u64, form: &[u8], word: &[u8]) -> Step
     ensures { result
-        ≡ stepBy names.now count most form.now word.now }
+        ≡ step_by names.now count most form.now word.now }
 {
     let rest = same(form, b"..");
     if is_empty(word) {
@@ -331,7 +331,7 @@ pub fn fit(
     values: &mut [u64],
 ) -> Stop
     ensures { fitted result.cause result.place result.left values.new
-        ≡ fitFrom names.now count most (names_of 32 form.now) line.now 0
+        ≡ fit_from names.now count most (names_of 32 form.now) line.now 0
         values.old }
 {
     let mut at: usize = 0;

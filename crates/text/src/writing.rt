@@ -64,7 +64,7 @@ fn put_spaces(out: &mut [u8], at: usize, count: usize) -> usize
 // A word at the left of a column.
 fn put_left(out: &mut [u8], at: usize, word: &[u8], width: usize) -> usize
     ensures { page out.new result
-        ≡ written (page out.old at) (leftIn width word.now) }
+        ≡ written (page out.old at) (left_in width word.now) }
 {
     let end = put(out, at, word);
     put_spaces(out, end, minus(width, word.len()))
@@ -81,7 +81,7 @@ fn spell(n: u64, digits: &mut [u8; 20]) -> usize
 // A number at the right of a column.
 pub fn put_right(out: &mut [u8], at: usize, n: u64, width: usize) -> usize
     ensures { page out.new result
-        ≡ written (page out.old at) (rightIn width (digitsOf n)) }
+        ≡ written (page out.old at) (right_in width (digits_of n)) }
 {
     let mut digits = [0u8; 20];
     let k = spell(n, &mut digits);
@@ -119,7 +119,7 @@ fn put_grouped(out: &mut [u8], at: usize, digits: &[u8]) -> usize
 // A number at the right of a column, its digits in groups.
 fn put_groups(out: &mut [u8], at: usize, n: u64, width: usize) -> usize
     ensures { page out.new result
-        ≡ written (page out.old at) (rightIn width (grouped (digitsOf n))) }
+        ≡ written (page out.old at) (right_in width (grouped (digits_of n))) }
 {
     let mut digits = [0u8; 20];
     let k = spell(n, &mut digits);
@@ -162,7 +162,7 @@ fn put_item(out: &mut [u8], at: usize, values: &[u64], word: &[u8], width: usize
 
 fn put_plain(out: &mut [u8], at: usize, byte: u8) -> usize
     ensures { page out.new result
-        ≡ written (page out.old at) (ifEqual byte 37 [] (byte ∷ [])) }
+        ≡ written (page out.old at) (if_equal byte 37 [] (byte ∷ [])) }
 {
     if byte == PERCENT {
         return at;

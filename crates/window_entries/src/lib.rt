@@ -38,7 +38,7 @@ use window_words::{
 #[unsafe(no_mangle)]
 pub extern "C" fn config_new(window: &mut WindowWords) -> u64
     ensures window_after { left result tt (window_of window.new) ≡ config_left (window_of window.old)
-        (newConfigOf (configOf window.old)) }
+        (new_config_of (config_of window.old)) }
     ensures window_unchanged { result ≢ 0 → window.new ≡ window.old }
 {
     let words = *window;
@@ -63,7 +63,7 @@ pub extern "C" fn config_new(window: &mut WindowWords) -> u64
 #[unsafe(no_mangle)]
 pub extern "C" fn config_with_prefer_fair(window: &mut WindowWords, prefer_fair: bool)
     ensures { window_of window.new ≡ configured (window_of window.old)
-        (preferring (configOf window.old) prefer_fair) }
+        (preferring (config_of window.old) prefer_fair) }
 {
     let words = *window;
     let config = config_of(words);
@@ -83,7 +83,7 @@ pub extern "C" fn config_accepts(window: &WindowWords, row: &Row) -> bool
 #[unsafe(no_mangle)]
 pub extern "C" fn config_admits(window: &WindowWords, row: &Row, backend: u64) -> bool
     ensures { result ≡ admitted (config_of window.now) (parameters_of row.now)
-        (backendFrom backend) }
+        (backend_from backend) }
 {
     let config = config_of(*window);
     config.admits(parameters_of(*row), backend_from(backend))
@@ -93,7 +93,7 @@ pub extern "C" fn config_admits(window: &WindowWords, row: &Row, backend: u64) -
 #[unsafe(no_mangle)]
 pub extern "C" fn window_new(window: &mut WindowWords) -> u64
     ensures window_after { left result tt (window_of window.new) ≡ window_left (window_of window.old)
-        (newWindow (configOf window.old)) }
+        (new_window (config_of window.old)) }
     ensures window_unchanged { result ≢ 0 → window.new ≡ window.old }
 {
     let words = *window;
@@ -156,7 +156,7 @@ fn is_later(w: WindowWords, epoch: u64) -> bool
 #[unsafe(no_mangle)]
 pub extern "C" fn window_refresh(window: &mut WindowWords, now_ns: u64) -> u64
     ensures window_after { left result tt (window_of window.new)
-        ≡ left_of tt (refreshCall (windowOf window.old) now_ns) }
+        ≡ left_of tt (refresh_call (window_of window.old) now_ns) }
     ensures window_unchanged { result ≢ 0 → window.new ≡ window.old }
 {
     let words = *window;
@@ -249,8 +249,8 @@ pub extern "C" fn window_account_dispatch(
     mode: u64,
 ) -> u64
     ensures window_after { left result tt (window_of window.new)
-        ≡ left_of tt (accountCall (windowOf window.old) start end (parametersOf row.now)
-        (modeFrom mode)) }
+        ≡ left_of tt (account_call (window_of window.old) start end (parameters_of row.now)
+        (mode_from mode)) }
     ensures window_unchanged { result ≢ 0 → window.new ≡ window.old }
 {
     let words = *window;
@@ -267,7 +267,7 @@ pub extern "C" fn window_account_dispatch(
 // The window and the deadline of an accepted step stored.
 fn store_deadline(window: &mut WindowWords, answer: &mut DeadlineWords, step: WindowDeadline) -> u64
     ensures window_after { left result (deadline_of answer.new) (window_of window.new)
-        ≡ storedOver (deadlineOf answer.old) (windowOf window.old) (deadlineAnswer step.answer)
+        ≡ stored_over (deadline_of answer.old) (window_of window.old) (deadline_answer step.answer)
         step.window }
     ensures window_unchanged { result ≢ 0 → window.new ≡ window.old }
     ensures answer_unchanged { result ≢ 0 → answer.new ≡ answer.old }
@@ -292,7 +292,7 @@ pub extern "C" fn window_period_deadline(
     answer: &mut DeadlineWords,
 ) -> u64
     ensures window_after { left result (deadline_of answer.new) (window_of window.new)
-        ≡ left_of (deadlineOf answer.old) (periodDeadlineCall (windowOf window.old) now_ns) }
+        ≡ left_of (deadline_of answer.old) (period_deadline_call (window_of window.old) now_ns) }
     ensures window_unchanged { result ≢ 0 → window.new ≡ window.old }
     ensures answer_unchanged { result ≢ 0 → answer.new ≡ answer.old }
 {
@@ -309,8 +309,8 @@ pub extern "C" fn window_protection_deadline(
     answer: &mut DeadlineWords,
 ) -> u64
     ensures window_after { left result (deadline_of answer.new) (window_of window.new)
-        ≡ left_of (deadlineOf answer.old)
-        (protectionCall (windowOf window.old) now_ns protected_waiting) }
+        ≡ left_of (deadline_of answer.old)
+        (protection_call (window_of window.old) now_ns protected_waiting) }
     ensures window_unchanged { result ≢ 0 → window.new ≡ window.old }
     ensures answer_unchanged { result ≢ 0 → answer.new ≡ answer.old }
 {
@@ -333,9 +333,9 @@ pub extern "C" fn window_next_deadline(
     answer: &mut DeadlineWords,
 ) -> u64
     ensures window_after { left result (deadline_of answer.new) (window_of window.new)
-        ≡ left_of (deadlineOf answer.old)
-        (nextDeadlineCall (windowOf window.old) now_ns (modeFrom mode) competition
-        (demandOf demand.now)) }
+        ≡ left_of (deadline_of answer.old)
+        (next_deadline_call (window_of window.old) now_ns (mode_from mode) competition
+        (demand_of demand.now)) }
     ensures window_unchanged { result ≢ 0 → window.new ≡ window.old }
     ensures answer_unchanged { result ≢ 0 → answer.new ≡ answer.old }
 {
@@ -357,9 +357,9 @@ pub extern "C" fn window_candidate_key(
     answer: &mut KeyWords,
 ) -> u64
     ensures window_after { left result (key_option_of answer.new) (window_of window.new)
-        ≡ left_of (keyOptionOf answer.old)
-        (keyCall (windowOf window.old) now_ns (candidateOf candidate.now)
-        (demandOf demand.now)) }
+        ≡ left_of (key_option_of answer.old)
+        (key_call (window_of window.old) now_ns (candidate_of candidate.now)
+        (demand_of demand.now)) }
     ensures window_unchanged { result ≢ 0 → window.new ≡ window.old }
     ensures answer_unchanged { result ≢ 0 → answer.new ≡ answer.old }
 {
@@ -390,7 +390,7 @@ fn number_of_ordering(ordering: Ordering) -> u64
 #[unsafe(no_mangle)]
 pub extern "C" fn dispatch_keys_compare(a: &KeyWords, b: &KeyWords) -> u64
     ensures { result ≡ ordering_number
-        (compareKeys (dispatchKeyOf a.now) (dispatchKeyOf b.now)) }
+        (compare_keys (dispatch_key_of a.now) (dispatch_key_of b.now)) }
 {
     let first = dispatch_key_of(*a);
     let second = dispatch_key_of(*b);

@@ -213,7 +213,7 @@ pub fn with_progress(
 // A window's epoch and remainders stored: a call changes nothing else of it.
 pub fn store_progress(window: &mut WindowWords, after: CpuWindow)
     ensures { window_of window.new
-        ≡ progressed (windowOf window.old) after.epoch after.priority_remaining_ns
+        ≡ progressed (window_of window.old) after.epoch after.priority_remaining_ns
         after.protected_remaining_ns }
 {
     let epoch = after.epoch;
