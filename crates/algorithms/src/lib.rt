@@ -1,4 +1,6 @@
 // A thread's algorithm state. After scheduler/algorithms/mod.rs; a fair thread's pass and slice are given values.
+#![tactic(auto)]
+
 ghost use Rattle.std.specs.Prelude.{◌≡◌};
 ghost use Rattle.budget.specs.Answers.{budget_answer, budget_deadline};
 ghost use Rattle.algorithms.specs.Runtime.{of_budget, of_budget_deadline, made, accounted, epoch_refreshed};
@@ -12,20 +14,20 @@ use refusal::Refusal;
 use time::{Deadline, checked_add};
 
 // A 128-bit number by its halves; the high one is compared first.
-#[derive(Drop)]
+#[derive(Clone, Copy)]
 pub struct Wide {
     pub high: u64,
     pub low: u64,
 }
 
 // A fair thread's pass and remaining slice, as they are given.
-#[derive(Drop)]
+#[derive(Clone, Copy)]
 pub struct FairRuntime {
     pub pass: Wide,
     pub remaining_ns: u64,
 }
 
-#[derive(Drop)]
+#[derive(Clone, Copy)]
 pub enum PolicyRuntime {
     Fifo,
     Fair(FairRuntime),
@@ -34,20 +36,20 @@ pub enum PolicyRuntime {
 }
 
 // What orders a thread within its algorithm: the pass, then the turn.
-#[derive(Drop)]
+#[derive(Clone, Copy)]
 pub struct RuntimeKey {
     pub pass: Wide,
     pub turn: u64,
 }
 
-#[derive(Drop)]
+#[derive(Clone, Copy)]
 pub enum RuntimeAnswer {
     Runtime(PolicyRuntime),
     Refused(Refusal),
 }
 
 // The runtime afterwards with its deadline.
-#[derive(Drop)]
+#[derive(Clone, Copy)]
 pub enum RuntimeDeadline {
     Deadline(PolicyRuntime, Deadline),
     Refused(Refusal),

@@ -1,5 +1,7 @@
 // CPU windows and dispatch keys. After scheduler/algorithms/arbitration.rs; a window goes in by value and comes back
 // with the answer.
+#![tactic(auto)]
+
 mod tests;
 
 ghost use Rattle.std.specs.Prelude.{◌≡◌};
@@ -27,7 +29,7 @@ use time::{
 use window_config::ArbitrationConfig;
 
 // What the runnable threads ask for, the running one included.
-#[derive(Drop)]
+#[derive(Clone, Copy)]
 pub struct Demand {
     pub protected: bool,
     pub fair: bool,
@@ -36,7 +38,7 @@ pub struct Demand {
     pub any_budget: bool,
 }
 
-#[derive(Drop)]
+#[derive(Clone, Copy)]
 pub struct Candidate {
     pub parameters: SchedulingParameters,
     pub fair_pass: Wide,
@@ -45,7 +47,7 @@ pub struct Candidate {
 }
 
 // Why an execution interval was admitted.
-#[derive(Drop)]
+#[derive(Clone, Copy)]
 pub enum DispatchMode {
     StrictFifo,
     Priority,
@@ -55,7 +57,7 @@ pub enum DispatchMode {
 }
 
 // Urgency and rank, with the mode that they come from.
-#[derive(Drop)]
+#[derive(Clone, Copy)]
 struct Tier {
     urgency: u8,
     rank: u8,
@@ -63,25 +65,25 @@ struct Tier {
 }
 
 // The algorithm's rank and its local key.
-#[derive(Drop)]
+#[derive(Clone, Copy)]
 struct Algorithm {
     rank: u8,
     key: Wide,
 }
 
-#[derive(Drop)]
+#[derive(Clone, Copy)]
 enum AlgorithmOption {
     None,
     Some(Algorithm),
 }
 
-#[derive(Drop)]
+#[derive(Clone, Copy)]
 pub enum KeyOption {
     None,
     Some(DispatchKey, DispatchMode),
 }
 
-#[derive(Drop)]
+#[derive(Clone, Copy)]
 pub struct CpuWindow {
     pub config: ArbitrationConfig,
     pub epoch: Epoch,
@@ -90,37 +92,37 @@ pub struct CpuWindow {
 }
 
 // Whether a call was taken.
-#[derive(Drop)]
+#[derive(Clone, Copy)]
 pub enum Verdict {
     Accepted,
     Refused(Refusal),
 }
 
-#[derive(Drop)]
+#[derive(Clone, Copy)]
 pub enum WindowMade {
     Made(CpuWindow),
     Refused(Refusal),
 }
 
-#[derive(Drop)]
+#[derive(Clone, Copy)]
 pub struct WindowStep {
     pub answer: Verdict,
     pub window: CpuWindow,
 }
 
-#[derive(Drop)]
+#[derive(Clone, Copy)]
 pub struct WindowDeadline {
     pub answer: DeadlineAnswer,
     pub window: CpuWindow,
 }
 
-#[derive(Drop)]
+#[derive(Clone, Copy)]
 pub enum KeyAnswer {
     Key(KeyOption),
     Refused(Refusal),
 }
 
-#[derive(Drop)]
+#[derive(Clone, Copy)]
 pub struct WindowKey {
     pub answer: KeyAnswer,
     pub window: CpuWindow,

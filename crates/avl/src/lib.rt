@@ -1,10 +1,12 @@
 // Balanced search trees after Adelson-Velsky and Landis (1962; Knuth, volume 3, 6.2.3): their theory is in specs/, and
 // the one test on heights that code needs is here.
+#![tactic(auto)]
+
 ghost use Rattle.std.specs.Prelude.{◌≡◌};
 ghost use Rattle.avl.specs.Rotation.{lean_of};
 
 // Which side of a node is higher by two or more.
-#[derive(Drop)]
+#[derive(Clone, Copy)]
 pub enum Lean {
     Left,
     Right,

@@ -1,6 +1,8 @@
 // The board's C calls on lent words: the run queue, selection, windows and keys, turns, accounting, the switch rule and
 // deadlines. Each is the call of its name on what the words stand for. It answers document 01's number, 0 where the
 // call was made; a refusal leaves what an answer's words stand for. What has a fixed length is lent as an array of it.
+#![tactic(auto)]
+
 mod queueing;
 mod recording;
 mod running;

@@ -1,5 +1,7 @@
 // Words of what the board's calls are handed and answer, as arrays. Nothing here is partial: all words stand for some
 // value.
+#![tactic(auto)]
+
 ghost use Rattle.std.specs.Prelude.{◌≡◌};
 ghost use Rattle.codec.specs.Codec.{word};
 ghost use Rattle.arbitration.specs.Answers.{window_made};

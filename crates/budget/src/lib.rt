@@ -1,4 +1,6 @@
 // Fixed-window budgets. After scheduler/algorithms/budget.rs; each call judges the parameters it is handed.
+#![tactic(auto)]
+
 ghost use Rattle.std.specs.Prelude.{◌≡◌};
 ghost use Rattle.budget.specs.Runtime.{refreshed, charged, expiry_within, deadline_after, reconfigured, made};
 ghost use Rattle.budget.specs.Runtime.{refreshed_judged, accounted_interval, period_deadline, deadline_judged};
@@ -12,7 +14,7 @@ use time::{
     saturating_sub,
 };
 
-#[derive(Drop)]
+#[derive(Clone, Copy)]
 pub struct BudgetRuntime {
     pub epoch: Epoch,
     pub remaining_ns: u64,
@@ -20,27 +22,27 @@ pub struct BudgetRuntime {
 }
 
 // A runtime afterwards, or BadBudget or BackInTime with the runtime unchanged.
-#[derive(Drop)]
+#[derive(Clone, Copy)]
 pub enum BudgetAnswer {
     Runtime(BudgetRuntime),
     Refused(Refusal),
 }
 
-#[derive(Drop)]
+#[derive(Clone, Copy)]
 pub enum DeadlineAnswer {
     Deadline(Deadline),
     Refused(Refusal),
 }
 
 // The refreshed runtime with its deadline.
-#[derive(Drop)]
+#[derive(Clone, Copy)]
 pub enum BudgetDeadline {
     Deadline(BudgetRuntime, Deadline),
     Refused(Refusal),
 }
 
 // OtherPeriod: the two periods differ, and nothing changes.
-#[derive(Drop)]
+#[derive(Clone, Copy)]
 pub enum Reconfigured {
     Changed(BudgetRuntime),
     OtherPeriod,

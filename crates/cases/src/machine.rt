@@ -31,7 +31,7 @@ pub type Counts = [u64; ANSWERS];
 const NO_CALL: u64 = 12;
 
 // What a line brings: whether its answer differs from what is said, and the number that a call answered, if it is one.
-#[derive(Drop)]
+#[derive(Clone, Copy)]
 struct Event {
     differs: bool,
     number: u64,

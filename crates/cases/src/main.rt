@@ -1,6 +1,8 @@
 // Runs calls with the answers that document 01 or the Rust gives on the code, and ends with how many differ: the worked
 // cases that its standard input has, each answer printed beside its case; then the calls of the files that its
 // arguments name, recorded beside the unchanged Rust, with how many of them answered each number.
+#![tactic(auto)]
+
 mod answers;
 mod calls;
 mod leaves;

@@ -1,4 +1,6 @@
 // A record as a row of 32 words. Nothing here is partial: every row is some record's.
+#![tactic(auto)]
+
 ghost use Rattle.std.specs.Prelude.{◌≡◌, true, ◌%◌};
 ghost use Rattle.codec.specs.Codec.{word, decoded, link_from, membership_from, parameters_of, runtime_of, links_of};
 ghost use Rattle.codec.specs.Codec.{queue_links_of, ready_turn_word};

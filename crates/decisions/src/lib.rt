@@ -1,5 +1,7 @@
 // What scheduler/state/runtime.rs decides by values alone: turns, the switch rule, and the current thread's own
 // deadline. Crate runtime has the calls over the table.
+#![tactic(auto)]
+
 mod own;
 mod switching;
 mod taking;
@@ -16,7 +18,7 @@ pub use taking::turn_for;
 
 // The turn counters: the next turn at the back, and the last that was taken at the front. The source's statics
 // BACK_TURN and FRONT_TURN.
-#[derive(Drop)]
+#[derive(Clone, Copy)]
 pub struct Turns {
     pub back: u64,
     pub front: u64,
@@ -35,34 +37,34 @@ impl Turns {
 }
 
 // A thread's turn, with the counters afterwards.
-#[derive(Drop)]
+#[derive(Clone, Copy)]
 pub struct Taken {
     pub turn: u64,
     pub turns: Turns,
 }
 
-#[derive(Drop)]
+#[derive(Clone, Copy)]
 pub enum TurnAnswer {
     Taken(Taken),
     Refused(Refusal),
 }
 
 // The key of the ready thread, if there is one.
-#[derive(Drop)]
+#[derive(Clone, Copy)]
 pub enum ReadyKey {
     None,
     Some(DispatchKey),
 }
 
 // Whether to switch to the ready thread, and whether the current one then goes to the front.
-#[derive(Drop)]
+#[derive(Clone, Copy)]
 pub struct Choice {
     pub should_switch: bool,
     pub front: bool,
 }
 
 // The mode of the current thread's key, if it has a key.
-#[derive(Drop)]
+#[derive(Clone, Copy)]
 pub enum ModeOption {
     None,
     Some(DispatchMode),
@@ -70,7 +72,7 @@ pub enum ModeOption {
 
 // What else there is on the processor: any queued thread, a queued budget thread, a ready thread, and the demand of
 // all.
-#[derive(Drop)]
+#[derive(Clone, Copy)]
 pub struct Contention {
     pub competition: bool,
     pub budget_peer: bool,

@@ -1,5 +1,7 @@
 // Candidates, the demand of several, and their lowest fair pass. After `ReadySnapshot::candidate` and `add_demand` of
 // scheduler/queue.rs.
+#![tactic(auto)]
+
 ghost use Rattle.std.specs.Prelude.{true, false, ◌≡◌};
 ghost use Rattle.refusal.specs.Cases.{choose};
 ghost use Rattle.arbitration.specs.Window.{is_priority, is_protected};
@@ -18,21 +20,21 @@ use policy::{SchedulingPolicy, SchedulingRole};
 use queue::has_time_left;
 
 // A fair pass, or none.
-#[derive(Drop)]
+#[derive(Clone, Copy)]
 pub enum PassOption {
     None,
     Some(Wide),
 }
 
 // The running thread, if there is one, taken as given.
-#[derive(Drop)]
+#[derive(Clone, Copy)]
 pub enum CandidateOption {
     None,
     Some(Candidate),
 }
 
 // What the heads and the running thread ask for, and the lowest fair pass among them.
-#[derive(Drop)]
+#[derive(Clone, Copy)]
 pub struct Gathered {
     pub demand: Demand,
     pub fair_min_pass: PassOption,

@@ -1,4 +1,6 @@
 // Comparing dispatch keys, as declared: urgency, rank, algorithm rank, algorithm, band, turn.
+#![tactic(auto)]
+
 ghost use Rattle.std.specs.Prelude.{◌≡◌};
 ghost use Rattle.dispatch_keys.specs.Keys.{compare_keys, compare_within_rank, compare_local, compare_bands};
 
@@ -6,7 +8,7 @@ use algorithms::Wide;
 use order::Ordering;
 
 // Compared as declared.
-#[derive(Drop)]
+#[derive(Clone, Copy)]
 pub struct DispatchKey {
     pub urgency: u8,
     pub rank: u8,

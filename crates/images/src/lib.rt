@@ -1,6 +1,8 @@
 // The byte images of a record, a window, a queue and a table, as C calls: what a saved table is made of. Words stand in
 // their order, each as eight bytes, the lowest first. A load takes just the bytes that a store gives: those of words
 // that are the encoding of what they stand for. The number is 0 where it is made; on a refusal all stays as it was.
+#![tactic(auto)]
+
 mod encodes;
 mod queue_rows;
 mod table_rows;

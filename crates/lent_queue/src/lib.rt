@@ -1,5 +1,7 @@
 // The ready queue over words that a board lends: enqueue at either end and remove. Only the list, the root and the
 // counts that a call touches are read and stored. After `CpuRunQueue` of scheduler/queue.rs.
+#![tactic(auto)]
+
 ghost use Rattle.std.specs.Prelude.{◌<◌, ◌≡◌, true, get_or, length, set};
 ghost use Rattle.thread.specs.Membership.{empty_queue};
 ghost use Rattle.codec.specs.Codec.{word};

@@ -1,5 +1,7 @@
 // Selection over a queue of lent words. The roots, the epoch and the mark are stored only at a change of period. After
 // `CpuRunQueue::peek_next` of scheduler/queue.rs.
+#![tactic(auto)]
+
 ghost use Rattle.std.specs.Prelude.{◌≡◌, length};
 ghost use Rattle.rows.specs.Table.{table, out};
 ghost use Rattle.rows.specs.Frame.{Framed};

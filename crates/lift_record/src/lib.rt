@@ -1,5 +1,7 @@
 // The lift record: a list of runs, three words each, and the part of it that a reading and a width name.
 // Document 02, T-01.
+#![tactic(auto)]
+
 mod ordering;
 mod placing;
 mod words;
@@ -24,14 +26,14 @@ pub const THREAD: usize = 2;
 pub const RUN_WORDS: usize = 3;
 
 // A part of the list: its first run, and how many it has.
-#[derive(Drop)]
+#[derive(Clone, Copy)]
 pub struct Place {
     pub first: usize,
     pub count: usize,
 }
 
 // Where a slide comes to: the place, and 1 where it searched afresh, else 0.
-#[derive(Drop)]
+#[derive(Clone, Copy)]
 struct Slid {
     place: Place,
     afresh: u64,

@@ -3,6 +3,8 @@
 // specs/Inside.antt), so the source's `queue_invariant` has no place here. `push`, `push_front` and `remove` are the
 // calls on a list by itself, which ask for table and number first; a queue's calls have asked for these and more, and
 // use `push_at` and `remove_from`.
+#![tactic(auto)]
+
 ghost use Rattle.std.specs.Prelude.{◌≡◌};
 ghost use Rattle.refusal.specs.Cases.{choose};
 ghost use Rattle.thread.specs.Membership.{is_unqueued};
@@ -30,14 +32,14 @@ use thread::{
 };
 
 // The list afterwards, or a refusal with nothing changed.
-#[derive(Drop)]
+#[derive(Clone, Copy)]
 pub enum Listed {
     List(ThreadQueue),
     Refused(Refusal),
 }
 
 // The length after an insertion, or its refusal.
-#[derive(Drop)]
+#[derive(Clone, Copy)]
 enum Preflight {
     Length(u64),
     Refused(Refusal),

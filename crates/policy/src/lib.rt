@@ -1,4 +1,6 @@
 // Scheduling policies, roles, backends and their checked parameters. After task/policy.rs.
+#![tactic(auto)]
+
 ghost use Rattle.std.specs.Prelude.{◌≡◌};
 ghost use Rattle.policy.specs.Budget.{sound_budget, new_budget, budget_made};
 ghost use Rattle.policy.specs.Parameters.{new_weight, new_fair, of_budget, of_fifo, of_idle, class_of, priority_of};
@@ -6,7 +8,7 @@ ghost use Rattle.policy.specs.Parameters.{new_weight, new_fair, of_budget, of_fi
 use refusal::Refusal;
 
 // Fixed scheduler priority. Lower numeric values run first.
-#[derive(Drop)]
+#[derive(Clone, Copy)]
 pub struct ThreadPriority(pub u8);
 
 impl ThreadPriority {
@@ -29,7 +31,7 @@ impl ThreadPriority {
     }
 }
 
-#[derive(Drop)]
+#[derive(Clone, Copy)]
 pub enum SchedulingClass {
     RealTime,
     Fair,
@@ -38,7 +40,7 @@ pub enum SchedulingClass {
 }
 
 // SPECIFICATION 2.1.
-#[derive(Drop)]
+#[derive(Clone, Copy)]
 pub enum SchedulingPolicy {
     Fifo { priority: ThreadPriority },
     Fair,
@@ -47,7 +49,7 @@ pub enum SchedulingPolicy {
 }
 
 // A priority, or none: only a FIFO policy has one.
-#[derive(Drop)]
+#[derive(Clone, Copy)]
 pub enum PriorityOption {
     Some(ThreadPriority),
     None,
@@ -92,24 +94,24 @@ impl SchedulingPolicy {
 }
 
 // Arbitration privileges, independent of the algorithm.
-#[derive(Drop)]
+#[derive(Clone, Copy)]
 pub enum SchedulingRole {
     Ordinary,
     Priority,
     Protected,
 }
 
-#[derive(Drop)]
+#[derive(Clone, Copy)]
 pub enum FairBackend {
     Stride,
     RoundRobin,
 }
 
 // A share within the Fair algorithm, 1 to 1,024.
-#[derive(Drop)]
+#[derive(Clone, Copy)]
 pub struct ThreadWeight(pub u16);
 
-#[derive(Drop)]
+#[derive(Clone, Copy)]
 pub enum WeightOption {
     Some(ThreadWeight),
     None,
@@ -140,14 +142,14 @@ impl ThreadWeight {
 }
 
 // Budget quantities, in nanoseconds.
-#[derive(Drop)]
+#[derive(Clone, Copy)]
 pub struct BudgetParameters {
     pub budget_ns: u64,
     pub period_ns: u64,
     pub burst_ns: u64,
 }
 
-#[derive(Drop)]
+#[derive(Clone, Copy)]
 pub enum BudgetMade {
     Made(BudgetParameters),
     Refused(Refusal),
@@ -216,14 +218,14 @@ impl BudgetParameters {
 }
 
 // The budget of a record, or none.
-#[derive(Drop)]
+#[derive(Clone, Copy)]
 pub enum BudgetOption {
     Some(BudgetParameters),
     None,
 }
 
 // Policy inputs. Unused fields have canonical values.
-#[derive(Drop)]
+#[derive(Clone, Copy)]
 pub struct SchedulingParameters {
     pub policy: SchedulingPolicy,
     pub band: ThreadPriority,
@@ -234,7 +236,7 @@ pub struct SchedulingParameters {
     pub budget: BudgetOption,
 }
 
-#[derive(Drop)]
+#[derive(Clone, Copy)]
 pub enum ParametersOption {
     Some(SchedulingParameters),
     None,

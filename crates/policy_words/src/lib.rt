@@ -1,5 +1,7 @@
 // Scheduling parameters, a policy's runtime and times as words. Nothing here is partial: all words stand for some
 // value.
+#![tactic(auto)]
+
 ghost use Rattle.std.specs.Prelude.{◌≡◌, true, ◌%◌, ◌<◌};
 ghost use Rattle.policy_words.specs.PolicyWords.{word, policy_from, role_from, backend_from, budget_from, epoch_from};
 ghost use Rattle.policy_words.specs.PolicyWords.{runtime_from, deadline_of, parameters_of, runtime_of};

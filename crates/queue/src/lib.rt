@@ -1,5 +1,7 @@
 // What a call on the ready queue of one processor is to do: the judgement of the named thread and the plan of an
 // enqueue or a removal. The calls themselves are crate lent_queue's. After `CpuRunQueue` of scheduler/queue.rs.
+#![tactic(auto)]
+
 mod judging;
 mod planning;
 
@@ -21,20 +23,20 @@ pub const BUDGET_READY: u64 = 6;
 pub const BUDGET_EXHAUSTED: u64 = 9;
 
 // The root of one tree. A queue has twelve.
-#[derive(Drop)]
+#[derive(Clone, Copy)]
 pub struct Root {
     pub root: Link,
 }
 
 // Whether a call was made.
-#[derive(Drop)]
+#[derive(Clone, Copy)]
 pub enum Verdict {
     Accepted,
     Refused(Refusal),
 }
 
 // What the plans go by of a judged thread, and the number of the tree that it is filed in.
-#[derive(Drop)]
+#[derive(Clone, Copy)]
 pub struct Filed {
     pub policy: SchedulingPolicy,
     pub membership: QueueMembership,
@@ -42,21 +44,21 @@ pub struct Filed {
     pub index: u64,
 }
 
-#[derive(Drop)]
+#[derive(Clone, Copy)]
 pub enum Judgement {
     Filed(Filed),
     Refused(Refusal),
 }
 
 // The number of the tree that holds a thread.
-#[derive(Drop)]
+#[derive(Clone, Copy)]
 pub enum TreeFound {
     Index(u64),
     Refused(Refusal),
 }
 
 // What a call is to do: the list by its membership, the tree by its number, and what the thread counts as.
-#[derive(Drop)]
+#[derive(Clone, Copy)]
 pub struct Plan {
     pub membership: QueueMembership,
     pub index: u64,
@@ -64,7 +66,7 @@ pub struct Plan {
     pub budgeted: bool,
 }
 
-#[derive(Drop)]
+#[derive(Clone, Copy)]
 pub enum Planned {
     Plan(Plan),
     Refused(Refusal),

@@ -1,4 +1,6 @@
 // The work of enqueue and remove on the parts of a queue that a call touches; the table is lent.
+#![tactic(auto)]
+
 ghost use Rattle.std.specs.Prelude.{◌≡◌};
 ghost use Rattle.rows.specs.Table.{table, out};
 ghost use Rattle.rows.specs.Frame.{Framed};
@@ -11,7 +13,7 @@ use refusal::Refusal;
 use thread::{Link, QueueMembership, ThreadQueue};
 
 // What one call touches of a queue: a list, the FIFO total, a tree's root, the number of budget threads.
-#[derive(Drop)]
+#[derive(Clone, Copy)]
 pub struct Parts {
     pub list: ThreadQueue,
     pub realtime_len: u64,
@@ -21,14 +23,14 @@ pub struct Parts {
 
 // A refusal with nothing changed; or the parts afterwards, as the source had stored them where it halts. One case holds
 // the parts, so that a shell puts them back in one place.
-#[derive(Drop)]
+#[derive(Clone, Copy)]
 pub enum Worked {
     Refused(Refusal),
     Stored { parts: Parts, halted: bool },
 }
 
 // The FIFO total afterwards, or its refusal.
-#[derive(Drop)]
+#[derive(Clone, Copy)]
 enum Total {
     Length(u64),
     Refused(Refusal),

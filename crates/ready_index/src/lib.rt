@@ -2,6 +2,8 @@
 // `first`, `contains`, `insert` and `remove` (calls.rt) are the calls on a tree by itself, which ask for table and
 // number first. A queue's calls have asked for these and more, and use the functions here, each on the tree under a
 // root: a number outside the table is Damaged here.
+#![tactic(auto)]
+
 mod calls;
 
 ghost use Rattle.std.specs.Prelude.{◌+◌, ◌-◌, ◌≤◌, [], ◌≡◌, length};
@@ -34,14 +36,14 @@ pub type PathStep = [u64; PATH_STEP_WORDS];
 pub type Path = [PathStep; MAX_PATH];
 
 // The tree's root afterwards.
-#[derive(Drop)]
+#[derive(Clone, Copy)]
 pub enum Rooted {
     Root(Link),
     Damaged,
 }
 
 // The least thread of a tree.
-#[derive(Drop)]
+#[derive(Clone, Copy)]
 pub enum Least {
     None,
     Some(u64),
@@ -49,7 +51,7 @@ pub enum Least {
 }
 
 // Whether a tree holds a thread.
-#[derive(Drop)]
+#[derive(Clone, Copy)]
 pub enum Contained {
     Yes,
     No,
@@ -57,20 +59,20 @@ pub enum Contained {
 }
 
 // What the calls on a tree by itself answer: as the three above, or a refusal by its name.
-#[derive(Drop)]
+#[derive(Clone, Copy)]
 pub enum TreeRoot {
     Root(Link),
     Refused(Refusal),
 }
 
-#[derive(Drop)]
+#[derive(Clone, Copy)]
 pub enum TreeLeast {
     None,
     Some(u64),
     Refused(Refusal),
 }
 
-#[derive(Drop)]
+#[derive(Clone, Copy)]
 pub enum TreeContains {
     Yes,
     No,
@@ -78,14 +80,14 @@ pub enum TreeContains {
 }
 
 // A step of a path: the node, and whether the path went to its right.
-#[derive(Drop)]
+#[derive(Clone, Copy)]
 pub struct Step {
     pub id: u64,
     pub right: bool,
 }
 
 // Where a key goes on from a node.
-#[derive(Drop)]
+#[derive(Clone, Copy)]
 pub enum Way {
     Left(Link),
     Right(Link),
@@ -94,7 +96,7 @@ pub enum Way {
 }
 
 // Where the search for a thread goes on from a node.
-#[derive(Drop)]
+#[derive(Clone, Copy)]
 pub enum Sought {
     Left(Link),
     Right(Link),
@@ -103,21 +105,21 @@ pub enum Sought {
 }
 
 // How many steps of the path lead to where a key is to stand.
-#[derive(Drop)]
+#[derive(Clone, Copy)]
 pub enum Walked {
     Bottom(usize),
     Damaged,
 }
 
 // How many steps of the path lead to a thread, and its links.
-#[derive(Drop)]
+#[derive(Clone, Copy)]
 pub enum Searched {
     Found { steps: usize, links: Links },
     Damaged,
 }
 
 // How many steps of the path lead to a right side's leftmost thread, that thread, and its right link.
-#[derive(Drop)]
+#[derive(Clone, Copy)]
 pub enum Succeeded {
     Next { steps: usize, id: u64, right: Link },
     Damaged,

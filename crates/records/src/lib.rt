@@ -2,6 +2,8 @@
 // too, makes the core's call on the rows and copies the records back. The contracts have the core's definitions, over
 // the caller's own records. Fewer rows than records is BadTable with nothing changed; more than 4,096 records are
 // copied, and the core's call is BadTable.
+#![tactic(auto)]
+
 ghost use Rattle.std.specs.Prelude.{◌<◌, true, false, ◌≡◌, length, take, drop};
 ghost use Rattle.refusal.specs.Answer.{refused, bad_table};
 ghost use Rattle.arbitration.specs.Answers.{verdict_of, window_step};

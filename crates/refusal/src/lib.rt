@@ -1,8 +1,10 @@
 // The refusals of document 01, "Turned down", then those of document 02's requests, and their numbers.
+#![tactic(auto)]
+
 ghost use Rattle.std.specs.Prelude.{◌≡◌};
 ghost use Rattle.refusal.specs.Answer.{number_of};
 
-#[derive(Drop)]
+#[derive(Clone, Copy)]
 pub enum Refusal {
     Damaged,
     BadState,

@@ -1,5 +1,7 @@
 // The change of period: every thread of the exhausted trees is refreshed and filed as ready. After the first loop of
 // `CpuRunQueue::peek_next`.
+#![tactic(auto)]
+
 mod roots;
 
 ghost use Rattle.std.specs.Prelude.{◌<◌, ◌≡◌, length, get_or, []};
@@ -32,7 +34,7 @@ const READY: usize = queue::BUDGET_READY as usize;
 const EXHAUSTED: usize = queue::BUDGET_EXHAUSTED as usize;
 
 // The two budget trees of a role, and how many moves a change of period has left.
-#[derive(Drop)]
+#[derive(Clone, Copy)]
 pub struct BudgetTrees {
     pub exhausted: Link,
     pub ready: Link,
@@ -40,21 +42,21 @@ pub struct BudgetTrees {
 }
 
 // The head of a tree, none where it is empty.
-#[derive(Drop)]
+#[derive(Clone, Copy)]
 pub enum HeadRead {
     Head(Link),
     Damaged,
 }
 
 // The trees after a move, or as they are left where it is refused.
-#[derive(Drop)]
+#[derive(Clone, Copy)]
 enum Moved {
     Done(BudgetTrees),
     Refused(Refusal, BudgetTrees),
 }
 
 // What the next move of a role found.
-#[derive(Drop)]
+#[derive(Clone, Copy)]
 enum NextMove {
     Emptied,
     Moved(BudgetTrees),
@@ -62,7 +64,7 @@ enum NextMove {
 }
 
 // How many moves one role left of those that it was given.
-#[derive(Drop)]
+#[derive(Clone, Copy)]
 enum RoleStep {
     Done(u64),
     Refused(Refusal),

@@ -1,4 +1,6 @@
 // Heights, rotations and the balancing of one node, in the order of reads and stores of ready_index.rs.
+#![tactic(auto)]
+
 ghost use Rattle.std.specs.Prelude.{◌+◌, ◌-◌, ◌≡◌};
 ghost use Rattle.avl.specs.Rotation.{lean_of};
 ghost use Rattle.rows.specs.Answers.{change_answer};
@@ -15,14 +17,14 @@ use rows::{Change, LinksRead, links_at, set_height, set_links};
 use thread::{Link, Links};
 
 // The stored height of a subtree.
-#[derive(Drop)]
+#[derive(Clone, Copy)]
 pub enum HeightRead {
     Got(u8),
     Damaged,
 }
 
 // The thread that a rotation or a balancing left on top.
-#[derive(Drop)]
+#[derive(Clone, Copy)]
 pub enum Turned {
     Root(u64),
     Damaged,

@@ -1,5 +1,7 @@
 // C calls on rows of numbers, through which the Rust host compares lists and trees with the kernel's source. Each is
 // the call of its name on what the numbers stand for.
+#![tactic(auto)]
+
 ghost use Rattle.std.specs.Prelude.{◌≡◌, ◌≢◌};
 ghost use Rattle.refusal.specs.Answer.{damaged};
 ghost use Rattle.codec.specs.Codec.{link_from, membership_from};
@@ -19,7 +21,7 @@ use thread::{Link, ThreadQueue};
 
 // A record's number, or none.
 #[repr(C)]
-#[derive(Drop)]
+#[derive(Clone, Copy)]
 pub struct LinkWords {
     pub some: u64,
     pub number: u64,
@@ -31,7 +33,7 @@ impl LinkWords {
 
 // A list after a call.
 #[repr(C)]
-#[derive(Drop)]
+#[derive(Clone, Copy)]
 pub struct ListAnswer {
     pub number: u64,
     pub head: LinkWords,
@@ -41,7 +43,7 @@ pub struct ListAnswer {
 
 // The least thread of a tree, or its root after a call.
 #[repr(C)]
-#[derive(Drop)]
+#[derive(Clone, Copy)]
 pub struct IndexAnswer {
     pub number: u64,
     pub thread: LinkWords,
@@ -49,7 +51,7 @@ pub struct IndexAnswer {
 
 // Whether a tree holds a thread: 1 where it does.
 #[repr(C)]
-#[derive(Drop)]
+#[derive(Clone, Copy)]
 pub struct ContainsAnswer {
     pub number: u64,
     pub holds: u64,

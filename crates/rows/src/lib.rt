@@ -1,5 +1,7 @@
 // The table of records as rows of 32 words, read and changed by a record's number. Each store touches the words of one
 // part.
+#![tactic(auto)]
+
 ghost use Rattle.std.specs.Prelude.{◌≡◌};
 ghost use Rattle.refusal.specs.Answer.{value, refused};
 ghost use Rattle.rows.specs.Answers.{links_answer, key_answer, queue_links_answer, change_answer, permission_answer};
@@ -20,39 +22,39 @@ use thread::{Link, Links, QueueLinks, ThreadRecord, TreeKey};
 pub const MAX_RECORDS: usize = 4096;
 
 // Damaged, here and below: the number is not below the record count.
-#[derive(Drop)]
+#[derive(Clone, Copy)]
 pub enum LinksRead {
     Got(Links),
     Damaged,
 }
 
-#[derive(Drop)]
+#[derive(Clone, Copy)]
 pub enum KeyRead {
     Got(TreeKey),
     Damaged,
 }
 
-#[derive(Drop)]
+#[derive(Clone, Copy)]
 pub enum QueueLinksRead {
     Got(QueueLinks),
     Damaged,
 }
 
-#[derive(Drop)]
+#[derive(Clone, Copy)]
 pub enum RecordRead {
     Got(ThreadRecord),
     Damaged,
 }
 
 // Whether a store was made; where not, nothing changed.
-#[derive(Drop)]
+#[derive(Clone, Copy)]
 pub enum Change {
     Made,
     Damaged,
 }
 
 // Whether a call on one tree or one list may be made.
-#[derive(Drop)]
+#[derive(Clone, Copy)]
 pub enum Permission {
     Granted,
     Refused(Refusal),

@@ -1,6 +1,8 @@
 // The ready queue as a value: the source's struct, its constructor, its lengths and its calls. A call stores the
 // value's parts to rows, makes the call on the rows (crates lent_queue and lent_selection) and reads the parts back.
 // After `CpuRunQueue` of scheduler/queue.rs.
+#![tactic(auto)]
+
 mod priority_lists;
 mod tree_roots;
 
@@ -30,7 +32,7 @@ use tree_roots::{roots_of, store_roots};
 
 // 256 priority lists and their total, the fair list, twelve trees, the epoch of the last selection, the number of
 // budget threads, and the mark of a queue that halted.
-#[derive(Drop)]
+#[derive(Clone, Copy)]
 pub struct CpuRunQueue {
     pub realtime: [ThreadQueue; PRIORITIES],
     pub realtime_len: u64,
@@ -42,14 +44,14 @@ pub struct CpuRunQueue {
 }
 
 // The queue as a call leaves it.
-#[derive(Drop)]
+#[derive(Clone, Copy)]
 pub struct QueueStep {
     pub answer: Verdict,
     pub queue: CpuRunQueue,
 }
 
 // The answer, with window and queue as selection leaves them.
-#[derive(Drop)]
+#[derive(Clone, Copy)]
 pub struct SelectionStep {
     pub answer: PeekAnswer,
     pub window: CpuWindow,

@@ -1,5 +1,7 @@
 // Preparing, accounting and the choice of deadline over the table. After scheduler/state/runtime.rs; publishing,
 // generations and locks are left out.
+#![tactic(auto)]
+
 mod account;
 mod deadlines;
 mod judging;
@@ -15,7 +17,7 @@ use refusal::Refusal;
 use time::Deadline;
 
 // What preparing stores: the refreshed runtime and the turn; and the counters afterwards.
-#[derive(Drop)]
+#[derive(Clone, Copy)]
 pub struct Preparation {
     pub runtime: PolicyRuntime,
     pub turn: u64,
@@ -23,35 +25,35 @@ pub struct Preparation {
 }
 
 // Whether a thread was prepared, and the counters as they are left.
-#[derive(Drop)]
+#[derive(Clone, Copy)]
 pub struct Prepared {
     pub answer: Verdict,
     pub turns: Turns,
 }
 
 // What accounting stores: the runtime; and the window afterwards.
-#[derive(Drop)]
+#[derive(Clone, Copy)]
 pub struct Accounting {
     pub runtime: PolicyRuntime,
     pub window: CpuWindow,
 }
 
 // A runtime refreshed to now, with the candidate that it makes.
-#[derive(Drop)]
+#[derive(Clone, Copy)]
 pub struct Refreshed {
     pub runtime: PolicyRuntime,
     pub candidate: Candidate,
 }
 
 // Whether the current thread's slice or burst is spent.
-#[derive(Drop)]
+#[derive(Clone, Copy)]
 pub enum ExpiredAnswer {
     Expired(bool),
     Refused(Refusal),
 }
 
 // What refreshing a deadline stores: the runtime; the window afterwards, and the deadline.
-#[derive(Drop)]
+#[derive(Clone, Copy)]
 pub struct Due {
     pub runtime: PolicyRuntime,
     pub window: CpuWindow,

@@ -14,7 +14,7 @@ const LEVELS: usize = 28;
 
 // The way through a tree: the thread to go down by; the threads above that come later, and how many; the thread that is
 // come to. Where there is none, nobody.
-#[derive(Drop)]
+#[derive(Clone, Copy)]
 struct Walk {
     link: u64,
     above: [u64; LEVELS],

@@ -1,5 +1,7 @@
 // Runs scenarios, lines of threads, a window and calls, on the proved core, and prints each answer, a picture of the
 // run, or its lift record. FORMAT.md has the lines.
+#![tactic(auto)]
+
 mod axis;
 mod calls;
 mod causes;
@@ -105,7 +107,7 @@ fn blanked(text: &mut [u8]) {
 }
 
 // What is read of a file: all, in so many bytes; more than there is room for; or the system says why not.
-#[derive(Drop)]
+#[derive(Clone, Copy)]
 enum Got {
     All(usize),
     Longer,

@@ -57,7 +57,7 @@ const HALF: u64 = 9_223_372_036_854_775_808;
 const ORDINARY: u64 = 3;
 
 // Flags are 0 or 1, as the entries of crate board take them.
-#[derive(Drop)]
+#[derive(Clone, Copy)]
 pub struct Run {
     // The board: the last reading; the running thread, whether it is Running, and its last mode; the idle thread; the
     // turn counters; the window; until when it runs.

@@ -76,7 +76,7 @@ pub type Values = [u64; VALUES];
 
 // The values of the words behind a statement's name, as many as most statements have. (They are taken out of the array
 // once, since each step that does so is dear to check where a run is held.)
-#[derive(Drop)]
+#[derive(Clone, Copy)]
 pub struct Fields {
     pub first: u64,
     pub second: u64,
@@ -95,7 +95,7 @@ pub fn fields_in(a: Values) -> Fields {
 
 // By the form of its number a line goes furthest: why it goes no further (causes.rt), the place of the form's word
 // there, how much of the line is left, and the values.
-#[derive(Drop)]
+#[derive(Clone, Copy)]
 pub struct Statement {
     pub number: u64,
     pub cause: u64,

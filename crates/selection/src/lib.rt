@@ -1,5 +1,7 @@
 // Selection: the queued thread with the least dispatch key. After `CpuRunQueue::peek_next` of scheduler/queue.rs; the
 // definitions are in specs/.
+#![tactic(auto)]
+
 mod choosing;
 mod peeking;
 
@@ -12,47 +14,47 @@ use refusal::Refusal;
 pub use renewal::{is_epoch, renew_roles};
 use thread::ThreadId;
 
-#[derive(Drop)]
+#[derive(Clone, Copy)]
 pub struct ReadyThread {
     pub id: ThreadId,
     pub policy: SchedulingPolicy,
     pub key: DispatchKey,
 }
 
-#[derive(Drop)]
+#[derive(Clone, Copy)]
 pub enum ReadyOption {
     None,
     Some(ReadyThread),
 }
 
-#[derive(Drop)]
+#[derive(Clone, Copy)]
 pub struct Selection {
     pub ready: ReadyOption,
     pub demand: Demand,
     pub fair_min_pass: PassOption,
 }
 
-#[derive(Drop)]
+#[derive(Clone, Copy)]
 enum GatheredAnswer {
     Found(Gathered),
     Refused(Refusal),
 }
 
 // What the heads ask for, and how many were found.
-#[derive(Drop)]
+#[derive(Clone, Copy)]
 struct Gathering {
     answer: GatheredAnswer,
     count: usize,
 }
 
-#[derive(Drop)]
+#[derive(Clone, Copy)]
 pub enum PeekAnswer {
     Selected(Selection),
     Refused(Refusal),
 }
 
 // The answer, and the window as its heads leave it.
-#[derive(Drop)]
+#[derive(Clone, Copy)]
 pub struct WindowPeek {
     pub answer: PeekAnswer,
     pub window: CpuWindow,

@@ -38,7 +38,7 @@ const MOST: u64 = 18_446_744_073_709_551_615;
 // Why a line goes no further by a form: it goes to its end; it ends too early; its next word is another than the
 // form's; is no number, no time, or above the limit; is none of the names, a name that is there already, no name, or a
 // name more than there may be; is no letter; or is one word too many.
-#[derive(Drop)]
+#[derive(Clone, Copy)]
 pub enum Cause {
     Goes,
     Missing,
@@ -55,7 +55,7 @@ pub enum Cause {
 }
 
 // Where and why a line goes no further: the place of the form's word, and how many bytes of the line are left.
-#[derive(Drop)]
+#[derive(Clone, Copy)]
 pub struct Stop {
     pub cause: Cause,
     pub place: usize,
@@ -64,7 +64,7 @@ pub struct Stop {
 
 // What the next word of a line does by a word of a form: it is taken, with a value; it is the first of the rest, which
 // might have been left out; or the line goes no further.
-#[derive(Drop)]
+#[derive(Clone, Copy)]
 enum Step {
     Taken(u64),
     Rest,

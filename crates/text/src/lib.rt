@@ -1,6 +1,8 @@
 // Text in and out, for programs: the pieces of a line, lists of names, decimal numbers and times, lines read by a form,
 // columns, templates and shapes, in bytes that the caller lends, and sums that stay in range. Only `print` writes to a
 // file, which is standard output.
+#![tactic(auto)]
+
 mod counting;
 mod escaping;
 mod forms;

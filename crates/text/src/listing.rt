@@ -6,7 +6,7 @@ ghost use Rattle.text.specs.Reading.{before, run};
 use crate::reading::{end_of, same, start_of};
 
 // Where a piece of a text stands.
-#[derive(Drop)]
+#[derive(Clone, Copy)]
 pub struct Span {
     pub start: usize,
     pub end: usize,

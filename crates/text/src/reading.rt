@@ -38,7 +38,7 @@ const MICROSECOND: u64 = 1_000;
 const NANOSECOND: u64 = 1;
 
 // A number that fits, one above 18,446,744,073,709,551,615, or what is no number.
-#[derive(Drop)]
+#[derive(Clone, Copy)]
 pub enum Decimal {
     Number(u64),
     Above,

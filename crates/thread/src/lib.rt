@@ -1,5 +1,7 @@
 // A thread's record: its parts, links, memberships and the order of tree keys; its filing and the judgement of it are
 // definitions (specs). After task/thread.rs, task/wait.rs and scheduler/queue.rs.
+#![tactic(auto)]
+
 ghost use Rattle.std.specs.Prelude.{◌≡◌};
 ghost use Rattle.thread.specs.Membership.{empty_queue, is_none, points_to, is_unqueued, is_ready_real_time, is_ready_fair};
 ghost use Rattle.thread.specs.Membership.{is_waiting, is_terminated, same_membership, ready_cpu};
@@ -10,7 +12,7 @@ use order::{Ordering, compare_numbers};
 use policy::SchedulingParameters;
 
 // A thread's number: its record's place in the table.
-#[derive(Drop)]
+#[derive(Clone, Copy)]
 pub struct ThreadId(pub u64);
 
 impl ThreadId {
@@ -28,7 +30,7 @@ impl ThreadId {
 }
 
 // A processor's number.
-#[derive(Drop)]
+#[derive(Clone, Copy)]
 pub struct CpuIndex(pub u8);
 
 impl CpuIndex {
@@ -46,14 +48,14 @@ impl CpuIndex {
 }
 
 // A record's number, or none: the source's `Option<ThreadId>` inside records.
-#[derive(Drop)]
+#[derive(Clone, Copy)]
 pub enum Link {
     None,
     Some(u64),
 }
 
 // A record's links within its tree. After `ReadyTreeLinks`.
-#[derive(Drop)]
+#[derive(Clone, Copy)]
 pub struct Links {
     pub left: Link,
     pub right: Link,
@@ -70,7 +72,7 @@ impl Links {
 }
 
 // The list that a record stands in.
-#[derive(Drop)]
+#[derive(Clone, Copy)]
 pub enum QueueMembership {
     None,
     ReadyRealTime { cpu: CpuIndex, priority: u8 },
@@ -80,7 +82,7 @@ pub enum QueueMembership {
 }
 
 // A record's neighbours within its list, and which list that is.
-#[derive(Drop)]
+#[derive(Clone, Copy)]
 pub struct QueueLinks {
     pub previous: Link,
     pub next: Link,
@@ -97,7 +99,7 @@ impl QueueLinks {
 }
 
 // A list by its ends. After task/wait.rs.
-#[derive(Drop)]
+#[derive(Clone, Copy)]
 pub struct ThreadQueue {
     pub head: Link,
     pub tail: Link,
@@ -118,7 +120,7 @@ impl ThreadQueue {
 
 // What the scheduler keeps of a thread. After `ThreadScheduleState`; `cpu` is the processor it is assigned to.
 // (SPECIFICATION 5.1).
-#[derive(Drop)]
+#[derive(Clone, Copy)]
 pub struct ThreadRecord {
     pub parameters: SchedulingParameters,
     pub runtime: PolicyRuntime,
@@ -129,7 +131,7 @@ pub struct ThreadRecord {
 }
 
 // What a tree is ordered by: algorithm, band, turn, number.
-#[derive(Drop)]
+#[derive(Clone, Copy)]
 pub struct TreeKey {
     pub algorithm: Wide,
     pub band: u8,
@@ -138,14 +140,14 @@ pub struct TreeKey {
 }
 
 // The processor of a ready membership, or none.
-#[derive(Drop)]
+#[derive(Clone, Copy)]
 pub enum CpuOption {
     None,
     Some(CpuIndex),
 }
 
 // The number of the tree that a record is filed in, or none: an Idle record stands in no tree.
-#[derive(Drop)]
+#[derive(Clone, Copy)]
 pub enum IndexFor {
     Index(u64),
     None,

@@ -1,17 +1,19 @@
 // Times are u64 nanoseconds: epochs, periods, deadlines, and the arithmetic on them that the source takes from Rust's
 // integers.
+#![tactic(auto)]
+
 ghost use Rattle.std.specs.Prelude.{◌≡◌, ◌-◌, ◌/◌, min, max};
 ghost use Rattle.time.specs.Time.{rises, period_start, period_end, charge_of, checked_add, earliest_of};
 
 // The epoch of a budget, a window or a queue; none before the first.
-#[derive(Drop)]
+#[derive(Clone, Copy)]
 pub enum Epoch {
     None,
     Some(u64),
 }
 
 // A time at which something is due, or none.
-#[derive(Drop)]
+#[derive(Clone, Copy)]
 pub enum Deadline {
     None,
     Some(u64),

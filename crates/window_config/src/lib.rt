@@ -1,5 +1,7 @@
 // A CPU window's configuration: which periods, allowances, floors and ranks are taken, and which threads they admit.
 // After scheduler/algorithms/arbitration.rs.
+#![tactic(auto)]
+
 ghost use Rattle.std.specs.Prelude.{◌≡◌};
 ghost use Rattle.window_config.specs.Config.{ranks_rise, same_backend, sound_config, new_config, preferring};
 ghost use Rattle.window_config.specs.Config.{accepts_budget, admitted};
@@ -9,7 +11,7 @@ use policy::{BudgetOption, BudgetParameters, FairBackend, SchedulingParameters, 
 use refusal::Refusal;
 
 // The ranks of the algorithms within one urgency.
-#[derive(Drop)]
+#[derive(Clone, Copy)]
 pub struct ArbitrationOrder {
     pub priority_rank: u8,
     pub budget_rank: u8,
@@ -26,7 +28,7 @@ impl ArbitrationOrder {
     };
 }
 
-#[derive(Drop)]
+#[derive(Clone, Copy)]
 pub struct ArbitrationConfig {
     pub period_ns: u64,
     pub priority_allowance_ns: u64,
@@ -35,7 +37,7 @@ pub struct ArbitrationConfig {
     pub prefer_fair: bool,
 }
 
-#[derive(Drop)]
+#[derive(Clone, Copy)]
 pub enum ConfigMade {
     Made(ArbitrationConfig),
     Refused(Refusal),

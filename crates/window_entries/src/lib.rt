@@ -1,6 +1,8 @@
 // C calls on lent words, through which the Rust host compares CPU windows and dispatch keys with the kernel's source.
 // Each is the call of its name on what the words stand for. It answers document 01's number, 0 where the call was
 // accepted; a refusal leaves every lent word as it was.
+#![tactic(auto)]
+
 ghost use Rattle.std.specs.Prelude.{◌≡◌, ◌≢◌};
 ghost use Rattle.refusal.specs.Cases.{choose};
 ghost use Rattle.time.specs.Time.{rises};

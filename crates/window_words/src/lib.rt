@@ -1,5 +1,7 @@
 // A CPU window as a row of 12 words, and the words of what its calls are handed and answer. Nothing here is partial:
 // every row stands for some value.
+#![tactic(auto)]
+
 ghost use Rattle.std.specs.Prelude.{◌≡◌};
 ghost use Rattle.window_words.specs.WindowWords.{flag_from, mode_from, order_of, config_of, window_of};
 ghost use Rattle.window_words.specs.WindowWords.{configured, progressed, demand_of, candidate_of};

@@ -1,4 +1,6 @@
 // The ● cases of document 01, proved as one table of the definitions (specs/WorkedCases.antt).
+#![tactic(auto)]
+
 ghost use Rattle.std.specs.Prelude.{◌≡◌, length};
 ghost use Rattle.worked_cases.specs.WorkedCases.{table};
 

@@ -7,6 +7,6 @@ pub epoch_of_spec : {M : Type 1} → statement M
 epoch_of_spec =
     tie.close
     (tie.spec
-    (λ c. rw (c.if1.true, div-zero))
+    (λ c. rw (c.if-period_ns-eq0.true, div-zero))
     (λ c. search rules)
     (λ c. search rules))

@@ -11,7 +11,7 @@ unfolding period_start
 period_start_spec =
     tie.close
     (tie.spec
-    (λ c. rw (c.if1.true, mod-zero, sub_self))
+    (λ c. rw (c.if-period_ns-eq0.true, mod-zero, sub_self))
     (λ c. search rules)
     (λ c. omega (arith, mod-le c.before.args.now c.before.args.period_ns))
     (λ c. refl))
