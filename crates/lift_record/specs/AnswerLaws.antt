@@ -1,26 +1,24 @@
 -- Laws by which the calls meet their contracts: each way to an answer.
 use Prim.Native.Nat.{ℕ, suc, ◌+◌, ◌-◌, ◌*◌, ◌<◌, ◌≤◌, max}
 use native.Mathlib.Omega.{arith}
-use Rattle.std.specs.Prelude.{◌≡◌, Bool, List, [], ◌∷◌, length, set}
+use Rattle.std.specs.Prelude.{◌≡◌, Bool, false, not, length, set, ltb}
 use Rattle.std.proofs.Math.Path.{refl, sym}
-use Rattle.std.proofs.Common.{◌∙◌, length-set}
-use Rattle.std.proofs.Math.Bool.{true, false}
+use Rattle.std.proofs.Common.{ap, ◌∙◌, length-set}
+use Rattle.std.proofs.Math.Bool.{true}
+use mathlib.Core.List.{List, [], ◌∷◌}
 use Rattle.std.proofs.lemmas.List.Edits.{sets-eq}
-use Rattle.std.proofs.Math.Dec.{ltb}
-use borrow.Author.Tests.{ltb-true, lt-ltb, le-ltb}
+use borrow.Author.Tests.{ltb-false, lt-ltb, le-ltb, not-true, not-false}
 use Rattle.refusal.specs.Answer.{bad_table, record_order}
-use Rattle.refusal.specs.Cases.{choose, given, if_less, holds, fails, less, not_less, is, equal, not_equal}
+use Rattle.refusal.specs.Cases.{choose, if_less, never, less, not_less, is}
 use Rattle.lift_record.specs.declared.Place.{Place}
-use Rattle.lift_record.specs.declared.Slid.{Slid}
-use Rattle.lift_record.specs.Record.{start_word, end_word, runs, in_order, place, place_of, part_at, is_afresh}
+use Rattle.lift_record.specs.declared.Edge.TheVariants as edge
+use Rattle.lift_record.specs.Record.{runs, in_order, place, place_of, part_at, is_afresh}
 use Rattle.lift_record.specs.Record.{Found, found_at, placed, search_left, slid_to, slide_left}
-use Rattle.lift_record.specs.Record.{in_turn, end_before, run_refusal, with_run, appended, append_left}
+use Rattle.lift_record.specs.Record.{end_before, with_run, appended, append_left}
 use Rattle.lift_record.specs.Halving.{precedes, halved_place, in_order_since, search_from_left}
-use Rattle.lift_record.specs.Neighbours.{First, within, is_place}
-use Rattle.lift_record.specs.FirstLaws.{both}
-use Rattle.lift_record.specs.Part.{place_is_part}
+use Rattle.lift_record.specs.Neighbours.{First, is_place}
 use Rattle.lift_record.specs.SearchLaws.{halved_place_lem, in_order_since_none, search_from_none}
-use Rattle.lift_record.specs.SlideLaws.{within_is, is_place_lem, same_is, walked_on}
+use Rattle.lift_record.specs.SlideLaws.{is_place_lem, same_is, walked_on}
 
 -- The words of a place that was found.
 module _ (w : List ℕ) {r : List ℕ} {q p : Place} (e : q ≡ p) (h : r ≡ part_at w q) where
@@ -28,84 +26,84 @@ module _ (w : List ℕ) {r : List ℕ} {q p : Place} (e : q ≡ p) (h : r ≡ pa
   unfolding placed
   placed_at = rw (h, e) refl
 
+  pub slid_at : (a : ℕ) → found_at r (0 ∷ (q.first ∷ (q.count ∷ (a ∷ [])))) ≡ slid_to w p a
+  unfolding slid_to
+  slid_at a = rw (h, e) refl
+
 pub searched : {y : Found} (w : List ℕ) (now width : ℕ) → y ≡ search_from_left w 0 now width → y ≡ search_left w now width
 searched w now width e = e ∙ search_from_none w now width
 
 -- A place that is right lies in the list.
-pub place_inside : {d : Bool} (w : List ℕ) (p : Place) (now width : ℕ) → d ≡ is_place w p now width → d ≡ true
+pub place_inside : {d : Bool} (w : List ℕ) (p : Place) (now width : ℕ) → d ≡ is_place w p now width → not d ≡ false
     → p.first + p.count ≤ runs w
-unfolding is_place given choose
-place_inside {d} w p now width e n = go _ (within p.first p.count (runs w)) refl (sym e ∙ n)
+unfolding is_place if_less choose
+place_inside {d} w p now width e n =
+    go (ltb (runs w) p.first) refl (ltb (runs w - p.first) p.count) refl _ (sym e ∙ not-false d n)
   where
-    go : (z x : Bool) → within p.first p.count (runs w) ≡ x → choose x z false ≡ true
-        → p.first + p.count ≤ runs w
-    go z true h g = within_is p.first p.count (runs w) h
-    go z false h g = both g refl
-
--- Where a slide in a list in order comes to.
-unfoldable pub slid_place : List ℕ → ℕ → Place → ℕ → ℕ → Slid
-slid_place w earlier p now width =
-    record { place = place_of w now width; afresh = choose (is_afresh w earlier p now width) 1 0 }
+    go : (x : Bool) → ltb (runs w) p.first ≡ x → (y : Bool) → ltb (runs w - p.first) p.count ≡ y → (z : Bool)
+        → choose x false (choose y false z) ≡ true → p.first + p.count ≤ runs w
+    go true h y k z g = never cc
+    go false h true k z g = never cc
+    go false h false k z g = omega (arith, ltb-false (runs w) p.first h, ltb-false (runs w - p.first) p.count k)
 
 module _ (w : List ℕ) (earlier : ℕ) (p : Place) (now width : ℕ) where
-  module _ {b : Bool} (judged : b ≡ in_order_since w 0) where
-    pub slide_disordered : {y : Found} → b ≡ false
-        → y ≡ found_at [] (record_order ∷ (0 ∷ (0 ∷ (0 ∷ [])))) → y ≡ slide_left w earlier p now width
-    unfolding slide_left choose
-    slide_disordered n h = rw (sym (in_order_since_none w) ∙ sym judged ∙ n) h
+  pub slide_disordered : {y : Found} {b : Bool} → b ≡ in_order_since w 0 → not b ≡ true
+      → y ≡ found_at [] (record_order ∷ (0 ∷ (0 ∷ (0 ∷ [])))) → y ≡ slide_left w earlier p now width
+  unfolding slide_left choose
+  slide_disordered {y} {b} judged n h = rw (sym (in_order_since_none w) ∙ sym judged ∙ not-true b n) h
 
-    pub judged_in_order : b ≡ true → in_order w ≡ true
-    judged_in_order n = sym (in_order_since_none w) ∙ sym judged ∙ n
+  in_order_lem : {b : Bool} → b ≡ in_order_since w 0 → not b ≡ false → in_order w ≡ true
+  in_order_lem {b} judged n = sym (in_order_since_none w) ∙ sym judged ∙ not-false b n
 
-  module _ (o : in_order w ≡ true) where
-    slid_by : {q : Place} {x : Bool} → q ≡ place_of w now width → is_afresh w earlier p now width ≡ x
-        → record { place = q; afresh = choose x 1 0 } ≡ slid_place w earlier p now width
-    unfolding slid_place
-    slid_by e h = rw (e, h) refl
+  abbrev said : Bool → Found
+  said x = slid_to w (place_of w now width) (choose x 1 0)
 
-    pub slid_back : {q : Place} → now < earlier → q ≡ halved_place w now width
-        → record { place = q; afresh = 1 } ≡ slid_place w earlier p now width
-    unfolding is_afresh if_less choose
-    slid_back l e = slid_by {x = true} (e ∙ halved_place_lem w now width o) (rw (lt-ltb now earlier l) refl)
+  slide_ordered : {y : Found} → in_order w ≡ true → y ≡ said (is_afresh w earlier p now width)
+      → y ≡ slide_left w earlier p now width
+  unfolding slide_left choose
+  slide_ordered o h = rw o h
 
-    module _ {d : Bool} (l : earlier ≤ now) (asked : d ≡ is_place w p earlier width) where
-      afresh_by : is_afresh w earlier p now width ≡ choose d false true
-      unfolding is_afresh if_less choose
-      afresh_by = rw (le-ltb now earlier l, asked ∙ is_place_lem w p earlier width o) refl
+  fresh : {y : Found} → in_order w ≡ true → y ≡ slid_to w (halved_place w now width) 1 → y ≡ said true
+  unfolding choose
+  fresh o h = rw (halved_place_lem w now width o) at h
 
-      pub slid_afresh_lem : {q : Place} → d ≡ false → q ≡ halved_place w now width
-          → record { place = q; afresh = 1 } ≡ slid_place w earlier p now width
-      unfolding choose
-      slid_afresh_lem m e = slid_by {x = true} (e ∙ halved_place_lem w now width o) (rw m at afresh_by)
+  pub slide_back : {y : Found} {b : Bool} → b ≡ in_order_since w 0 → not b ≡ false → now < earlier
+      → y ≡ slid_to w (halved_place w now width) 1 → y ≡ slide_left w earlier p now width
+  unfolding is_afresh if_less choose
+  slide_back judged n l h =
+      let o = in_order_lem judged n in slide_ordered o (rw (lt-ltb now earlier l) (fresh o h))
 
-      pub slid_on : (q : Place) → d ≡ true
-          → First (precedes w end_word (now - width)) p.first q.first
-          → First (precedes w start_word now) (max q.first (p.first + p.count)) (q.first + q.count)
-          → record { place = q; afresh = 0 } ≡ slid_place w earlier p now width
-      unfolding choose
-      slid_on q m E S =
-          slid_by {x = false}
-          (walked_on w earlier now width p.first p.count q.first q.count l known E S)
-          (rw m at afresh_by)
-        where
-          known : p ≡ place_of w earlier width
-          known = same_is (sym (is_place_lem w p earlier width o) ∙ sym asked ∙ m)
+  afresh_by : {d : Bool} → in_order w ≡ true → earlier ≤ now → d ≡ is_place w p earlier width
+      → is_afresh w earlier p now width ≡ choose d false true
+  unfolding is_afresh if_less choose
+  afresh_by o l asked = rw (le-ltb now earlier l, asked ∙ is_place_lem w p earlier width o) refl
 
-  module _ {b : Bool} {to : Slid} (judged : b ≡ in_order_since w 0) (n : b ≡ true)
-      (e : to ≡ slid_place w earlier p now width) where
-    pub slid_inside : to.place.first + to.place.count ≤ runs w
-    unfolding slid_place
-    slid_inside = rw e (place_is_part w now width (judged_in_order judged n)).inside
+  pub slide_afresh : {y : Found} {b d : Bool} → b ≡ in_order_since w 0 → not b ≡ false → earlier ≤ now
+      → d ≡ is_place w p earlier width → not d ≡ true → y ≡ slid_to w (halved_place w now width) 1
+      → y ≡ slide_left w earlier p now width
+  unfolding choose
+  slide_afresh {y} {b} {d} judged n l asked m h =
+      let o = in_order_lem judged n in slide_ordered o (rw (afresh_by o l asked, not-true d m) (fresh o h))
 
-    pub slide_ordered : {r : List ℕ} → r ≡ part_at w to.place
-        → found_at r (0 ∷ (to.place.first ∷ (to.place.count ∷ (to.afresh ∷ []))))
-        ≡ slide_left w earlier p now width
-    unfolding slide_left slid_to slid_place choose
-    slide_ordered h = rw (h, e, judged_in_order judged n) refl
+  pub slide_on : {y : Found} {b d : Bool} (q : Place) → b ≡ in_order_since w 0 → not b ≡ false → earlier ≤ now
+      → d ≡ is_place w p earlier width → not d ≡ false
+      → First (precedes w edge.End (now - width)) p.first q.first
+      → First (precedes w edge.Start now) (max q.first (p.first + p.count)) (q.first + q.count)
+      → y ≡ slid_to w q 0 → y ≡ slide_left w earlier p now width
+  unfolding choose
+  slide_on {y} {b} {d} q judged n l asked m E S h =
+      slide_ordered o (rw (afresh_by o l asked, not-false d m) (rw there at h))
+    where
+      o : in_order w ≡ true
+      o = in_order_lem judged n
 
-pub ruleset slids = (slid_back, slid_afresh_lem, slid_on)
+      known : p ≡ place_of w earlier width
+      known = same_is (sym (is_place_lem w p earlier width o) ∙ sym asked ∙ not-false d m)
 
-pub ruleset slides = (slide_disordered, slide_ordered)
+      there : q ≡ place_of w now width
+      there = walked_on w earlier now width p.first p.count q.first q.count l known E S
+
+pub ruleset slides = (slide_disordered, slide_back, slide_afresh, slide_on, slid_at)
 
 -- The three words of a run, one behind the other: each stands in the list, and they make the run.
 module _ (w : List ℕ) (k : ℕ) (l : k < runs w) where
@@ -125,40 +123,24 @@ module _ (w : List ℕ) (k : ℕ) (l : k < runs w) where
       let n : 3 * k + 3 ≡ 3 * suc k = omega arith in
       rw (x, y, z) (rw n at (sets-eq (start ∷ (end ∷ (thread ∷ []))) w (3 * k) (omega arith)))
 
--- The refusal of a run.
-module _ (w : List ℕ) (k start end : ℕ) where
-  pub no_room : runs w ≤ k → bad_table ≡ run_refusal w k start end
-  unfolding run_refusal
-  no_room l = not_less _ _ k (runs w) l refl
-
-  module _ {last : ℕ} {b : Bool} (l : k < runs w) (h : last ≡ end_before 0 w k) (e : b ≡ in_turn last start end) where
-    pub stands : b ≡ true → 0 ≡ run_refusal w k start end
-    unfolding run_refusal
-    stands t = less _ _ k (runs w) l (holds _ _ (rw h at e) t refl)
-
-    pub stands_out : b ≡ false → record_order ≡ run_refusal w k start end
-    unfolding run_refusal
-    stands_out t = less _ _ k (runs w) l (fails _ _ (rw h at e) t refl)
-
-pub ruleset refusals = (no_room, stands, stands_out)
-
--- A run more, by the number of its refusal.
-module _ (w : List ℕ) (k start end thread : ℕ) {n : ℕ} (e : n ≡ run_refusal w k start end) where
-  pub room_for : n ≡ 0 → k < runs w
-  unfolding run_refusal if_less choose
-  room_for z = go _ (ltb k (runs w)) refl (sym e ∙ z)
-    where
-      go : (m : ℕ) (x : Bool) → ltb k (runs w) ≡ x → choose x m bad_table ≡ 0 → k < runs w
-      go m true h g = ltb-true k (runs w) h
-      go m false h g = absurd (omega (arith, g))
-
-  pub run_appended : {v : List ℕ} → n ≡ 0 → v ≡ with_run w k start end thread
-      → appended n v ≡ append_left w k start end thread
+-- A run more: each way to an answer.
+module _ (w : List ℕ) (k start end thread : ℕ) where
+  pub no_room : runs w ≤ k → appended bad_table w ≡ append_left w k start end thread
   unfolding append_left
-  run_appended z h = is _ e (equal _ _ n 0 z (rw (z, h) refl))
+  no_room l = not_less _ _ _ _ l refl
 
-  pub run_refused : (n ≡ 0 → ⊥) → appended n w ≡ append_left w k start end thread
-  unfolding append_left
-  run_refused z = is _ e (not_equal _ _ n 0 z refl)
+  module _ (l : k < runs w) where
+    pub ends_early : end < start → appended record_order w ≡ append_left w k start end thread
+    unfolding append_left
+    ends_early h = less _ _ _ _ l (less _ _ _ _ h refl)
 
-pub ruleset appends = (run_appended, run_refused)
+    module _ {last : ℕ} (h : start ≤ end) (e : last ≡ end_before 0 w k) where
+      pub starts_early : start < last → appended record_order w ≡ append_left w k start end thread
+      unfolding append_left
+      starts_early m = less _ _ _ _ l (not_less _ _ _ _ h (is _ e (less _ _ _ _ m refl)))
+
+      pub run_appended : {v : List ℕ} → last ≤ start → v ≡ with_run w k start end thread
+          → appended 0 v ≡ append_left w k start end thread
+      unfolding append_left
+      run_appended m p =
+          less _ _ _ _ l (not_less _ _ _ _ h (is _ e (not_less _ _ _ _ m (ap (λ (u : List ℕ). appended 0 u) p))))

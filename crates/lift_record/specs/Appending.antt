@@ -1,15 +1,15 @@
 -- A run more: what an accepted one leaves, and that a list in order stays in order.
 use Prim.Native.Nat.{ℕ, zero, suc, ◌+◌, ◌*◌, ◌<◌, ◌≤◌}
 use Rattle.std.proofs.Common.{arith, sym, ap, ◌∙◌, length-take-le, take_at}
-use Rattle.std.specs.Prelude.{◌≡◌, Bool, true, false, List, [], ◌∷◌, ◌++◌, length, take, drop, ltb, leb}
+use Rattle.std.specs.Prelude.{◌≡◌, Bool, true, false, List, [], ◌∷◌, ◌++◌, length, take, drop, ltb}
 use Rattle.std.proofs.Math.Path.{refl}
 use Rattle.std.proofs.Math.ListN.{length-append, get_or-append}
 use Rattle.std.proofs.Math.Seq.{drop_at, get_or-take}
-use borrow.Author.Tests.{ltb-true, ltb-false, le-ltb, leb-true}
+use borrow.Author.Tests.{ltb-true, ltb-false, le-ltb}
 use Rattle.refusal.specs.Answer.{bad_table, record_order}
-use Rattle.refusal.specs.Cases.{choose, given, if_less, if_equal}
+use Rattle.refusal.specs.Cases.{choose, given, if_less}
 use Rattle.lift_record.specs.Record.{runs, in_order_from, in_order, end_before, Appended, appended, with_run}
-use Rattle.lift_record.specs.Record.{in_turn, run_refusal, append_left}
+use Rattle.lift_record.specs.Record.{append_left}
 use Rattle.lift_record.specs.SearchLaws.{in_order_split}
 
 -- An accepted run: there is room, it stands in order, and the list has its words and all others as they were.
@@ -27,22 +27,22 @@ words (appended n w) = w
 
 pub accepted : (w : List ℕ) (k start end thread : ℕ) (v : List ℕ)
     → append_left w k start end thread ≡ appended 0 v → Accepted w k start end thread v
-unfolding append_left run_refusal in_turn if_less if_equal given choose with_run
+unfolding append_left if_less given choose with_run
 accepted w k start end thread v h =
-    go (ltb k (runs w)) refl (ltb start (end_before 0 w k)) refl (leb start end) refl h
+    go (ltb k (runs w)) refl (ltb end start) refl (ltb start (end_before 0 w k)) refl h
   where
-    go : (x : Bool) → ltb k (runs w) ≡ x → (y : Bool) → ltb start (end_before 0 w k) ≡ y → (z : Bool) → leb start end ≡ z
-        → given (choose x (choose (choose y false z) 0 record_order) bad_table) (λ number.
-        if_equal number 0 (appended 0 (with_run w k start end thread)) (appended number w))
+    go : (x : Bool) → ltb k (runs w) ≡ x → (y : Bool) → ltb end start ≡ y → (z : Bool) → ltb start (end_before 0 w k) ≡ z
+        → choose x (choose y (appended record_order w)
+        (choose z (appended record_order w) (appended 0 (with_run w k start end thread)))) (appended bad_table w)
         ≡ appended 0 v
         → Accepted w k start end thread v
     go false e y f z g m = absurd (omega (arith, ap numbered m))
     go true e true f z g m = absurd (omega (arith, ap numbered m))
-    go true e false f false g m = absurd (omega (arith, ap numbered m))
-    go true e false f true g m = record {
+    go true e false f true g m = absurd (omega (arith, ap numbered m))
+    go true e false f false g m = record {
       room = ltb-true k (runs w) e;
-      ends = leb-true start end g;
-      since = ltb-false start (end_before 0 w k) f;
+      ends = ltb-false end start f;
+      since = ltb-false start (end_before 0 w k) g;
       left = sym (ap words m);
     }
 

@@ -10,7 +10,7 @@ use Rattle.lift_record.specs.Halving.{middle, halving, halved}
 use Rattle.lift_record.specs.Neighbours.{First}
 
 -- A test cannot pass and fail.
-pub both : {A : Type 0} {x : Bool} → x ≡ true → x ≡ false → A
+both : {A : Type 0} {x : Bool} → x ≡ true → x ≡ false → A
 both e g = never cc
 
 module _ {test : ℕ → Bool} {from : ℕ} where

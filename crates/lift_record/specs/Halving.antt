@@ -2,18 +2,20 @@
 -- list in order it is a search's answer (`search_from`).
 use Rattle.std.specs.Prelude.{ℕ, zero, suc, ◌+◌, ◌-◌, ◌*◌, ◌/◌, min, Bool, false, List, [], ◌∷◌, drop, ltb, leb}
 use Rattle.refusal.specs.Answer.{record_order}
-use Rattle.refusal.specs.Cases.{choose, given, if_less, if_equal}
+use Rattle.refusal.specs.Cases.{choose, given, if_less}
 use Rattle.lift_record.specs.declared.Place.{Place}
-use Rattle.lift_record.specs.Record.{run_words, start_word, end_word, runs, start_of, end_of, in_order_from, end_before}
-use Rattle.lift_record.specs.Record.{place}
+use Rattle.lift_record.specs.declared.Edge.{Edge}
+use Rattle.lift_record.specs.declared.Edge.TheVariants as edge
+use Rattle.lift_record.specs.Record.{run_words, runs, start_of, end_of, in_order_from, end_before, place}
 use Rattle.lift_record.specs.Record.{Found, found_at, placed}
 
--- Whether a run lies before what is sought, by one of its words: its start before a time, its end at it or before.
-unfoldable pub edge_before : List ℕ → ℕ → ℕ → ℕ → Bool
-edge_before w side time i = if_equal side start_word (ltb (start_of w i) time) (leb (end_of w i) time)
+-- Whether a run's edge lies before what is sought: its end at a time or before, its start before it.
+unfoldable pub edge_before : List ℕ → Edge → ℕ → ℕ → Bool
+edge_before w edge.Start time i = ltb (start_of w i) time
+edge_before w edge.End time i = leb (end_of w i) time
 
 -- So of a run of the list; what lies behind the list does not.
-unfoldable pub precedes : List ℕ → ℕ → ℕ → ℕ → Bool
+unfoldable pub precedes : List ℕ → Edge → ℕ → ℕ → Bool
 precedes w side time i = if_less i (runs w) (edge_before w side time i) false
 
 abbrev pub middle : ℕ → ℕ → ℕ
@@ -36,16 +38,12 @@ halved test lo hi = halving (hi - lo) test lo hi
 unfoldable pub halved_place : List ℕ → ℕ → ℕ → Place
 halved_place w now width =
     given (now - width) (λ since.
-    given (halved (precedes w end_word since) 0 (runs w)) (λ first.
-    given (halved (precedes w start_word now) first (runs w)) (λ behind. place first (behind - first))))
+    given (halved (precedes w edge.End since) 0 (runs w)) (λ first.
+    given (halved (precedes w edge.Start now) first (runs w)) (λ behind. place first (behind - first))))
 
--- Order from run k on, behind the end of the one before.
-unfoldable pub order_from : List ℕ → ℕ → Bool
-order_from w k = in_order_from (end_before 0 w k) (drop (run_words * k) w)
-
--- Order from a run on, or at the list's end (SPECIFICATION 14.6).
+-- Order from a run on, behind the end of the one before, or at the list's end (SPECIFICATION 14.6).
 unfoldable pub in_order_since : List ℕ → ℕ → Bool
-in_order_since w ordered = order_from w (min ordered (runs w))
+in_order_since w ordered = given (min ordered (runs w)) (λ k. in_order_from (end_before 0 w k) (drop (run_words * k) w))
 
 -- RecordOrder for a broken rest or word count, else the halved place (SPECIFICATION 14.6).
 unfoldable pub search_from_left : List ℕ → ℕ → ℕ → ℕ → Found

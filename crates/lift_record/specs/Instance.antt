@@ -1,8 +1,8 @@
 -- A record that meets the theorems' premises, and what they say of it.
 use Rattle.std.specs.Prelude.{ℕ, ◌≡◌, refl, true, List, [], ◌∷◌, ◌++◌, take}
-use Rattle.refusal.specs.Cases.{choose, given, if_less, if_equal}
+use Rattle.refusal.specs.Cases.{choose, given, if_less}
 use Rattle.lift_record.specs.Record.{in_order, in_order_from, end_before, ended_by, started_before, place, place_of}
-use Rattle.lift_record.specs.Record.{search_left, appended, with_run, in_turn, run_refusal, append_left}
+use Rattle.lift_record.specs.Record.{search_left, appended, with_run, append_left}
 use Rattle.lift_record.specs.Halving.{search_from_left}
 use Rattle.lift_record.specs.Part.{IsPart, place_is_part}
 use Rattle.lift_record.specs.SearchLaws.{search_from}
@@ -24,7 +24,7 @@ known_runs = search_from lift 5 15 6 refl
 
 -- The sixth appended to the first five.
 pub sixth_run : Accepted (take 15 lift ++ 0 ∷ 0 ∷ 0 ∷ []) 5 25 30 2 lift
-unfolding append_left run_refusal in_turn with_run end_before if_less if_equal choose given
+unfolding append_left with_run end_before if_less choose given
 sixth_run = accepted (take 15 lift ++ 0 ∷ 0 ∷ 0 ∷ []) 5 25 30 2 lift refl
 
 pub six_in_order : in_order lift ≡ true

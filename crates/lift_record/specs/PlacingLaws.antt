@@ -1,27 +1,28 @@
 -- Laws by which the functions that look for a place meet their contracts.
 use Rattle.std.specs.Prelude.{ℕ, ◌+◌, ◌-◌, ◌*◌, ◌/◌, ◌<◌, ◌≤◌, max, ◌≡◌, Bool, true, false, List, length, take, drop, ltb, leb}
-use Rattle.std.proofs.Common.{arith, add-one, ◌∙◌}
-use Rattle.std.proofs.Math.Path.{refl, sym}
-use borrow.Author.Tests.{ltb-true, ltb-false, ne_eqb}
-use Rattle.refusal.specs.Cases.{choose, given, if_equal}
+use Rattle.std.proofs.Common.{arith, add-one, sym, ◌∙◌, ltb-true, ltb-false}
+use Rattle.std.proofs.Math.Path.{refl}
+use Rattle.refusal.specs.Cases.{given}
 use Rattle.lift_record.specs.declared.Place.{Place}
-use Rattle.lift_record.specs.Record.{start_word, end_word, runs, start_of, end_of, place, part_at}
+use Rattle.lift_record.specs.declared.Edge.{Edge}
+use Rattle.lift_record.specs.declared.Edge.TheVariants as edge
+use Rattle.lift_record.specs.Record.{runs, start_of, end_of, place, part_at}
 use Rattle.lift_record.specs.Halving.{edge_before, precedes, halved, halved_place}
 use Rattle.lift_record.specs.Neighbours.{First}
 use Rattle.lift_record.specs.RunsLaws.{precedes_outside, precedes_inside, inside_of, first_within}
 use Rattle.lift_record.specs.FirstLaws.{halved_up, halved_down, halved_met, halved_inside}
 
-module _ (w : List ℕ) (side time i : ℕ) where
+module _ (w : List ℕ) (side : Edge) (time i : ℕ) where
   pub no_edge : runs w ≤ i → false ≡ precedes w side time i
   no_edge h = sym (precedes_outside w side time i h)
 
-  pub start_edge : {s : ℕ} → i < runs w → side ≡ start_word → s ≡ start_of w i → ltb s time ≡ precedes w side time i
-  unfolding edge_before if_equal choose
-  start_edge l e h = rw (e, h) (sym (precedes_inside w start_word time i l))
+  pub start_edge : {s : ℕ} → i < runs w → side ≡ edge.Start → s ≡ start_of w i → ltb s time ≡ precedes w side time i
+  unfolding edge_before
+  start_edge l e h = rw (e, h) (sym (precedes_inside w edge.Start time i l))
 
-  pub end_edge : {n : ℕ} → i < runs w → (side ≡ start_word → ⊥) → n ≡ end_of w i → leb n time ≡ precedes w side time i
-  unfolding edge_before if_equal choose
-  end_edge l e h = sym (precedes_inside w side time i l ∙ rw (h, ne_eqb side start_word e) refl)
+  pub end_edge : {n : ℕ} → i < runs w → side ≡ edge.End → n ≡ end_of w i → leb n time ≡ precedes w side time i
+  unfolding edge_before
+  end_edge l e h = rw (e, h) (sym (precedes_inside w edge.End time i l))
 
 pub ruleset edges = (no_edge, start_edge, end_edge)
 
@@ -37,10 +38,12 @@ module _ (test : ℕ → Bool) (lo hi : ℕ) {x : ℕ} (so_far : halved test lo 
   pub there : hi ≤ lo → lo ≡ x
   there l = halved_met test lo hi l ∙ so_far
 
-pub at_first : (w : List ℕ) (side time from k : ℕ) → from ≤ k → k < from → precedes w side time k ≡ true
+pub ruleset halvings = (go_up, go_down, there)
+
+pub at_first : (w : List ℕ) (side : Edge) (time from k : ℕ) → from ≤ k → k < from → precedes w side time k ≡ true
 at_first w side time from k l m = absurd (omega arith)
 
-module _ (w : List ℕ) (side time from i : ℕ) {b : Bool} where
+module _ (w : List ℕ) (side : Edge) (time from i : ℕ) {b : Bool} where
   pub one_on : ((k : ℕ) → from ≤ k → k < i → precedes w side time k ≡ true) → b ≡ precedes w side time i → b ≡ true
       → (k : ℕ) → from ≤ k → k < i + 1 → precedes w side time k ≡ true
   one_on h e t k l m = go (ltb k i) refl
@@ -63,18 +66,18 @@ pub ruleset walking = (at_first, one_on, walked_to, one_fits, one_fewer)
 
 -- The two ends, found by halving and by walking.
 module _ (w : List ℕ) (now width : ℕ) {since f b : ℕ} (s : since ≡ now - width)
-    (E : f ≡ halved (precedes w end_word since) 0 (runs w))
-    (S : b ≡ halved (precedes w start_word now) f (runs w)) where
+    (E : f ≡ halved (precedes w edge.End since) 0 (runs w))
+    (S : b ≡ halved (precedes w edge.Start now) f (runs w)) where
   first_halved : f ≤ runs w
-  first_halved = rw E (halved_inside (precedes w end_word since) 0 (runs w) (omega arith)).1
+  first_halved = rw E (halved_inside (precedes w edge.End since) 0 (runs w) (omega arith)).1
 
   pub halves_rise : f ≤ b
-  halves_rise = rw S (halved_inside (precedes w start_word now) f (runs w) first_halved).0
+  halves_rise = rw S (halved_inside (precedes w edge.Start now) f (runs w) first_halved).0
 
   pub halves_inside : f + (b - f) ≤ runs w
   halves_inside =
       let r = halves_rise in
-      let l : b ≤ runs w = rw S (halved_inside (precedes w start_word now) f (runs w) first_halved).1 in omega arith
+      let l : b ≤ runs w = rw S (halved_inside (precedes w edge.Start now) f (runs w) first_halved).1 in omega arith
 
   pub halves_place : place f (b - f) ≡ halved_place w now width
   unfolding halved_place given
@@ -84,21 +87,21 @@ pub ruleset halved_places = (halves_rise, halves_inside, halves_place)
 
 module _ (w : List ℕ) (now width first count : ℕ) (l : first + count ≤ runs w) {since f b from : ℕ}
     (s : since ≡ now - width)
-    (E : First (precedes w end_word since) first f) (m : from ≡ max f (first + count))
-    (S : First (precedes w start_word now) from b) where
+    (E : First (precedes w edge.End since) first f) (m : from ≡ max f (first + count))
+    (S : First (precedes w edge.Start now) from b) where
   pub walk_rises : f ≤ b
   walk_rises = omega (arith, m, S.since)
 
   pub walk_inside : f + (b - f) ≤ runs w
   walk_inside =
-      let e : f ≤ runs w = first_within w end_word since (omega arith) E in
-      let n : b ≤ runs w = first_within w start_word now (omega (arith, m, e, l)) S in
+      let e : f ≤ runs w = first_within w edge.End since (omega arith) E in
+      let n : b ≤ runs w = first_within w edge.Start now (omega (arith, m, e, l)) S in
       omega (arith, walk_rises, n)
 
-  pub walk_end : First (precedes w end_word (now - width)) first f
+  pub walk_end : First (precedes w edge.End (now - width)) first f
   walk_end = rw s at E
 
-  pub walk_start : First (precedes w start_word now) (max f (first + count)) (f + (b - f))
+  pub walk_start : First (precedes w edge.Start now) (max f (first + count)) (f + (b - f))
   walk_start =
       let e : f + (b - f) ≡ b = omega (arith, walk_rises) in rw (e, sym m) S
 

@@ -1,5 +1,5 @@
 -- The lift record: a list of runs, and the part of it that a reading and a width name. Document 02, T-01.
-use Rattle.std.specs.Prelude.{ℕ, zero, suc, ◌-◌, ◌*◌, ◌+◌, ◌/◌, Bool, true, false, List, [], ◌∷◌, ◌++◌, length, get_or, take, drop, eqb, leb}
+use Rattle.std.specs.Prelude.{ℕ, zero, suc, ◌-◌, ◌*◌, ◌+◌, ◌/◌, Bool, true, false, List, [], ◌∷◌, ◌++◌, length, get_or, take, drop, eqb}
 use Rattle.refusal.specs.Answer.{bad_table, record_order}
 use Rattle.refusal.specs.Cases.{choose, given, if_less, if_equal}
 use Rattle.lift_record.specs.declared.Place.{Place}
@@ -122,20 +122,12 @@ pub data Appended : Type 0 where
 unfoldable pub with_run : List ℕ → ℕ → ℕ → ℕ → ℕ → List ℕ
 with_run w k start end thread = take (run_words * k) w ++ (start ∷ (end ∷ (thread ∷ []))) ++ drop (run_words * suc k) w
 
--- A run stands behind a time: it starts there or later, and ends at its start or later.
-unfoldable pub in_turn : ℕ → ℕ → ℕ → Bool
-in_turn last start end = if_less start last false (leb start end)
-
--- The refusal of a run behind the first k, 0 where it may stand there: BadTable where the list has no room for it,
--- RecordOrder where it would stand out of order (SPECIFICATION 14.5).
-unfoldable pub run_refusal : List ℕ → ℕ → ℕ → ℕ → ℕ
-run_refusal w k start end =
-    if_less k (runs w)
-    (choose (in_turn (end_before 0 w k) start end) 0 record_order)
-    bad_table
-
--- A run behind the first k. A refusal changes nothing (SPECIFICATION 14.5).
+-- A run behind the first k: BadTable where the list has no room for it; RecordOrder where it would stand out of order.
+-- A refusal changes nothing (SPECIFICATION 14.5).
 unfoldable pub append_left : List ℕ → ℕ → ℕ → ℕ → ℕ → Appended
 append_left w k start end thread =
-    given (run_refusal w k start end) (λ number.
-    if_equal number 0 (appended 0 (with_run w k start end thread)) (appended number w))
+    if_less k (runs w)
+    (if_less end start (appended record_order w)
+    (given (end_before 0 w k) (λ last.
+    if_less start last (appended record_order w) (appended 0 (with_run w k start end thread)))))
+    (appended bad_table w)

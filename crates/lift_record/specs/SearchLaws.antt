@@ -7,21 +7,21 @@ use Rattle.std.proofs.Common.{◌∙◌}
 use Rattle.std.proofs.Math.Bool.{true, false}
 use Rattle.refusal.specs.Answer.{record_order}
 use Rattle.refusal.specs.Cases.{choose, given, if_less}
-use Rattle.lift_record.specs.Record.{start_word, end_word, runs, in_order_from, in_order, end_before, ended_by}
-use Rattle.lift_record.specs.Record.{started_before, place}
+use Rattle.lift_record.specs.declared.Edge.TheVariants as edge
+use Rattle.lift_record.specs.Record.{runs, in_order_from, in_order, end_before, ended_by, started_before, place}
 use Rattle.lift_record.specs.Record.{place_of, found_at, placed, search_left}
-use Rattle.lift_record.specs.Halving.{precedes, halved, halved_place, order_from, in_order_since, search_from_left}
+use Rattle.lift_record.specs.Halving.{precedes, halved, halved_place, in_order_since, search_from_left}
 use Rattle.lift_record.specs.Neighbours.{First}
 use Rattle.lift_record.specs.FirstLaws.{first_unique, halved_first}
-use Rattle.lift_record.specs.RunsLaws.{rising, starts_fall, ends_fall, precedes_outside, ended, started_from}
+use Rattle.lift_record.specs.RunsLaws.{rising, precedes_falls, precedes_outside, ended, started_from}
 use Rattle.lift_record.specs.RunsLaws.{first_within, end_next}
 
 pub same_place_lem : {f g c d : ℕ} → f ≡ g → c ≡ d → place f c ≡ place g d
 same_place_lem e h = λ i. record { first = e i; count = h i }
 
 -- Two firsts of the two edges are the place.
-pub place_by : (w : List ℕ) (now width f c : ℕ) → First (precedes w end_word (now - width)) 0 f
-    → First (precedes w start_word now) f (f + c) → place f c ≡ place_of w now width
+pub place_by : (w : List ℕ) (now width f c : ℕ) → First (precedes w edge.End (now - width)) 0 f
+    → First (precedes w edge.Start now) f (f + c) → place f c ≡ place_of w now width
 unfolding place_of given
 place_by w now width f c E S = go (first_unique E (ended (now - width) w))
   where
@@ -33,21 +33,21 @@ place_by w now width f c E S = go (first_unique E (ended (now - width) w))
 
 module _ (w : List ℕ) (now width : ℕ) (o : in_order w ≡ true) where
   abbrev f : ℕ
-  f = halved (precedes w end_word (now - width)) 0 (runs w)
+  f = halved (precedes w edge.End (now - width)) 0 (runs w)
 
   abbrev b : ℕ
-  b = halved (precedes w start_word now) f (runs w)
+  b = halved (precedes w edge.Start now) f (runs w)
 
-  E : First (precedes w end_word (now - width)) 0 f
+  E : First (precedes w edge.End (now - width)) 0 f
   E =
-      halved_first _ (ends_fall (rising 0 w o) (now - width)) 0 (runs w) (omega arith)
-      (precedes_outside w end_word (now - width) (runs w) (omega arith))
+      halved_first _ (precedes_falls (rising 0 w o) edge.End (now - width)) 0 (runs w) (omega arith)
+      (precedes_outside w edge.End (now - width) (runs w) (omega arith))
 
-  S : First (precedes w start_word now) f b
+  S : First (precedes w edge.Start now) f b
   S =
-      halved_first _ (starts_fall (rising 0 w o) now) f (runs w)
-      (first_within w end_word (now - width) (omega arith) E)
-      (precedes_outside w start_word now (runs w) (omega arith))
+      halved_first _ (precedes_falls (rising 0 w o) edge.Start now) f (runs w)
+      (first_within w edge.End (now - width) (omega arith) E)
+      (precedes_outside w edge.Start now (runs w) (omega arith))
 
   -- Halving finds the place in a list in order.
   pub halved_place_lem : halved_place w now width ≡ place_of w now width
@@ -107,7 +107,7 @@ in_order_take w k h o = both_hold _ _ (sym (in_order_split 0 w k h) ∙ o)
 
 module _ (w : List ℕ) (ordered now width : ℕ) where
   in_order_since_lem : in_order (take (3 * min ordered (runs w)) w) ≡ true → in_order_since w ordered ≡ in_order w
-  unfolding in_order_since order_from choose
+  unfolding in_order_since given choose
   in_order_since_lem h = sym (rw h at (in_order_split 0 w (min ordered (runs w)) (omega arith)))
 
   alike : (x : Bool) → in_order w ≡ x

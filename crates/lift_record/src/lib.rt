@@ -6,13 +6,12 @@ mod ordering;
 mod placing;
 mod words;
 
-ghost use Rattle.std.specs.Prelude.{◌≡◌, true, ◌<◌};
-ghost use Rattle.lift_record.specs.Halving.{search_from_left};
-ghost use Rattle.lift_record.specs.AnswerLaws.{slid_place};
-ghost use Rattle.lift_record.specs.Record.{in_order, runs, found_at, search_left, slide_left, with_run};
-ghost use Rattle.lift_record.specs.Record.{appended, append_left, run_refusal};
+ghost use Rattle.std.specs.Prelude.{◌≡◌, ◌<◌};
+ghost use Rattle.lift_record.specs.Halving.{halved_place, search_from_left};
+ghost use Rattle.lift_record.specs.Record.{runs, found_at, search_left, slid_to, slide_left, with_run};
+ghost use Rattle.lift_record.specs.Record.{appended, append_left};
 
-use ordering::{end_before, in_order_since, in_turn};
+use ordering::{end_before, in_order_since};
 use placing::{halved_place, is_place, part, walk_on};
 use refusal::{BAD_TABLE, RECORD_ORDER};
 
@@ -32,11 +31,11 @@ pub struct Place {
     pub count: usize,
 }
 
-// Where a slide comes to: the place, and 1 where it searched afresh, else 0.
+// Which word of a run a search goes by.
 #[derive(Clone, Copy)]
-struct Slid {
-    place: Place,
-    afresh: u64,
+pub enum Edge {
+    Start,
+    End,
 }
 
 // What a search stores: 0 or the number of the refusal, the first run, the count.
@@ -76,30 +75,23 @@ pub fn search_from<'a>(
     ensures { found_at result.now found.new ≡ search_from_left list.now ordered now_ns
         width_ns }
 {
-    if in_order_since(list, ordered) {
-        let place = halved_place(list, now_ns, width_ns);
-        *found = [0, place.first as u64, place.count as u64];
-        return part(list, place);
-    }
-    *found = [RECORD_ORDER, 0, 0];
-    &list[..0]
-}
-
-// The place that a slide in a list in order comes to, and whether by a fresh search.
-fn slid_place(list: &[u64], width_ns: u64, earlier_ns: u64, place: Place, now_ns: u64) -> Slid
-    requires { in_order list.now ≡ true }
-    ensures { result ≡ slid_place list.now earlier_ns place now_ns width_ns }
-{
-    if now_ns < earlier_ns {
-        let place = halved_place(list, now_ns, width_ns);
-        return Slid { place, afresh: 1 };
-    }
-    if is_place(list, place, earlier_ns, width_ns) {
-        let place = walk_on(list, place, now_ns, width_ns);
-        return Slid { place, afresh: 0 };
+    if !in_order_since(list, ordered) {
+        *found = [RECORD_ORDER, 0, 0];
+        return &list[..0];
     }
     let place = halved_place(list, now_ns, width_ns);
-    Slid { place, afresh: 1 }
+    *found = [0, place.first as u64, place.count as u64];
+    part(list, place)
+}
+
+// A fresh search, said to be one.
+fn afresh<'a>(list: &'a [u64], now_ns: u64, width_ns: u64, slid: &mut SlidWords) -> &'a [u64]
+    ensures { found_at result.now slid.new ≡ slid_to list.now
+        (halved_place list.now now_ns width_ns) 1 }
+{
+    let place = halved_place(list, now_ns, width_ns);
+    *slid = [0, place.first as u64, place.count as u64, 1];
+    part(list, place)
 }
 
 // The part that a new reading names, from the place of an earlier reading with the same width.
@@ -114,14 +106,19 @@ pub fn slide<'a>(
     ensures { found_at result.now slid.new ≡ slide_left list.now earlier_ns place now_ns
         width_ns }
 {
-    if in_order_since(list, 0) {
-        let to = slid_place(list, width_ns, earlier_ns, place, now_ns);
-        let found = to.place;
-        *slid = [0, found.first as u64, found.count as u64, to.afresh];
-        return part(list, found);
+    if !in_order_since(list, 0) {
+        *slid = [RECORD_ORDER, 0, 0, 0];
+        return &list[..0];
     }
-    *slid = [RECORD_ORDER, 0, 0, 0];
-    &list[..0]
+    if now_ns < earlier_ns {
+        return afresh(list, now_ns, width_ns, slid);
+    }
+    if !is_place(list, place, earlier_ns, width_ns) {
+        return afresh(list, now_ns, width_ns, slid);
+    }
+    let next = walk_on(list, place, now_ns, width_ns);
+    *slid = [0, next.first as u64, next.count as u64, 0];
+    part(list, next)
 }
 
 // The words of run k.
@@ -135,27 +132,20 @@ fn put_run(list: &mut [u64], k: usize, start: u64, end: u64, thread: u64)
     list[at + THREAD] = thread;
 }
 
-// The number of the refusal of a run behind the first k of the list, 0 where it may stand there.
-fn run_refusal(list: &[u64], k: usize, start: u64, end: u64) -> u64
-    ensures { result ≡ run_refusal list.now k start end }
-{
-    if list.len() / RUN_WORDS <= k {
-        return BAD_TABLE;
-    }
-    if in_turn(end_before(list, k), start, end) {
-        return 0;
-    }
-    RECORD_ORDER
-}
-
 // A run behind the first `runs` of the list: 0, or the number of the refusal.
 pub fn append(list: &mut [u64], runs: u64, start: u64, end: u64, thread: u64) -> u64
     ensures { appended result list.new ≡ append_left list.old runs start end thread }
 {
     let k = runs as usize;
-    let number = run_refusal(list, k, start, end);
-    if number == 0 {
-        put_run(list, k, start, end, thread);
+    if list.len() / RUN_WORDS <= k {
+        return BAD_TABLE;
     }
-    number
+    if end < start {
+        return RECORD_ORDER;
+    }
+    if start < end_before(list, k) {
+        return RECORD_ORDER;
+    }
+    put_run(list, k, start, end, thread);
+    0
 }

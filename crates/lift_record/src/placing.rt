@@ -1,29 +1,29 @@
 // The place of a part: found by halving, judged by the runs beside it, and moved on run by run.
 ghost use Rattle.std.specs.Prelude.{◌≡◌, ◌+◌, ◌-◌, ◌≤◌, max};
 ghost use Rattle.lift_record.specs.Halving.{precedes, halved, halved_place};
-ghost use Rattle.lift_record.specs.Neighbours.{First, is_first, within, is_place};
-ghost use Rattle.lift_record.specs.Record.{start_word, end_word, runs, part_at};
+ghost use Rattle.lift_record.specs.Neighbours.{First, is_first, is_place};
+ghost use Rattle.lift_record.specs.Record.{runs, part_at};
+ghost use Rattle.lift_record.specs.declared.Edge.TheVariants as edge;
 
 use crate::words::word;
-use crate::{END, Place, RUN_WORDS, START};
+use crate::{END, Edge, Place, RUN_WORDS, START};
 use time::{max_of, saturating_sub};
 
-// Whether a run of the list lies before what is sought, by one of its words: START, it starts before a time; END, it
-// ends at the time or before.
-fn precedes(list: &[u64], side: usize, time: u64, i: usize) -> bool
+// Whether a run of the list lies before what is sought: it ended at a time or before, or it started before it.
+fn precedes(list: &[u64], side: Edge, time: u64, i: usize) -> bool
     ensures { result ≡ precedes list.now side time i }
 {
     if list.len() / RUN_WORDS <= i {
         return false;
     }
-    if side == START {
-        return word(list, i, START) < time;
+    match side {
+        Edge::Start => word(list, i, START) < time,
+        Edge::End => word(list, i, END) <= time,
     }
-    word(list, i, END) <= time
 }
 
 // The first run from run `lo` on that does not precede, by halving.
-fn halve(list: &[u64], side: usize, time: u64, mut lo: usize) -> usize
+fn halve(list: &[u64], side: Edge, time: u64, mut lo: usize) -> usize
     ensures { result ≡ halved (precedes list.now side time) lo (runs list.now) }
 {
     let mut hi = list.len() / RUN_WORDS;
@@ -43,8 +43,8 @@ pub(crate) fn halved_place(list: &[u64], now_ns: u64, width_ns: u64) -> Place
     ensures value { result ≡ halved_place list.now now_ns width_ns }
     ensures count_bound { result.first + result.count ≤ runs list.now }
 {
-    let first = halve(list, END, saturating_sub(now_ns, width_ns), 0);
-    let behind = halve(list, START, now_ns, first);
+    let first = halve(list, Edge::End, saturating_sub(now_ns, width_ns), 0);
+    let behind = halve(list, Edge::Start, now_ns, first);
     Place {
         first,
         count: behind - first,
@@ -52,7 +52,7 @@ pub(crate) fn halved_place(list: &[u64], now_ns: u64, width_ns: u64) -> Place
 }
 
 // The first run from run i on that does not precede, run by run.
-fn walk(list: &[u64], side: usize, time: u64, mut i: usize) -> usize
+fn walk(list: &[u64], side: Edge, time: u64, mut i: usize) -> usize
     ensures { First (precedes list.now side time) i result }
 {
     while precedes(list, side, time, i) {
@@ -64,15 +64,20 @@ fn walk(list: &[u64], side: usize, time: u64, mut i: usize) -> usize
 // The place that a reading not before the one of this place names.
 pub(crate) fn walk_on(list: &[u64], place: Place, now_ns: u64, width_ns: u64) -> Place
     requires { place.first + place.count ≤ runs list.now }
-    ensures first { First (precedes list.now end_word (now_ns - width_ns)) place.first result.first }
-    ensures first_2 { First (precedes list.now start_word now_ns)
+    ensures first { First (precedes list.now edge.End (now_ns - width_ns)) place.first result.first }
+    ensures first_2 { First (precedes list.now edge.Start now_ns)
         (max result.first (place.first + place.count)) (result.first + result.count) }
     ensures count_bound { result.first + result.count ≤ runs list.now }
 {
-    let first = walk(list, END, saturating_sub(now_ns, width_ns), place.first);
+    let first = walk(
+        list,
+        Edge::End,
+        saturating_sub(now_ns, width_ns),
+        place.first,
+    );
     let passed = place.first + place.count;
     let from = max_of(first as u64, passed as u64);
-    let behind = walk(list, START, now_ns, from as usize);
+    let behind = walk(list, Edge::Start, now_ns, from as usize);
     Place {
         first,
         count: behind - first,
@@ -80,7 +85,7 @@ pub(crate) fn walk_on(list: &[u64], place: Place, now_ns: u64, width_ns: u64) ->
 }
 
 // Whether a run is the first from `from` on that does not precede, by itself and the run before it.
-fn is_first(list: &[u64], side: usize, time: u64, from: usize, at: usize) -> bool
+fn is_first(list: &[u64], side: Edge, time: u64, from: usize, at: usize) -> bool
     ensures { result ≡ is_first (precedes list.now side time) from at }
 {
     if precedes(list, side, time, at) {
@@ -92,27 +97,34 @@ fn is_first(list: &[u64], side: usize, time: u64, from: usize, at: usize) -> boo
     precedes(list, side, time, at - 1)
 }
 
-// Whether two numbers, which may be any, are a place among so many runs. They are added only where this holds.
-fn within(first: usize, count: usize, runs: usize) -> bool
-    ensures { result ≡ within first count runs }
-{
-    if runs < first {
-        return false;
-    }
-    count <= runs - first
-}
-
-// Whether a place is a reading's, by the four runs beside its ends.
+// Whether a place, which may be any two numbers, is a reading's, by the four runs beside its ends. The two are added
+// only where their sum is known to fit.
 pub(crate) fn is_place(list: &[u64], place: Place, now_ns: u64, width_ns: u64) -> bool
     ensures { result ≡ is_place list.now place now_ns width_ns }
 {
-    if within(place.first, place.count, list.len() / RUN_WORDS) {
-        let behind = place.first + place.count;
-        if is_first(list, END, saturating_sub(now_ns, width_ns), 0, place.first) {
-            return is_first(list, START, now_ns, place.first, behind);
-        }
+    let count = list.len() / RUN_WORDS;
+    if count < place.first {
+        return false;
     }
-    false
+    if count - place.first < place.count {
+        return false;
+    }
+    if !is_first(
+        list,
+        Edge::End,
+        saturating_sub(now_ns, width_ns),
+        0,
+        place.first,
+    ) {
+        return false;
+    }
+    is_first(
+        list,
+        Edge::Start,
+        now_ns,
+        place.first,
+        place.first + place.count,
+    )
 }
 
 // The words of a place of the list.

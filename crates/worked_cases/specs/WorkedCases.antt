@@ -58,10 +58,8 @@ use Rattle.runtime.specs.Prepare as prepare
 use Rattle.runtime.specs.Account as account
 use Rattle.runtime.specs.Deadline as due
 use Rattle.lift_record.specs.Record.{in_order_from, ended_by, started_before, place_of, part_at, placed, search_left}
-use Rattle.lift_record.specs.Record.{same_place, is_afresh, slid_to, slide_left, end_before, with_run, in_turn, run_refusal}
-use Rattle.lift_record.specs.Record.{append_left}
-use Rattle.lift_record.specs.Halving.{edge_before, precedes, halving, halved, halved_place, order_from, in_order_since}
-use Rattle.lift_record.specs.Halving.{search_from_left}
+use Rattle.lift_record.specs.Record.{same_place, is_afresh, slid_to, slide_left, end_before, with_run, append_left}
+use Rattle.lift_record.specs.Halving.{edge_before, precedes, halving, halved, halved_place, in_order_since, search_from_left}
 use Rattle.worked_cases.specs.Rows.{Row, all_as_said}
 use Rattle.worked_cases.specs.LeafCases.{budget_rows, window_rows}
 use Rattle.worked_cases.specs.TreeCases.{tree_rows}
@@ -106,6 +104,5 @@ unfolding choose if_less if_equal given compare_numbers then_by compare_parts on
     account.settled account.account_current account.finishing account.finish_turn due.due_with due.due_without due.due_at
     due.due_of due.armed due.refresh_deadline call.next_deadline_call windows.next_deadline windows.at_renewal earliest_of
     unless_back in_order_from ended_by started_before place_of part_at placed search_left same_place is_afresh slid_to slide_left
-    end_before with_run in_turn run_refusal append_left edge_before precedes halving halved halved_place order_from in_order_since
-    search_from_left
+    end_before with_run append_left edge_before precedes halving halved halved_place in_order_since search_from_left
 worked_cases = refl

@@ -12,8 +12,8 @@ search_from_spec =
     tie.close
     (tie.spec
     (λ c κs. tt)
+    (λ c. omega arith)
+    (λ c. search cases)
     (λ c κs. tt)
     (λ c κs. omega arith)
-    (λ c. search (cases, placed_at))
-    (λ c. omega arith)
-    (λ c. search cases))
+    (λ c. search (cases, placed_at)))

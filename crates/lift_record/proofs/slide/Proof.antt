@@ -1,6 +1,6 @@
 -- Each way to an answer by its law.
 use native.Mathlib.Omega.{arith}
-use Rattle.lift_record.specs.AnswerLaws.{slides, judged_in_order, slid_inside}
+use Rattle.lift_record.specs.AnswerLaws.{slides, place_inside}
 use Rattle.lift_record.proofs.slide.Statement.{statement}
 use Rattle.lift_record.proofs.slide.Tie as tie
 
@@ -9,8 +9,13 @@ slide_spec =
     tie.close
     (tie.spec
     (λ c κs. tt)
-    (λ c κs. search judged_in_order)
-    (λ c κs. search slid_inside)
-    (λ c. search slides)
     (λ c. omega arith)
+    (λ c. search slides)
+    (λ c κs. tt)
+    (λ c. search slides)
+    (λ c κs. tt)
+    (λ c κs. tt)
+    (λ c. search slides)
+    (λ c κs. search place_inside)
+    (λ c κs. omega arith)
     (λ c. search slides))

@@ -1,4 +1,4 @@
--- By the end before and its two words.
+-- In the order of the definition.
 use native.Mathlib.Omega.{arith}
 use Rattle.lift_record.specs.OrderLaws.{following}
 use Rattle.lift_record.proofs.ordering.follows.Statement.{statement}
@@ -9,7 +9,6 @@ follows_spec =
     tie.close
     (tie.spec
     (λ c κs. omega arith)
+    (λ c. search following)
     (λ c κs. omega arith)
-    (λ c κs. omega arith)
-    (λ c κs. tt)
     (λ c. search following))

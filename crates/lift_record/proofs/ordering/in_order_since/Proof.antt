@@ -1,6 +1,6 @@
 -- From the run that is the first to be judged.
 use native.Mathlib.Omega.{arith}
-use Rattle.lift_record.specs.OrderLaws.{since}
+use Rattle.lift_record.specs.OrderLaws.{order_since}
 use Rattle.lift_record.proofs.ordering.in_order_since.Statement.{statement}
 use Rattle.lift_record.proofs.ordering.in_order_since.Tie as tie
 
@@ -9,10 +9,6 @@ in_order_since_spec =
     tie.close
     (tie.spec
     (λ c κs. tt)
-    (λ c. omega arith)
-    (λ c. search since)
     (λ c κs. omega arith)
-    (λ c. omega arith)
     (λ c κs. omega arith)
-    (λ c. search since)
-    (λ c. search since))
+    (λ c. search order_since))

@@ -4,7 +4,7 @@ use native.Mathlib.Omega.{arith}
 use mathlib.Core.Path.{◌≡◌}
 use Rattle.lift_record.specs.Record.{runs}
 use Rattle.lift_record.specs.Halving.{precedes, halved}
-use Rattle.lift_record.specs.PlacingLaws.{go_up, go_down, there}
+use Rattle.lift_record.specs.PlacingLaws.{halvings}
 use Rattle.lift_record.proofs.placing.halve.Statement.{statement}
 use Rattle.lift_record.proofs.placing.halve.Tie as tie
 
@@ -27,7 +27,7 @@ halve_spec =
     (λ c κs. tt)
     (λ c. omega arith)
     (λ c. omega arith)
-    (λ c. search go_up)
+    (λ c. search halvings)
     (λ c. omega arith)
-    (λ c. (omega arith, search go_down))
-    (λ c. search there))
+    (λ c. (omega arith, search halvings))
+    (λ c. search halvings))

@@ -1,4 +1,4 @@
--- Behind the list no run precedes; else by its word.
+-- Behind the list no run precedes; else by the edge.
 use native.Mathlib.Omega.{arith}
 use Rattle.lift_record.specs.PlacingLaws.{edges}
 use Rattle.lift_record.proofs.placing.precedes.Statement.{statement}
@@ -9,7 +9,9 @@ precedes_spec =
     tie.close
     (tie.spec
     (λ c. search edges)
+    (λ c. omega arith)
+    (λ c κs. omega arith)
+    (λ c. omega arith)
     (λ c κs. omega arith)
     (λ c. search edges)
-    (λ c κs. omega arith)
     (λ c. search edges))

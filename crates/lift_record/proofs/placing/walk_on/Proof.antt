@@ -14,4 +14,4 @@ walk_on_spec =
     (λ c κs. tt)
     (λ c κs. tt)
     (λ c. search walk_rises)
-    (λ c. (search walk_end, (search walk_start, search walk_inside))))
+    (λ c. search (walk_inside, walk_end, walk_start)))
