@@ -1,0 +1,11 @@
+-- Each arm is the definition's clause for its variant.
+use Rattle.row_entries.specs.Words.{link_words}
+use Rattle.row_entries.proofs.link_words.Goals as goal
+
+pub returns-in-None : goal.returns-in-None
+unfolding link_words
+returns-in-None c = rw c.in-None.is search
+
+pub returns-in-Some : goal.returns-in-Some
+unfolding link_words
+returns-in-Some c = rw c.in-Some.is search
