@@ -1,5 +1,6 @@
--- Laws by which the calls meet their contracts: each way to an answer.
-use Prim.Native.Nat.{ℕ, suc, ◌+◌, ◌-◌, ◌*◌, ◌<◌, ◌≤◌, max}
+-- Laws by which the calls meet their contracts: each way to an answer, but for those that lean on what a search finds,
+-- which are in proofs/AnswerLaws.antt.
+use Prim.Native.Nat.{ℕ, suc, ◌+◌, ◌-◌, ◌*◌, ◌<◌, ◌≤◌}
 use native.Mathlib.Omega.{arith}
 use Rattle.std.specs.Prelude.{◌≡◌, Bool, false, not, length, set, ltb}
 use Rattle.std.proofs.Math.Path.{refl, sym}
@@ -7,18 +8,16 @@ use Rattle.std.proofs.Common.{ap, ◌∙◌, length-set}
 use Rattle.std.proofs.Math.Bool.{true}
 use mathlib.Core.List.{List, [], ◌∷◌}
 use Rattle.std.proofs.lemmas.List.Edits.{sets-eq}
-use borrow.Author.Tests.{ltb-false, lt-ltb, le-ltb, not-true, not-false}
+use borrow.Author.Tests.{ltb-false, not-true, not-false}
 use Rattle.refusal.specs.Answer.{bad_table, record_order}
 use Rattle.refusal.specs.Cases.{choose, if_less, never, less, not_less, is}
 use Rattle.lift_record.specs.declared.Place.{Place}
-use Rattle.lift_record.specs.declared.Edge.TheVariants as edge
-use Rattle.lift_record.specs.Record.{runs, in_order, place, place_of, part_at, is_afresh}
-use Rattle.lift_record.specs.Record.{Found, found_at, placed, search_left, slid_to, slide_left}
+use Rattle.lift_record.specs.Record.{runs, part_at}
+use Rattle.lift_record.specs.Record.{Found, found_at, placed, slid_to, slide_left}
 use Rattle.lift_record.specs.Record.{end_before, with_run, appended, append_left}
-use Rattle.lift_record.specs.Halving.{precedes, halved_place, in_order_since, search_from_left}
-use Rattle.lift_record.specs.Neighbours.{First, is_place}
-use Rattle.lift_record.specs.SearchLaws.{halved_place_lem, in_order_since_none, search_from_none}
-use Rattle.lift_record.specs.SlideLaws.{is_place_lem, same_is, walked_on}
+use Rattle.lift_record.specs.Halving.{in_order_since}
+use Rattle.lift_record.specs.Neighbours.{is_place}
+use Rattle.lift_record.specs.SearchLaws.{in_order_since_none}
 
 -- The words of a place that was found.
 module _ (w : List ℕ) {r : List ℕ} {q p : Place} (e : q ≡ p) (h : r ≡ part_at w q) where
@@ -29,9 +28,6 @@ module _ (w : List ℕ) {r : List ℕ} {q p : Place} (e : q ≡ p) (h : r ≡ pa
   pub slid_at : (a : ℕ) → found_at r (0 ∷ (q.first ∷ (q.count ∷ (a ∷ [])))) ≡ slid_to w p a
   unfolding slid_to
   slid_at a = rw (h, e) refl
-
-pub searched : {y : Found} (w : List ℕ) (now width : ℕ) → y ≡ search_from_left w 0 now width → y ≡ search_left w now width
-searched w now width e = e ∙ search_from_none w now width
 
 -- A place that is right lies in the list.
 pub place_inside : {d : Bool} (w : List ℕ) (p : Place) (now width : ℕ) → d ≡ is_place w p now width → not d ≡ false
@@ -51,59 +47,6 @@ module _ (w : List ℕ) (earlier : ℕ) (p : Place) (now width : ℕ) where
       → y ≡ found_at [] (record_order ∷ (0 ∷ (0 ∷ (0 ∷ [])))) → y ≡ slide_left w earlier p now width
   unfolding slide_left choose
   slide_disordered {y} {b} judged n h = rw (sym (in_order_since_none w) ∙ sym judged ∙ not-true b n) h
-
-  in_order_lem : {b : Bool} → b ≡ in_order_since w 0 → not b ≡ false → in_order w ≡ true
-  in_order_lem {b} judged n = sym (in_order_since_none w) ∙ sym judged ∙ not-false b n
-
-  abbrev said : Bool → Found
-  said x = slid_to w (place_of w now width) (choose x 1 0)
-
-  slide_ordered : {y : Found} → in_order w ≡ true → y ≡ said (is_afresh w earlier p now width)
-      → y ≡ slide_left w earlier p now width
-  unfolding slide_left choose
-  slide_ordered o h = rw o h
-
-  fresh : {y : Found} → in_order w ≡ true → y ≡ slid_to w (halved_place w now width) 1 → y ≡ said true
-  unfolding choose
-  fresh o h = rw (halved_place_lem w now width o) at h
-
-  pub slide_back : {y : Found} {b : Bool} → b ≡ in_order_since w 0 → not b ≡ false → now < earlier
-      → y ≡ slid_to w (halved_place w now width) 1 → y ≡ slide_left w earlier p now width
-  unfolding is_afresh if_less choose
-  slide_back judged n l h =
-      let o = in_order_lem judged n in slide_ordered o (rw (lt-ltb now earlier l) (fresh o h))
-
-  afresh_by : {d : Bool} → in_order w ≡ true → earlier ≤ now → d ≡ is_place w p earlier width
-      → is_afresh w earlier p now width ≡ choose d false true
-  unfolding is_afresh if_less choose
-  afresh_by o l asked = rw (le-ltb now earlier l, asked ∙ is_place_lem w p earlier width o) refl
-
-  pub slide_afresh : {y : Found} {b d : Bool} → b ≡ in_order_since w 0 → not b ≡ false → earlier ≤ now
-      → d ≡ is_place w p earlier width → not d ≡ true → y ≡ slid_to w (halved_place w now width) 1
-      → y ≡ slide_left w earlier p now width
-  unfolding choose
-  slide_afresh {y} {b} {d} judged n l asked m h =
-      let o = in_order_lem judged n in slide_ordered o (rw (afresh_by o l asked, not-true d m) (fresh o h))
-
-  pub slide_on : {y : Found} {b d : Bool} (q : Place) → b ≡ in_order_since w 0 → not b ≡ false → earlier ≤ now
-      → d ≡ is_place w p earlier width → not d ≡ false
-      → First (precedes w edge.End (now - width)) p.first q.first
-      → First (precedes w edge.Start now) (max q.first (p.first + p.count)) (q.first + q.count)
-      → y ≡ slid_to w q 0 → y ≡ slide_left w earlier p now width
-  unfolding choose
-  slide_on {y} {b} {d} q judged n l asked m E S h =
-      slide_ordered o (rw (afresh_by o l asked, not-false d m) (rw there at h))
-    where
-      o : in_order w ≡ true
-      o = in_order_lem judged n
-
-      known : p ≡ place_of w earlier width
-      known = same_is (sym (is_place_lem w p earlier width o) ∙ sym asked ∙ not-false d m)
-
-      there : q ≡ place_of w now width
-      there = walked_on w earlier now width p.first p.count q.first q.count l known E S
-
-pub ruleset slides = (slide_disordered, slide_back, slide_afresh, slide_on, slid_at)
 
 -- The three words of a run, one behind the other: each stands in the list, and they make the run.
 module _ (w : List ℕ) (k : ℕ) (l : k < runs w) where

@@ -31,7 +31,8 @@ unfolding append_left if_less given choose with_run
 accepted w k start end thread v h =
     go (ltb k (runs w)) refl (ltb end start) refl (ltb start (end_before 0 w k)) refl h
   where
-    go : (x : Bool) → ltb k (runs w) ≡ x → (y : Bool) → ltb end start ≡ y → (z : Bool) → ltb start (end_before 0 w k) ≡ z
+    go : (x : Bool) → ltb k (runs w) ≡ x → (y : Bool) → ltb end start ≡ y
+        → (z : Bool) → ltb start (end_before 0 w k) ≡ z
         → choose x (choose y (appended record_order w)
         (choose z (appended record_order w) (appended 0 (with_run w k start end thread)))) (appended bad_table w)
         ≡ appended 0 v

@@ -48,4 +48,5 @@ in_order_since w ordered = given (min ordered (runs w)) (λ k. in_order_from (en
 -- RecordOrder for a broken rest or word count, else the halved place (SPECIFICATION 14.6).
 unfoldable pub search_from_left : List ℕ → ℕ → ℕ → ℕ → Found
 search_from_left w ordered now width =
-    choose (in_order_since w ordered) (placed w (halved_place w now width)) (found_at [] (record_order ∷ (0 ∷ (0 ∷ []))))
+    choose (in_order_since w ordered) (placed w (halved_place w now width))
+    (found_at [] (record_order ∷ (0 ∷ (0 ∷ []))))

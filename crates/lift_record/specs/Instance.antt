@@ -1,26 +1,13 @@
--- A record that meets the theorems' premises, and what they say of it.
+-- A record that meets the theorems' premises, and what they say of it; proofs/Instance.antt has the rest.
 use Rattle.std.specs.Prelude.{ℕ, ◌≡◌, refl, true, List, [], ◌∷◌, ◌++◌, take}
 use Rattle.refusal.specs.Cases.{choose, given, if_less}
-use Rattle.lift_record.specs.Record.{in_order, in_order_from, end_before, ended_by, started_before, place, place_of}
-use Rattle.lift_record.specs.Record.{search_left, appended, with_run, append_left}
-use Rattle.lift_record.specs.Halving.{search_from_left}
-use Rattle.lift_record.specs.Part.{IsPart, place_is_part}
-use Rattle.lift_record.specs.SearchLaws.{search_from}
+use Rattle.lift_record.specs.Record.{in_order, in_order_from, end_before}
+use Rattle.lift_record.specs.Record.{with_run, append_left}
 use Rattle.lift_record.specs.Appending.{Accepted, accepted, append_in_order}
 
 -- Six runs, two of them of no length.
 abbrev pub lift : List ℕ
 lift = 0 ∷ 4 ∷ 0 ∷ 4 ∷ 9 ∷ 1 ∷ 10 ∷ 10 ∷ 2 ∷ 12 ∷ 20 ∷ 0 ∷ 20 ∷ 20 ∷ 1 ∷ 25 ∷ 30 ∷ 2 ∷ []
-
--- At 15 with a width of 6 two runs, from the third on, are all and only those that are named.
-pub two_runs : IsPart lift 15 6 (place 2 2)
-unfolding in_order_from if_less choose given place_of ended_by started_before
-two_runs = place_is_part lift 15 6 refl
-
--- With five runs known to be in order.
-pub known_runs : search_from_left lift 5 15 6 ≡ search_left lift 15 6
-unfolding in_order_from if_less choose
-known_runs = search_from lift 5 15 6 refl
 
 -- The sixth appended to the first five.
 pub sixth_run : Accepted (take 15 lift ++ 0 ∷ 0 ∷ 0 ∷ []) 5 25 30 2 lift

@@ -10,9 +10,9 @@ pub mod FirstLaws
 pub mod RunsLaws
 -- All and only the runs that the request names.
 pub mod Part
--- The search that judges order from a run on only is the search.
+-- Order from a run on only is that of the whole list.
 pub mod SearchLaws
--- What a slide asks and walks.
+-- What a slide asks of the two runs beside a place's end.
 pub mod SlideLaws
 -- The pass over the runs, and a run more.
 pub mod OrderLaws

@@ -15,7 +15,8 @@ use Rattle.lift_record.specs.Halving.{in_order_since}
 
 module _ (w : List ℕ) (i : ℕ) where
   -- The words of run i stand before those of the next.
-  run_and_rest : i < runs w → drop (3 * i) w ≡ start_of w i ∷ (end_of w i ∷ (get_or w (3 * i + 2) 0 ∷ drop (3 * (i + 1)) w))
+  run_and_rest : i < runs w
+      → drop (3 * i) w ≡ start_of w i ∷ (end_of w i ∷ (get_or w (3 * i + 2) 0 ∷ drop (3 * (i + 1)) w))
   run_and_rest l =
       let e : 3 * (i + 1) ≡ suc (suc (suc (3 * i))) = omega arith in
       let z : 3 * i + 0 ≡ 3 * i = omega arith in
@@ -130,7 +131,8 @@ unfolding four_follow
 four_step w i last l =
     let k : i + 2 + 1 ≡ i + 3 = omega arith in
     let j : i + 2 + 2 ≡ i + 4 = omega arith in
-    joined _ _ _ (pair_step w i last (omega arith)) (rw (k, j) at (pair_step w (i + 2) (end_of w (i + 1)) (omega arith)))
+    joined _ _ _ (pair_step w i last (omega arith))
+    (rw (k, j) at (pair_step w (i + 2) (end_of w (i + 1)) (omega arith)))
 
 -- What is judged of the next runs, b, decides: where they are out of order it is all, else the rest is left.
 module _ {before b x judged : Bool} (rest : Bool) (so_far : before ≡ x) (step : before ≡ choose judged rest false)

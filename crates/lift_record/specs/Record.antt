@@ -1,5 +1,6 @@
 -- The lift record: a list of runs, and the part of it that a reading and a width name. Document 02, T-01.
-use Rattle.std.specs.Prelude.{ℕ, zero, suc, ◌-◌, ◌*◌, ◌+◌, ◌/◌, Bool, true, false, List, [], ◌∷◌, ◌++◌, length, get_or, take, drop, eqb}
+use Rattle.std.specs.Prelude.{ℕ, zero, suc, ◌-◌, ◌*◌, ◌+◌, ◌/◌, Bool, true, false, eqb}
+use Rattle.std.specs.Prelude.{List, [], ◌∷◌, ◌++◌, length, get_or, take, drop}
 use Rattle.refusal.specs.Answer.{bad_table, record_order}
 use Rattle.refusal.specs.Cases.{choose, given, if_less, if_equal}
 use Rattle.lift_record.specs.declared.Place.{Place}

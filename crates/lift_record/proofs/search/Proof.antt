@@ -1,5 +1,5 @@
 -- With no run known to be in order.
-use Rattle.lift_record.specs.AnswerLaws.{searched}
+use Rattle.lift_record.proofs.AnswerLaws.{searched}
 use borrow.Author.Rules.{rules}
 use Rattle.lift_record.proofs.search.Statement.{statement}
 use Rattle.lift_record.proofs.search.Tie as tie

@@ -1,6 +1,7 @@
 -- Each way to an answer by its law.
 use native.Mathlib.Omega.{arith}
-use Rattle.lift_record.specs.AnswerLaws.{slides, place_inside}
+use Rattle.lift_record.specs.AnswerLaws.{place_inside}
+use Rattle.lift_record.proofs.AnswerLaws.{slides}
 use Rattle.lift_record.proofs.slide.Statement.{statement}
 use Rattle.lift_record.proofs.slide.Tie as tie
 
