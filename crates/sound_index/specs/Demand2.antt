@@ -36,6 +36,7 @@ use Rattle.sound_index.specs.Outcomes.{OnlyLinks, Inserted, Removed, least_of}
 
 in_inside : (t : List ThreadRecord) (j : ℕ) (x : Tree) (lo hi : ℕ) (ranks key : ℕ → ℕ) → In j x
     → Represents ranks key t lo hi x → j < length t
+in_inside t j leaf lo hi ranks key x3 p = elim x3 [ ]
 in_inside t j (node l i r) lo hi ranks key here p = links_got_within t j p.cell
 in_inside t j (node l i r) lo hi ranks key (in_left m) p = in_inside t j l lo (key i) ranks key m p.left
 in_inside t j (node l i r) lo hi ranks key (in_right m) p = in_inside t j r (suc (key i)) hi ranks key m p.right
