@@ -1,5 +1,5 @@
 -- Reading a line by a form: what its words stand for, the value of each, and where and why a line goes no further.
-use Rattle.std.specs.Prelude.{ℕ, ◌+◌, ◌-◌, Bool, true, false, List, [], ◌∷◌, eqb, length, take, drop, get_or, set}
+use Rattle.std.specs.Prelude.{ℕ, ◌+◌, Bool, true, false, List, [], ◌∷◌, eqb, length, take, drop, get_or, set}
 use Rattle.refusal.specs.Cases.{choose, if_less, if_equal, given}
 use Rattle.text.specs.Reading.{before, run, same_bytes, most, on_decimal, decimal_of, nanoseconds_of}
 use Rattle.text.specs.Lists.{names_of, place_in}

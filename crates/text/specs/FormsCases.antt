@@ -6,7 +6,6 @@ use Rattle.text.specs.Ascii.{ascii}
 use Rattle.text.specs.Reading.{before, run, same_bytes, most, state_after, state_of, with_byte, denoted, fitting}
 use Rattle.text.specs.Reading.{on_decimal, decimal_of, scaled, in_unit, nanoseconds_of}
 use Rattle.text.specs.Lists.{names_of, joined, place_in}
-use Rattle.text.specs.declared.reading.Decimal.{Decimal}
 use Rattle.text.specs.declared.reading.Decimal.TheVariants as decimal
 use Rattle.text.specs.declared.forms.Cause.TheVariants as cause
 use Rattle.text.specs.Forms.{Fitted, fitted, next_word, behind_word, limit_of, limited, name_of, known_of, is_name}
@@ -28,9 +27,10 @@ pub forms_judged :
     ∷ fitted cause.Goes 5 0 (0 ∷ 0 ∷ 30 ∷ 88 ∷ 0 ∷ 9 ∷ 9 ∷ [])
     ∷ fitted cause.Goes 2 0 (7 ∷ 1500000 ∷ 9 ∷ 9 ∷ 9 ∷ 9 ∷ 9 ∷ [])
     ∷ []
-unfolding fit_from on_step step_by end_of last_of asked_of on_decimal value_of quantity_of limit_of limited one_of letter_of new_name
-    is_name known_of name_of next_word behind_word names_of joined place_in before run same_bytes decimal_of state_of state_after
-    denoted with_byte fitting nanoseconds_of in_unit scaled choose if_less if_equal given
+unfolding fit_from on_step step_by end_of last_of asked_of on_decimal value_of quantity_of limit_of limited one_of
+    letter_of new_name is_name known_of name_of next_word behind_word names_of joined place_in before run same_bytes
+    decimal_of state_of state_after denoted with_byte fitting nanoseconds_of in_unit scaled choose if_less if_equal
+    given
 forms_judged = refl
 
 -- A word too few, one too many, and one that is none of the form's; a name that is taken, none of those that there are,
@@ -61,9 +61,10 @@ pub mistakes_judged :
     ∷ fitted cause.AboveLimit 1 6 (0 ∷ 9 ∷ 9 ∷ 9 ∷ 9 ∷ 9 ∷ 9 ∷ [])
     ∷ fitted cause.AboveLimit 0 12 (9 ∷ 9 ∷ 9 ∷ 9 ∷ 9 ∷ 9 ∷ 9 ∷ [])
     ∷ []
-unfolding fit_from on_step step_by end_of last_of asked_of on_decimal value_of quantity_of limit_of limited one_of letter_of new_name
-    is_name known_of name_of next_word behind_word names_of joined place_in before run same_bytes decimal_of state_of state_after
-    denoted with_byte fitting nanoseconds_of in_unit scaled choose if_less if_equal given
+unfolding fit_from on_step step_by end_of last_of asked_of on_decimal value_of quantity_of limit_of limited one_of
+    letter_of new_name is_name known_of name_of next_word behind_word names_of joined place_in before run same_bytes
+    decimal_of state_of state_after denoted with_byte fitting nanoseconds_of in_unit scaled choose if_less if_equal
+    given
 mistakes_judged = refl
 
 -- Times with each unit and without, at the greatest and above it; then what is no time.
@@ -100,6 +101,6 @@ pub times_judged :
     ∷ decimal.None
     ∷ decimal.None
     ∷ []
-unfolding nanoseconds_of in_unit scaled on_decimal decimal_of state_of state_after denoted with_byte fitting choose if_less
-    if_equal given
+unfolding nanoseconds_of in_unit scaled on_decimal decimal_of state_of state_after denoted with_byte fitting choose
+    if_less if_equal given
 times_judged = refl

@@ -24,7 +24,8 @@ no_byte (x ∷ rest) i h = absurd (omega arith)
 
 -- The word at the place that was found, if it is there.
 module _ (list word : List ℕ) (n start end : ℕ) {r : Bool} (place : n ≡ place_in word (names_of 124 list))
-    (found : part start end list ≡ get_or (names_of 124 list) n []) (is : r ≡ same_bytes (part start end list) word) where
+    (found : part start end list ≡ get_or (names_of 124 list) n [])
+    (is : r ≡ same_bytes (part start end list) word) where
   there : one_of list word ≡ choose r (step.Taken n) (step.Over cause.OtherWord)
   unfolding one_of given
   there = rw (is, found, place)

@@ -1,5 +1,5 @@
 -- The laws by which printing meets its promises.
-use Rattle.std.specs.Prelude.{ℕ, ◌≤◌, ◌<◌, ◌≡◌, refl, List, length}
+use Rattle.std.specs.Prelude.{ℕ, ◌≤◌, ◌<◌, ◌≡◌, List, length}
 use Rattle.std.proofs.Common.{ap, ◌∙◌, lt-ltb, le-ltb}
 use Rattle.refusal.specs.Cases.{if_less, choose}
 use Rattle.text.specs.Writing.{Page, page}

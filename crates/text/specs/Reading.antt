@@ -1,5 +1,5 @@
 -- The pieces of a text, and the numbers and times that words denote.
-use Rattle.std.specs.Prelude.{ℕ, zero, suc, ◌+◌, ◌-◌, ◌*◌, Bool, true, false, List, [], ◌∷◌, length, take, get_or}
+use Rattle.std.specs.Prelude.{ℕ, suc, ◌+◌, ◌-◌, ◌*◌, Bool, true, false, List, [], ◌∷◌, length, take, get_or}
 use Rattle.refusal.specs.Cases.{if_less, if_equal, given}
 use Rattle.text.specs.declared.reading.Decimal.{Decimal}
 use Rattle.text.specs.declared.reading.Decimal.TheVariants as decimal

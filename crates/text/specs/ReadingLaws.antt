@@ -1,5 +1,5 @@
 -- Laws of pieces and numbers: how each loop goes from byte to byte, and what it comes to.
-use Prim.Native.Nat.{ℕ, zero, suc, ◌+◌, ◌-◌, ◌*◌, ◌/◌, ◌<◌, ◌≤◌}
+use Prim.Native.Nat.{ℕ, suc, ◌+◌, ◌-◌, ◌*◌, ◌/◌, ◌<◌, ◌≤◌}
 use native.Mathlib.Omega.{arith}
 use Rattle.std.proofs.Math.Numerals.{add-one}
 use Rattle.std.proofs.Common.{mul_comm, le-div_iff_mul-le, div-lt_iff_lt-mul, ap, ◌∙◌, ltb-true, eqb-true}

@@ -9,7 +9,7 @@ abbrev pub label_text : List ℕ
 label_text = ascii "<text x='%a' y='%b'>%@</text>\n"
 
 abbrev pub mark_text : List ℕ
-mark_text = ascii "<path d='M%a %b l_40 -70 h80 z'/>\n"
+mark_text = ascii "<path d='M%a %b l-40 -70 h80 z'/>\n"
 
 abbrev pub dashes_text : List ℕ
-dashes_text = ascii "<path d='M%a %b V%c' stroke='#707070' stroke_dasharray='50 30'/>\n"
+dashes_text = ascii "<path d='M%a %b V%c' stroke='#707070' stroke-dasharray='50 30'/>\n"

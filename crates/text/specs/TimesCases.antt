@@ -1,5 +1,5 @@
 -- Times and texts as they are written, on which the definitions are judged.
-use Rattle.std.specs.Prelude.{ℕ, ◌≡◌, refl, [], ◌∷◌, ◌++◌}
+use Rattle.std.specs.Prelude.{◌≡◌, refl, [], ◌∷◌}
 use Rattle.refusal.specs.Cases.{choose, if_less, if_equal}
 use Rattle.text.specs.Ascii.{ascii}
 use Rattle.text.specs.Writing.{digits_within, digits_of}

@@ -1,9 +1,9 @@
 -- Laws of times as they are written.
 use Rattle.std.specs.Prelude.{ℕ, zero, suc, ◌+◌, ◌-◌, ◌*◌, ◌/◌, ◌%◌, ◌<◌, ◌≤◌, ◌≡◌, refl, List, [], ◌∷◌, length}
-use Rattle.std.proofs.Common.{arith, sym, ap, ◌∙◌}
+use Rattle.std.proofs.Common.{arith, ap, ◌∙◌}
 use Rattle.std.proofs.Math.Numerals.{unary_clauses}
-use Rattle.refusal.specs.Cases.{if_equal, equal, not_equal}
-use Rattle.text.specs.Writing.{Page, page, stored, written, digits_of, right_in}
+use Rattle.refusal.specs.Cases.{equal, not_equal}
+use Rattle.text.specs.Writing.{Page, stored, written, digits_of, right_in}
 use Rattle.text.specs.Times.{fraction_from}
 
 -- A number in a column of no width is just its digits.

@@ -1,13 +1,16 @@
 -- Laws of pages, digits and templates, and what a page then has where there is room.
-use Rattle.std.specs.Prelude.{ℕ, zero, suc, ◌+◌, ◌-◌, ◌*◌, ◌/◌, ◌%◌, ◌^◌, ◌<◌, ◌≤◌, ◌≡◌, refl, Bool, true, false, List, [], ◌∷◌, ◌++◌, leb, eqb, length, take, drop, get_or, set, replicate}
-use Rattle.std.proofs.Common.{arith, mod-lt, mod-eq_of_lt, pow-suc, le-div_iff_mul-le, div-lt_iff_lt-mul, sub-one, ap, ◌∙◌, length-append, length-drop, length-set, drop_of_length-le, drop-cons, lt-ltb, leb-true, leb-false, eqb-true}
+use Rattle.std.specs.Prelude.{ℕ, zero, suc, ◌+◌, ◌-◌, ◌*◌, ◌/◌, ◌%◌, ◌^◌, ◌<◌, ◌≤◌, ◌≡◌, refl, Bool, true, false, List}
+use Rattle.std.specs.Prelude.{[], ◌∷◌, ◌++◌, leb, eqb, length, take, drop, get_or, set}
+use Rattle.std.proofs.Common.{arith, mod-lt, mod-eq_of_lt, pow-suc, le-div_iff_mul-le, div-lt_iff_lt-mul, sub-one, ap}
+use Rattle.std.proofs.Common.{◌∙◌, length-append, length-drop, length-set, drop_of_length-le, drop-cons, lt-ltb}
+use Rattle.std.proofs.Common.{leb-true, leb-false, eqb-true}
 use Rattle.std.proofs.Math.Nat.{one-le-pow, pow-le-pow_right}
 use Rattle.std.proofs.Math.Numerals.{add-one, unary_clauses}
 use Rattle.std.proofs.Math.Path.{sym}
 use Rattle.std.proofs.Math.ListN.{get_or-eq_default}
 use Rattle.std.proofs.lemmas.List.Edits.{sets, sets-eq}
 use Rattle.std.proofs.lemmas.Bool.{eqb-false}
-use Rattle.io.specs.Digits.{last_digits as digits, hex_digit_ascii, IsDigitCount}
+use Rattle.io.specs.Digits.{last_digits as digits, IsDigitCount}
 use Rattle.refusal.specs.Cases.{choose, if_less, if_equal, less, not_less, equal, not_equal}
 use Rattle.text.specs.Reading.{most}
 use Rattle.text.specs.Writing.{Page, page, stored, written, digits_within, digits_of}
@@ -25,7 +28,8 @@ then_written p a b e f = f ∙ ap (λ s. written s b) e ∙ sym (written_append 
 
 -- Byte by byte.
 module _ (bytes : List ℕ) (i : ℕ) (p : Page) {w : Page} (so_far : written p (drop i bytes) ≡ w) where
-  pub written_next : {q : Page} → i < length bytes → q ≡ stored p (get_or bytes i 0) → written q (drop (i + 1) bytes) ≡ w
+  pub written_next : {q : Page} → i < length bytes → q ≡ stored p (get_or bytes i 0)
+      → written q (drop (i + 1) bytes) ≡ w
   unfolding written
   written_next h e = rw (e, add-one) (rw (drop-cons bytes i 0 h) at so_far)
 
@@ -95,7 +99,8 @@ few_by false k n t h e =
     (omega (arith, e.2 (omega arith), pow-le-pow_right {n = 10} (omega arith) {i = 20} {j = k - 1} (omega arith)))
 
 -- What io's digits are.
-pub own_digits : (k n : ℕ) {bytes : List ℕ} → n ≤ most → IsDigitCount 10 1 n k → bytes ≡ digits 10 k n → bytes ≡ digits_of n
+pub own_digits : (k n : ℕ) {bytes : List ℕ} → n ≤ most → IsDigitCount 10 1 n k → bytes ≡ digits 10 k n
+    → bytes ≡ digits_of n
 unfolding digits_of
 own_digits k n h e d = d ∙ digits_within_lem k 20 n (few_by (leb k 20) k n refl h e) e
 

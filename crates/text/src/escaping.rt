@@ -15,6 +15,7 @@ const LESS: u8 = 60;
 
 const GREATER: u8 = 62;
 
+#[tactic(auto, using(crate::specs::WritingLaws::choices), unfolding(crate::specs::Escaping::escaped_byte))]
 fn put_escaped(out: &mut [u8], at: usize, byte: u8) -> usize
     ensures { page out.new result ≡ written (page out.old at) (escaped_byte byte) }
 {

@@ -87,6 +87,7 @@ fn first(word: &[u8]) -> u8
 }
 
 // The number behind the first byte.
+#[tactic(auto, using(crate::specs::FormsLaws::behinds))]
 fn number_behind(word: &[u8]) -> Decimal
     ensures { result ≡ decimal_of (drop 1 word.now) }
 {
@@ -108,6 +109,9 @@ fn limit(form: &[u8]) -> u64
 }
 
 // A number up to a limit; what is none is told by its cause.
+#[tactic(auto,
+// The laws of the test, and what each case gives.
+using(refusal::specs::Cases::cases), unfolding(crate::specs::Forms::limited, crate::specs::Reading::on_decimal))]
 fn up_to(limit: u64, none: Cause, found: Decimal) -> Step
     ensures { result ≡ limited limit none found }
 {
@@ -123,6 +127,7 @@ fn up_to(limit: u64, none: Cause, found: Decimal) -> Step
     }
 }
 
+#[tactic(auto, using(refusal::specs::Cases::cases), unfolding(crate::specs::Forms::name_of))]
 fn name(names: &[u8], count: u64, word: &[u8]) -> Step
     ensures { result ≡ name_of names.now count word.now }
 {
@@ -133,6 +138,7 @@ fn name(names: &[u8], count: u64, word: &[u8]) -> Step
     Step::Over(Cause::NoSuchName)
 }
 
+#[tactic(auto, using(refusal::specs::Cases::cases), unfolding(crate::specs::Forms::known_of))]
 fn known(names: &[u8], count: u64, word: &[u8]) -> Step
     ensures { result ≡ known_of names.now count word.now }
 {
@@ -143,6 +149,9 @@ fn known(names: &[u8], count: u64, word: &[u8]) -> Step
     name(names, count, word)
 }
 
+#[tactic(auto,
+// The laws of the tests, and what each case gives.
+using(refusal::specs::Cases::cases), unfolding(crate::specs::Forms::is_name, crate::specs::Reading::on_decimal))]
 fn is_name(word: &[u8]) -> bool
     ensures { result ≡ is_name word.now }
 {
@@ -160,6 +169,7 @@ fn is_name(word: &[u8]) -> bool
     }
 }
 
+#[tactic(auto, using(refusal::specs::Cases::cases), unfolding(crate::specs::Forms::new_name))]
 fn new_name(names: &[u8], count: u64, most: u64, word: &[u8]) -> Step
     ensures { result ≡ new_name names.now count most word.now }
 {
@@ -176,6 +186,7 @@ fn new_name(names: &[u8], count: u64, most: u64, word: &[u8]) -> Step
     Step::Taken(0)
 }
 
+#[tactic(auto, using(refusal::specs::Cases::cases), unfolding(crate::specs::Forms::letter_of))]
 fn letter(word: &[u8]) -> Step
     ensures { result ≡ letter_of word.now }
 {
@@ -192,6 +203,7 @@ fn letter(word: &[u8]) -> Step
     Step::Taken(wide(byte))
 }
 
+#[tactic(auto, using(crate::specs::FormsLaws::findings))]
 fn one_of(list: &[u8], word: &[u8]) -> Step
     ensures { result ≡ one_of list.now word.now }
 {
@@ -206,6 +218,7 @@ fn one_of(list: &[u8], word: &[u8]) -> Step
 }
 
 // A time or a number, up to the form's limit.
+#[tactic(auto, using(refusal::specs::Cases::cases), unfolding(crate::specs::Forms::quantity_of))]
 fn quantity(mark: u8, form: &[u8], word: &[u8]) -> Step
     ensures { result ≡ quantity_of mark form.now word.now }
 {
@@ -216,6 +229,7 @@ fn quantity(mark: u8, form: &[u8], word: &[u8]) -> Step
     up_to(most, Cause::NoNumber, number(word))
 }
 
+#[tactic(auto, using(refusal::specs::Cases::cases), unfolding(crate::specs::Forms::value_of))]
 fn value(names: &[u8], count: u64, most: u64, form: &[u8], word: &[u8]) -> Step
     ensures { result
         ≡ value_of names.now count most form.now word.now }
@@ -240,6 +254,7 @@ fn value(names: &[u8], count: u64, most: u64, form: &[u8], word: &[u8]) -> Step
 }
 
 // Where what a form's word asks for starts: behind the field's name and a colon.
+#[tactic(auto, using(crate::specs::FormsLaws::askings))]
 fn asked(form: &[u8]) -> usize
     ensures form_value { drop result form.now ≡ asked_of form.now }
     ensures upper_bound { result ≤ length form.now }
@@ -260,6 +275,7 @@ fn asked_value(names: &[u8], count: u64, most: u64, form: &[u8], word: &[u8]) ->
 }
 
 // Of a line that ends: whether the rest may be left out.
+#[tactic(auto, using(refusal::specs::Cases::cases), unfolding(crate::specs::Forms::end_of))]
 fn ending(rest: bool) -> Cause
     ensures { result ≡ end_of rest }
 {
@@ -269,6 +285,7 @@ fn ending(rest: bool) -> Cause
     Cause::Missing
 }
 
+#[tactic(auto, using(refusal::specs::Cases::cases), unfolding(crate::specs::Forms::step_by))]
 fn step_by(names: &[u8], count: u64, most: u64, form: &[u8], word: &[u8]) -> Step
     ensures { result
         ≡ step_by names.now count most form.now word.now }
@@ -293,6 +310,7 @@ fn store(values: &mut [u64], k: usize, value: u64)
 }
 
 // Where the next word of a line stands, from a place on.
+#[tactic(auto, using(crate::specs::FormsLaws::next_word_lem, crate::specs::FormsLaws::behind_word_lem))]
 fn next_word(line: &[u8], from: usize) -> Span
     requires { from ≤ length line.now }
     ensures line_value { part result.start result.end line.now ≡ next_word (drop from line.now) }
@@ -304,6 +322,7 @@ fn next_word(line: &[u8], from: usize) -> Span
 }
 
 // Of a form that ends: whether the line has a word from a place on.
+#[tactic(auto, using(crate::specs::FormsLaws::lasts))]
 fn after_last(line: &[u8], from: usize) -> Cause
     requires { from ≤ length line.now }
     ensures { result ≡ last_of (next_word (drop from line.now)) }

@@ -47,6 +47,7 @@ pub enum Decimal {
 
 // Where a piece that starts at a place ends: at the next `end`, or where the text does. (The bounds follow; they are
 // said for callers.)
+#[tactic(auto, using(crate::specs::ReadingLaws::endings))]
 pub fn end_of(text: &[u8], from: usize, end: u8) -> usize
     ensures value { result ≡ from + before end (drop from text.now) }
     ensures lower_bound { from ≤ result }
@@ -63,6 +64,7 @@ pub fn end_of(text: &[u8], from: usize, end: u8) -> usize
 }
 
 // Where the next piece starts: behind all that is `between`.
+#[tactic(auto, using(crate::specs::ReadingLaws::startings))]
 pub fn start_of(text: &[u8], from: usize, between: u8) -> usize
     ensures value { result ≡ from + run between (drop from text.now) }
     ensures lower_bound { from ≤ result }
@@ -79,6 +81,7 @@ pub fn start_of(text: &[u8], from: usize, between: u8) -> usize
 }
 
 // Whether two texts are the same, byte for byte.
+#[tactic(auto, using(crate::specs::ReadingLaws::samenesses))]
 pub fn same(a: &[u8], b: &[u8]) -> bool
     ensures { result ≡ same_bytes a.now b.now }
 {
@@ -102,6 +105,7 @@ pub fn wide(byte: u8) -> u64
 }
 
 // With one byte more.
+#[tactic(auto, using(refusal::specs::Cases::cases), unfolding(crate::specs::Reading::state_after))]
 fn state_after(state: u64, byte: u8) -> u64
     ensures { result ≡ state_after state byte }
 {
@@ -123,6 +127,7 @@ fn state_after(state: u64, byte: u8) -> u64
     DIGIT
 }
 
+#[tactic(auto, using(crate::specs::ReadingLaws::states))]
 fn state_of(word: &[u8]) -> u64
     ensures { result ≡ state_of 0 word.now }
 {
@@ -146,6 +151,7 @@ fn digit(byte: u8) -> u64
 }
 
 // A number with one digit more.
+#[tactic(auto, using(refusal::specs::Cases::cases), unfolding(crate::specs::Reading::fitting))]
 fn appended(value: u64, digit: u64) -> Decimal
     ensures { result ≡ fitting (10 * value + digit) }
 {
@@ -169,6 +175,7 @@ fn with_byte(value: u64, byte: u8) -> Decimal
     appended(value, digit(byte))
 }
 
+#[tactic(auto, using(crate::specs::ReadingLaws::denotings))]
 fn value(word: &[u8]) -> Decimal
     ensures { result ≡ fitting (denoted 0 word.now) }
 {
@@ -186,6 +193,7 @@ fn value(word: &[u8]) -> Decimal
 }
 
 // The number that a word is, if it is one: digits, with single underlines between them or without.
+#[tactic(auto, using(refusal::specs::Cases::cases), unfolding(crate::specs::Reading::decimal_of))]
 pub fn number(word: &[u8]) -> Decimal
     ensures { result ≡ decimal_of word.now }
 {
@@ -196,6 +204,7 @@ pub fn number(word: &[u8]) -> Decimal
     Decimal::None
 }
 
+#[tactic(auto, using(crate::specs::ReadingLaws::units))]
 fn product(unit: u64, n: u64) -> Decimal
     ensures { result ≡ fitting (unit * n) }
 {
@@ -220,6 +229,7 @@ fn times(unit: u64, found: Decimal) -> Decimal
 }
 
 // The number before the unit's letters.
+#[tactic(auto, using(refusal::specs::Cases::cases), unfolding(crate::specs::Reading::in_unit))]
 fn in_unit(word: &[u8], letters: usize, unit: u64) -> Decimal
     ensures { result ≡ in_unit unit letters word.now }
 {
@@ -242,6 +252,7 @@ fn from_end(word: &[u8], k: usize) -> u8
 }
 
 // The nanoseconds that a word is, if it is a time: a number, or one with the unit ns, us, ms or s behind it.
+#[tactic(auto, using(refusal::specs::Cases::cases), unfolding(crate::specs::Reading::nanoseconds_of))]
 pub fn nanoseconds(word: &[u8]) -> Decimal
     ensures { result ≡ nanoseconds_of word.now }
 {

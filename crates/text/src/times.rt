@@ -41,6 +41,9 @@ fn put_fraction(out: &mut [u8], at: usize, fraction: u64) -> usize
 }
 
 // A point and the digits behind it; nothing where there are none.
+#[tactic(auto,
+// The laws of what is written by a test, and of a byte before the rest.
+using(crate::specs::WritingLaws::choices, crate::specs::TimesLaws::byte_then), unfolding(crate::specs::Times::pointed))]
 fn put_pointed(out: &mut [u8], at: usize, fraction: u64) -> usize
     ensures { page out.new result ≡ written (page out.old at) (pointed fraction) }
 {
@@ -52,6 +55,7 @@ fn put_pointed(out: &mut [u8], at: usize, fraction: u64) -> usize
 }
 
 // A number's digits alone.
+#[tactic(auto, using(crate::specs::TimesLaws::no_column))]
 fn put_whole(out: &mut [u8], at: usize, n: u64) -> usize
     ensures { page out.new result ≡ written (page out.old at) (digits_of n) }
 {
@@ -59,6 +63,7 @@ fn put_whole(out: &mut [u8], at: usize, n: u64) -> usize
 }
 
 // A time in milliseconds, in as many digits as it needs; how many bytes are then written.
+#[tactic(auto, using(crate::specs::WritingLaws::then_written), unfolding(crate::specs::Times::milliseconds_of))]
 pub fn milliseconds(out: &mut [u8], at: usize, time: u64) -> usize
     ensures { page out.new result ≡ written (page out.old at) (milliseconds_of time) }
 {

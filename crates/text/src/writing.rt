@@ -26,6 +26,7 @@ const UNDERLINE: u8 = 95;
 // As many digits stand together.
 const GROUP: usize = 3;
 
+#[tactic(auto, using(refusal::specs::Cases::cases), unfolding(crate::specs::Writing::stored))]
 pub fn put_byte(out: &mut [u8], at: usize, byte: u8) -> usize
     ensures { page out.new result ≡ stored (page out.old at) byte }
 {
@@ -62,6 +63,7 @@ fn put_spaces(out: &mut [u8], at: usize, count: usize) -> usize
 }
 
 // A word at the left of a column.
+#[tactic(auto, using(crate::specs::WritingLaws::word_left))]
 fn put_left(out: &mut [u8], at: usize, word: &[u8], width: usize) -> usize
     ensures { page out.new result
         ≡ written (page out.old at) (left_in width word.now) }
@@ -79,6 +81,7 @@ fn spell(n: u64, digits: &mut [u8; 20]) -> usize
 }
 
 // A number at the right of a column.
+#[tactic(auto, using(crate::specs::WritingLaws::word_right))]
 pub fn put_right(out: &mut [u8], at: usize, n: u64, width: usize) -> usize
     ensures { page out.new result
         ≡ written (page out.old at) (right_in width (digits_of n)) }
@@ -90,6 +93,7 @@ pub fn put_right(out: &mut [u8], at: usize, n: u64, width: usize) -> usize
 }
 
 // Between digits, by how many of them follow: an underline before whole groups.
+#[tactic(auto, using(crate::specs::WritingLaws::choices), unfolding(crate::specs::Writing::separator))]
 fn put_separator(out: &mut [u8], at: usize, left: usize) -> usize
     ensures { page out.new result ≡ written (page out.old at) (separator left) }
 {
@@ -117,6 +121,7 @@ fn put_grouped(out: &mut [u8], at: usize, digits: &[u8]) -> usize
 }
 
 // A number at the right of a column, its digits in groups.
+#[tactic(auto, using(crate::specs::WritingLaws::groups_right))]
 fn put_groups(out: &mut [u8], at: usize, n: u64, width: usize) -> usize
     ensures { page out.new result
         ≡ written (page out.old at) (right_in width (grouped (digits_of n))) }
@@ -147,6 +152,7 @@ fn value_at(values: &[u64], i: usize) -> u64
     0
 }
 
+#[tactic(auto, using(crate::specs::WritingLaws::choices), unfolding(crate::specs::Writing::item))]
 fn put_item(out: &mut [u8], at: usize, values: &[u64], word: &[u8], width: usize, byte: u8) -> usize
     ensures { page out.new result
         ≡ written (page out.old at) (item values.now word.now width byte) }
@@ -160,6 +166,7 @@ fn put_item(out: &mut [u8], at: usize, values: &[u64], word: &[u8], width: usize
     put_right(out, at, value_at(values, above(byte, SMALL_A)), width)
 }
 
+#[tactic(auto, using(crate::specs::WritingLaws::choices))]
 fn put_plain(out: &mut [u8], at: usize, byte: u8) -> usize
     ensures { page out.new result
         ≡ written (page out.old at) (if_equal byte 37 [] (byte ∷ [])) }
@@ -170,6 +177,7 @@ fn put_plain(out: &mut [u8], at: usize, byte: u8) -> usize
     put_byte(out, at, byte)
 }
 
+#[tactic(auto, using(crate::specs::WritingLaws::choices), unfolding(crate::specs::Writing::piece))]
 fn put_piece(
     out: &mut [u8],
     at: usize,
@@ -193,6 +201,7 @@ fn put_piece(
     at
 }
 
+#[tactic(auto, using(refusal::specs::Cases::cases), unfolding(crate::specs::Writing::after))]
 fn next_state(state: usize, byte: u8) -> usize
     ensures { result ≡ after state byte }
 {
