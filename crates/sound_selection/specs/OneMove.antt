@@ -81,36 +81,36 @@ module _ {queued : ℕ → Bool} {q : CpuRunQueue} {t : List ThreadRecord} (S : 
       (k : epoch_refreshed (record_of t i).runtime now (record_of t i).parameters ≡ value y)
       (M : Moved queued q t S.place i (budget_ready + role) y) where
     abbrev between : List ThreadRecord
-    between = changed M.out_of_lem i (with_runtime y)
+    between = changed M.out_of i (with_runtime y)
 
-    inside : i < length M.out_of_lem
-    inside = omega (arith, queued_inside S i is_queued, besides_length t M.out_of_lem M.uprooted)
+    inside : i < length M.out_of
+    inside = omega (arith, queued_inside S i is_queued, besides_length t M.out_of M.uprooted)
 
     -- The record after its removal from the exhausted tree.
-    its_bare : bare_at M.out_of_lem i ≡ bare_at t i
-    its_bare = bare_besides t M.out_of_lem i M.uprooted
+    its_bare : bare_at M.out_of i ≡ bare_at t i
+    its_bare = bare_besides t M.out_of i M.uprooted
 
-    its_parameters : (record_of M.out_of_lem i).parameters ≡ (record_of t i).parameters
+    its_parameters : (record_of M.out_of i).parameters ≡ (record_of t i).parameters
     unfolding bare_at
     its_parameters = ap (λ (r : ThreadRecord). r.parameters) its_bare
 
-    its_runtime : (record_of M.out_of_lem i).runtime ≡ (record_of t i).runtime
+    its_runtime : (record_of M.out_of i).runtime ≡ (record_of t i).runtime
     unfolding bare_at
     its_runtime = ap (λ (r : ThreadRecord). r.runtime) its_bare
 
-    its_judgement : is_bad_record (record_of M.out_of_lem i) ≡ false
+    its_judgement : is_bad_record (record_of M.out_of i) ≡ false
     its_judgement =
-        sym (bare_bad M.out_of_lem i) ∙ ap is_bad_record its_bare ∙ bare_bad t i ∙ (S.threads i is_queued).judged
+        sym (bare_bad M.out_of i) ∙ ap is_bad_record its_bare ∙ bare_bad t i ∙ (S.threads i is_queued).judged
 
-    refreshes_there : refresh_runtime M.out_of_lem i now ≡ out (value (with_runtime y (record_of M.out_of_lem i))) between
+    refreshes_there : refresh_runtime M.out_of i now ≡ out (value (with_runtime y (record_of M.out_of i))) between
     unfolding refresh_runtime on_record
     refreshes_there =
-        rw (record_within M.out_of_lem i inside)
-        (refresh_budget now (record_of M.out_of_lem i) its_judgement M.out_of_lem i p y (rw its_parameters g)
+        rw (record_within M.out_of i inside)
+        (refresh_budget now (record_of M.out_of i) its_judgement M.out_of i p y (rw its_parameters g)
         (rw (its_parameters, its_runtime) k))
 
-    removes : remove t (root_of q (budget_exhausted + role)) i ≡ out (rooted.Root M.rest) M.out_of_lem
-    removes = subst (λ n. remove t (root_of q n) i ≡ out (rooted.Root M.rest) M.out_of_lem) at M.removes
+    removes : remove t (root_of q (budget_exhausted + role)) i ≡ out (rooted.Root M.rest) M.out_of
+    removes = subst (λ n. remove t (root_of q n) i ≡ out (rooted.Root M.rest) M.out_of) at M.removes
 
     inserts : insert between (root_of q (budget_ready + role)) i ≡ out (rooted.Root M.top) M.table
     inserts =
@@ -134,13 +134,13 @@ module _ {queued : ℕ → Bool} {q : CpuRunQueue} {t : List ThreadRecord} (S : 
     unfolding bare_at
     bare_other j d =
         bare_besides between M.table j M.planted
-        ∙ rw (record_other M.out_of_lem i (with_runtime y) j d) (bare_besides t M.out_of_lem j M.uprooted)
+        ∙ rw (record_other M.out_of i (with_runtime y) j d) (bare_besides t M.out_of j M.uprooted)
 
     bare_own : bare_at M.table i ≡ refreshed_to now (bare_at t i)
     unfolding bare_at
     bare_own =
         bare_besides between M.table i M.planted
-        ∙ rw (record_same M.out_of_lem i (with_runtime y) inside) (ap (with_runtime y) its_bare)
+        ∙ rw (record_same M.out_of i (with_runtime y) inside) (ap (with_runtime y) its_bare)
         ∙ sym (refreshed_by now (bare_at t i) y k)
 
     shift : (j : ℕ) → Shift now (S.place j) (bare_at t j) (M.sound.place j) (bare_at M.table j)
@@ -166,8 +166,8 @@ module _ {queued : ℕ → Bool} {q : CpuRunQueue} {t : List ThreadRecord} (S : 
         sound = M.sound;
         beside = record { realtime = refl; total = refl; fair = refl; epoch = refl; budgets = refl; halted = refl };
         len =
-            besides_length between M.table M.planted ∙ length_changed M.out_of_lem i (with_runtime y)
-            ∙ besides_length t M.out_of_lem M.uprooted;
+            besides_length between M.table M.planted ∙ length_changed M.out_of i (with_runtime y)
+            ∙ besides_length t M.out_of M.uprooted;
         shift = shift;
         others = M.others;
       };
