@@ -1,7 +1,7 @@
 -- Whether words are the encoding of what they stand for, word by word: a tag that is a variant's number, a number
 -- within its type, 0 where nothing uses a word.
 use Rattle.std.specs.Prelude.{ℕ, suc, Bool, true, false, List, [], ◌∷◌, ltb, eqb}
-use Rattle.refusal.specs.Cases.{choose, if_less, if_equal}
+use Rattle.refusal.specs.Cases.{if_less, if_equal}
 use Rattle.policy_words.specs.PolicyWords.{policy_tag, fifo_priority, band_word, role_tag, weight_word, backend_tag}
 use Rattle.policy_words.specs.PolicyWords.{budget_tag, budget_word, budget_period, budget_burst}
 use Rattle.policy_words.specs.PolicyWords.{runtime_tag, runtime_first, runtime_second, runtime_third, runtime_fourth}
