@@ -14,12 +14,16 @@ mod queues;
 mod reading;
 mod runtimes;
 mod sums;
+mod system;
 mod trees;
 mod values;
 mod windows;
 mod words;
 
 use machine::{ANSWERS, Counts};
+use std::os::fd::AsRawFd;
+use std::rt::Env;
+use system::{arg_count, fail, opened};
 
 const STDIN: i32 = 0;
 
@@ -71,35 +75,40 @@ fn blocks(fd: i32, counts: &mut Counts) -> u64 {
 }
 
 // A file that cannot be read counts as a difference.
-fn recorded(name: &[u8]) -> u64 {
-    let fd = os::open_read(name);
-    if fd < 0 {
-        os::fail(name);
-        return 1;
+fn recorded(rt: &HostRuntime, name: &[u8]) -> u64 {
+    match opened(rt, name) {
+        Ok(file) => {
+            let mut counts = [0u64; ANSWERS];
+            let differs = blocks(file.as_raw_fd(), &mut counts);
+            answered(&counts);
+            differs
+        }
+        Err(error) => {
+            fail(name, error);
+            1
+        }
     }
-    let mut counts = [0u64; ANSWERS];
-    let differs = blocks(fd, &mut counts);
-    libc::close(fd);
-    answered(&counts);
-    differs
 }
 
-fn argument(i: usize) -> u64 {
+// One that there is no room for is a file that has no name.
+fn argument(rt: &HostRuntime, i: usize) -> u64 {
     let mut name = io::buffer();
-    let n = os::arg(i, &mut name);
-    recorded(&name[..n])
+    match rt.arg(i, &mut name) {
+        Ok(n) => recorded(rt, &name[..n]),
+        Err(_) => recorded(rt, b""),
+    }
 }
 
 fn ended(differs: u64) {
     text::print(b"\ndiffers %a\n", &[differs], b"");
 }
 
-fn main() {
+fn main(rt: HostRuntime) {
     let mut differs = worked();
-    let count = os::arg_count();
+    let count = arg_count(&rt);
     let mut i: usize = 1;
     while i < count {
-        differs = text::saturating_add(differs, argument(i));
+        differs = text::saturating_add(differs, argument(&rt, i));
         i += 1;
     }
     ended(differs);

@@ -4,6 +4,7 @@ use crate::printing::{listed, named, plain, put};
 use crate::run::{NO_WORD, Names, RECORD, Run, TEXT};
 use crate::statements;
 use crate::statements::Fields;
+use crate::system::STDERR;
 use text::saturating_add;
 
 // A run's words in the list: its start, its end and its thread.
@@ -158,7 +159,7 @@ pub fn performed(list: &mut [u64], mut x: Run, n: u64, v: Fields) -> Run {
 fn told_full(output: u64) {
     let mut fd = STDOUT;
     if output == RECORD {
-        fd = libc::STDERR_FILENO;
+        fd = STDERR;
     }
     io::write_all(fd, b"the lift record is full: later runs are left out\n");
 }

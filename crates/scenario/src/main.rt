@@ -20,10 +20,13 @@ mod scale;
 mod shapes;
 mod sheet;
 mod statements;
+mod system;
 mod threads;
 mod words;
 
-const STDIN: i32 = 0;
+use std::io::{Error, Read};
+use std::rt::Env;
+use system::{STDERR, arg_count, fail, opened};
 
 const STDOUT: i32 = 1;
 
@@ -35,6 +38,9 @@ const RETURN: u8 = 13;
 
 // One byte more than a file may have.
 const ROOM: usize = 65_537;
+
+// Linux's number of the error `File name too long`.
+const NAME_TOO_LONG: i32 = 36;
 
 fn new_queue(q: &mut lent_queue::QueueRows) {
     board::board_new(q);
@@ -111,51 +117,47 @@ fn blanked(text: &mut [u8]) {
 enum Got {
     All(usize),
     Longer,
-    Failed,
+    Failed(Error),
 }
 
 // Up to the end of the file.
-fn read(fd: i32, text: &mut [u8]) -> Got {
+fn read<R: Read>(from: &mut R, text: &mut [u8]) -> Got {
     let mut n: usize = 0;
     while n < text.len() {
-        let got = libc::read(fd, &mut text[n..]);
-        if got < 0 {
-            return Got::Failed;
+        match from.read(&mut text[n..]) {
+            Ok(0) => return Got::All(n),
+            Ok(more) => n += more,
+            Err(error) => return Got::Failed(error),
         }
-        let more = io::count(got, &text[n..]);
-        if more == 0 {
-            return Got::All(n);
-        }
-        n += more;
     }
     Got::Longer
 }
 
+fn read_file(rt: &HostRuntime, name: &[u8], text: &mut [u8]) -> Got {
+    match opened(rt, name) {
+        Ok(mut from) => read(&mut from, text),
+        Err(error) => Got::Failed(error),
+    }
+}
+
 fn complain(name: &[u8], words: &[u8]) {
-    io::write_all(libc::STDERR_FILENO, name);
-    io::write_all(libc::STDERR_FILENO, words);
+    io::write_all(STDERR, name);
+    io::write_all(STDERR, words);
 }
 
 // How much of the text is a file's; nothing, and why not, where it is not read whole.
-fn whole(fd: i32, name: &[u8], text: &mut [u8]) -> Got {
-    let got = read(fd, text);
+fn whole(got: Got, name: &[u8], text: &mut [u8]) -> Got {
     match got {
         Got::All(_) => blanked(text),
         Got::Longer => complain(name, b": more than 65,536 bytes, not run\n"),
-        Got::Failed => os::fail(name),
+        Got::Failed(error) => fail(name, error),
     }
     got
 }
 
-fn file(name: &[u8], output: u64) {
+fn file(rt: &HostRuntime, name: &[u8], output: u64) {
     let mut text = [0u8; ROOM];
-    let fd = os::open_read(name);
-    if fd < 0 {
-        os::fail(name);
-        return;
-    }
-    let got = whole(fd, name, &mut text);
-    libc::close(fd);
+    let got = whole(read_file(rt, name, &mut text), name, &mut text);
     if let Got::All(n) = got {
         if n <= ROOM {
             shown(name, &text[0..n], output);
@@ -163,9 +165,13 @@ fn file(name: &[u8], output: u64) {
     }
 }
 
-fn input() {
+fn input(rt: &HostRuntime) {
     let mut text = [0u8; ROOM];
-    let got = whole(STDIN, b"standard input", &mut text);
+    let got = whole(
+        read(&mut rt.stdin(), &mut text),
+        b"standard input",
+        &mut text,
+    );
     if let Got::All(n) = got {
         if n <= ROOM {
             print(&text[0..n]);
@@ -194,7 +200,7 @@ fn is_option(word: &[u8]) -> bool {
 }
 
 // A word of the call; what becomes of the file after it.
-fn said(word: &[u8], output: u64) -> u64 {
+fn said(rt: &HostRuntime, word: &[u8], output: u64) -> u64 {
     if text::same(word, b"--picture") {
         return run::PICTURE;
     }
@@ -206,43 +212,45 @@ fn said(word: &[u8], output: u64) -> u64 {
     } else if is_option(word) {
         complain(word, b": unknown option, --help names all\n");
     } else {
-        file(word, output);
+        file(rt, word, output);
     }
     run::TEXT
 }
 
-fn argument(i: usize, output: u64) -> u64 {
+// There is room for 4,096 bytes.
+fn argument(rt: &HostRuntime, i: usize, output: u64) -> u64 {
     let mut word = io::buffer();
-    let n = os::arg(i, &mut word);
-    if os::errno() != 0 {
-        os::fail(b"an argument");
-        return output;
+    match rt.arg(i, &mut word) {
+        Ok(n) => said(rt, &word[..n], output),
+        Err(_) => {
+            fail(b"an argument", Error::from_raw_os_error(NAME_TOO_LONG));
+            output
+        }
     }
-    said(&word[..n], output)
 }
 
 // An option is the last word of the call.
 fn unfinished(output: u64) {
     if output == run::PICTURE {
-        io::write_all(libc::STDERR_FILENO, b"--picture");
+        io::write_all(STDERR, b"--picture");
     } else {
-        io::write_all(libc::STDERR_FILENO, b"--record");
+        io::write_all(STDERR, b"--record");
     }
-    io::write_all(libc::STDERR_FILENO, b": a file has to follow\n");
+    io::write_all(STDERR, b": a file has to follow\n");
 }
 
-fn main() {
-    let count = os::arg_count();
+fn main(rt: HostRuntime) {
+    let count = arg_count(&rt);
     let mut output: u64 = run::TEXT;
     let mut i: usize = 1;
     while i < count {
-        output = argument(i, output);
+        output = argument(&rt, i, output);
         i += 1;
     }
     if output != run::TEXT {
         unfinished(output);
     }
     if count < 2 {
-        input();
+        input(&rt);
     }
 }

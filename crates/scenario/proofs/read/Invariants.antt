@@ -1,0 +1,9 @@
+-- The loop ends: what is left of the room falls; the room stays.
+use Rattle.std.proofs.Common.{length, ◌-◌, ◌≡◌, ◌≤◌}
+use Rattle.scenario.proofs.read.Given as goal
+
+abbrev pub invariant-loop-n : goal.invariant-loop-n
+invariant-loop-n g l = (length l.text ≡ length l.initial.text) × (l.n ≤ length l.text)
+
+abbrev pub decreases-loop-n : goal.decreases-loop-n
+decreases-loop-n g l = length l.initial.text - l.n
