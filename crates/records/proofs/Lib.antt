@@ -1,23 +1,2 @@
-pub mod Elem
-pub mod KindsAccountCurrent
-pub mod KindsEnqueue
-pub mod KindsEnqueueFront
-pub mod KindsFinishTurn
-pub mod KindsFromRows
-pub mod KindsInsert
-pub mod KindsPeekNext
-pub mod KindsPrepareEnqueue
-pub mod KindsRemove
-pub mod KindsToRows
+-- The laws of the copying, which several proofs share.
 pub mod Laws
-pub mod ReadsAccountCurrent
-pub mod ReadsEnqueue
-pub mod ReadsEnqueueFront
-pub mod ReadsFinishTurn
-pub mod ReadsFromRows
-pub mod ReadsInsert
-pub mod ReadsPeekNext
-pub mod ReadsPrepareEnqueue
-pub mod ReadsRemove
-pub mod ReadsToRows
-pub mod Types
