@@ -168,6 +168,9 @@ if trouble:
     sys.exit('\n'.join(trouble))
 
 
+STRING = re.compile(r'("(?:[^"\\\n]|\\.)*")')
+
+
 def turn(text, f):
     own, others = imports(TEXT[f])
 
@@ -178,17 +181,19 @@ def turn(text, f):
         if w in PLAIN and f in ANTT and (not in_answer(f) or w in own):
             return PLAIN[w]
         if f in ANTT:
-            after = text[m.start() - 1:m.start()] == '.'
+            after = m.string[m.start() - 1:m.start()] == '.'
             if in_answer(f):
                 if w in own and w in new:
                     return new[w]
                 if (after or w.endswith('-spec')) and w.replace('-', '_').removesuffix('_spec') in source:
                     return w.replace('-', '_')
                 return new[w] if after and w in new and w in declared else w
+            if after and new.get(w, '').endswith('_lem') and w not in own:
+                return respelled(w)
             return new.get(w, w) if not after or w in declared else w
         return new.get(w, w)
 
-    return WORD.sub(one, text)
+    return ''.join(p if i % 2 else WORD.sub(one, p) for i, p in enumerate(STRING.split(text)))
 
 
 def ghost(text, f):

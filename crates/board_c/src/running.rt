@@ -141,5 +141,16 @@ pub extern "C" fn board_deadline(
     ensures stays_3 { Stays result answer.old answer.new }
     ensures framed { Framed t.old t.new }
 {
-    board::board_deadline(t, id, now_ns, key, window, competition, budget_peer, ready, demand, answer)
+    board::board_deadline(
+        t,
+        id,
+        now_ns,
+        key,
+        window,
+        competition,
+        budget_peer,
+        ready,
+        demand,
+        answer,
+    )
 }

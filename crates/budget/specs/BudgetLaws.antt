@@ -1,5 +1,5 @@
 -- Laws by which the functions meet the definitions: each part as it was computed is the runtime's.
-use Rattle.std.specs.Prelude.{ℕ, ◌-◌, min, ◌≡◌, refl}
+use Rattle.std.specs.Prelude.{ℕ, ◌-◌, min, ◌≡◌}
 use Rattle.time.specs.Time.{charge_of}
 use Rattle.policy.specs.declared.BudgetParameters.{BudgetParameters}
 use Rattle.budget.specs.declared.BudgetRuntime.{BudgetRuntime}

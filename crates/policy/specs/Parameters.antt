@@ -17,7 +17,6 @@ use Rattle.policy.specs.declared.ThreadWeight.{ThreadWeight}
 use Rattle.policy.specs.declared.WeightOption.{WeightOption}
 use Rattle.policy.specs.declared.WeightOption.TheVariants as weight
 use Rattle.policy.specs.declared.BudgetParameters.{BudgetParameters}
-use Rattle.policy.specs.declared.BudgetOption.{BudgetOption}
 use Rattle.policy.specs.declared.BudgetOption.TheVariants as budget
 use Rattle.policy.specs.declared.SchedulingParameters.{SchedulingParameters}
 use Rattle.policy.specs.declared.ParametersOption.{ParametersOption}

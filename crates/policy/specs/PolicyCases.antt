@@ -1,6 +1,5 @@
 -- Choosing by a policy, a role, a backend or a budget that may be absent, with the laws by which proofs do.
 use Rattle.std.specs.Prelude.{◌≡◌}
-use Rattle.std.proofs.Common.{sym, ◌∙◌}
 use Rattle.policy.specs.declared.ThreadPriority.{ThreadPriority}
 use Rattle.policy.specs.declared.SchedulingPolicy.{SchedulingPolicy}
 use Rattle.policy.specs.declared.SchedulingPolicy.TheVariants as policy

@@ -1,6 +1,6 @@
 -- Laws of the words: those that are stored for each variant stand for it, and the parts that they stand for make the
 -- whole.
-use Rattle.std.specs.Prelude.{ℕ, ◌%◌, ◌≡◌, refl, List, [], ◌∷◌}
+use Rattle.std.specs.Prelude.{ℕ, ◌%◌, ◌≡◌, List, [], ◌∷◌}
 use Rattle.std.proofs.Math.Path.{sym}
 use Rattle.refusal.specs.Cases.{choose, given, if_equal}
 use Rattle.time.specs.declared.Deadline.{Deadline}

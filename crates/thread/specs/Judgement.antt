@@ -1,6 +1,6 @@
 -- Document 01's BadRecord (11): "policy, budget and runtime disagree, or the budget is bad". Weight and quantum are not
 -- judged.
-use Rattle.std.specs.Prelude.{Bool, true, false, not}
+use Rattle.std.specs.Prelude.{Bool, true, false}
 use Rattle.refusal.specs.Cases.{choose}
 use Rattle.policy.specs.declared.BudgetOption.{BudgetOption}
 use Rattle.policy.specs.PolicyCases.{on_policy, on_budget}

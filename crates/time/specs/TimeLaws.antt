@@ -1,5 +1,5 @@
 -- Laws of epochs, periods and deadlines: what callers use instead of the definitions' text.
-use Rattle.std.specs.Prelude.{ℕ, ◌-◌, ◌≤◌, min, max, ◌≡◌, refl, Bool, true, ltb}
+use Rattle.std.specs.Prelude.{ℕ, ◌-◌, ◌≤◌, min, max, ◌≡◌, true, ltb}
 use Rattle.std.proofs.Common.{arith, sym, ◌∙◌}
 use Rattle.time.specs.Time.{rises, period_start, charge_of, checked_add, period_end, earliest_of, on_deadline}
 use Rattle.time.specs.declared.Epoch.{Epoch}

@@ -31,8 +31,8 @@ returns-then-path-k-clause-result_in_bounds c = none_steps _ _ (omega arith)
 
 pub loop-links-preserved : goal.loop-links-preserved
 loop-links-preserved c = (
-      simp length-set (omega arith),
-      simp length-set (omega arith),
-      search (rules, below_kept),
-      search successions depth 10,
-    )
+  simp length-set (omega arith),
+  simp length-set (omega arith),
+  search (rules, below_kept),
+  search successions depth 10,
+)

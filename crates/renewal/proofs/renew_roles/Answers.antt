@@ -12,13 +12,13 @@ loop-left-init c = (search rules, refl, refl, search roles_set_out, search frami
 
 pub loop-left-preserved : goal.loop-left-preserved
 loop-left-preserved c = (
-      search rules,
-      search rules,
-      search rules,
-      search roles depth 8,
-      search framing depth 8,
-      search roots_framing depth 8,
-    )
+  search rules,
+  search rules,
+  search rules,
+  search roles depth 8,
+  search framing depth 8,
+  search roots_framing depth 8,
+)
 
 pub returns-in-Refused-clause-t_after : goal.returns-in-Refused-clause-t_after
 returns-in-Refused-clause-t_after c = arrived _ (search roles depth 8)

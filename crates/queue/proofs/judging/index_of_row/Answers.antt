@@ -18,8 +18,10 @@ returns-then-policy-eq1 c = search (cases, by_tags) depth 8
 
 pub overflow_add-result-then-has_time_left : goal.overflow_add-result-then-has_time_left
 unfolding index_row
-overflow_add-result-then-has_time_left c = record { fits = role_fits _ _ c.role_number-role.ensures
-          (omega arith) }
+overflow_add-result-then-has_time_left c = record {
+  fits = role_fits _ _ c.role_number-role.ensures
+      (omega arith);
+}
 
 pub returns-then-has_time_left : goal.returns-then-has_time_left
 unfolding index_row
@@ -27,8 +29,10 @@ returns-then-has_time_left c = search (cases, by_tags) depth 8
 
 pub overflow_add-result-then-policy-eq2 : goal.overflow_add-result-then-policy-eq2
 unfolding index_row
-overflow_add-result-then-policy-eq2 c = record { fits = role_fits _ _ c.role_number-role.ensures
-          (omega arith) }
+overflow_add-result-then-policy-eq2 c = record {
+  fits = role_fits _ _ c.role_number-role.ensures
+      (omega arith);
+}
 
 pub returns-then-policy-eq2 : goal.returns-then-policy-eq2
 unfolding index_row
