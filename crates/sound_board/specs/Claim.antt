@@ -6,7 +6,6 @@ use Rattle.refusal.specs.Cases.{choose}
 use Rattle.window_words.specs.WindowWords.{flag_from, window_of}
 use Rattle.rows.specs.Table.{table, max_records}
 use Rattle.lent_queue.specs.LentQueue.{queue_of}
-use Rattle.selection.specs.declared.Selection.{Selection}
 use Rattle.board_words.specs.BoardWords.{selection_from, current_of}
 use Rattle.board.specs.Board.{Makes, Enqueues, Removes, Selects}
 use Rattle.sound_queue.specs.Sound.{nobody, including, excluding}

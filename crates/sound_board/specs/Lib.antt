@@ -2,7 +2,5 @@
 pub mod Numbers
 -- The claim over the words that a board lends.
 pub mod Claim
--- The theorem.
-pub mod Words
--- A board whose words meet the premises.
+-- A run's words, whose board meets the premises.
 pub mod Instance

@@ -1,9 +1,8 @@
 -- No refusal has the number 0: so 0 says that a call was accepted.
-use Rattle.std.specs.Prelude.{ℕ, ◌≡◌, Bool, ◌≢◌, List, ltb, eqb, length}
+use Rattle.std.specs.Prelude.{ℕ, Bool, ◌≢◌, List, ltb, eqb}
 use Rattle.std.proofs.Math.Bool.{true, false}
 use Rattle.std.proofs.Common.{arith}
-use Rattle.refusal.specs.Answer.{Answer, value, refused, damaged, bad_state, already, no_thread, queue_halted, bad_table}
-use Rattle.refusal.specs.Answer.{bad_record}
+use Rattle.refusal.specs.Answer.{Answer, value, refused}
 use Rattle.refusal.specs.Cases.{choose, if_less, if_equal, given}
 use Rattle.thread.specs.declared.CpuIndex.{CpuIndex}
 use Rattle.thread.specs.declared.IndexFor.{IndexFor}
@@ -20,7 +19,7 @@ use Rattle.rows.specs.declared.QueueLinksRead.{QueueLinksRead}
 use Rattle.rows.specs.declared.QueueLinksRead.TheVariants as queue_links_read
 use Rattle.rows.specs.declared.RecordRead.{RecordRead}
 use Rattle.rows.specs.declared.RecordRead.TheVariants as read
-use Rattle.rows.specs.Table.{Out, out, record_at, queue_links_at, max_records}
+use Rattle.rows.specs.Table.{Out, out, record_at, queue_links_at}
 use Rattle.rows.specs.TableCases.{on_record, on_queue_links}
 use Rattle.lists.specs.Checks.{preflight_insert}
 use Rattle.lists.specs.Lists.{on_answer, on_out, push, push_front, append, prepend, unlink}
@@ -35,7 +34,8 @@ use Rattle.queue_work.specs.declared.Parts.{Parts}
 use Rattle.queue_work.specs.Work.{Work, done, turned_down, halts, counted_in, counted_out, total_in, total_out, push_at}
 use Rattle.queue_work.specs.Work.{insert_work, remove_work}
 use Rattle.queue.specs.RunQueue.{CpuRunQueue}
-use Rattle.queue.specs.Queue.{Step, step, worked, on_contained, tree_with, judged, enqueue_call, remove_ready, remove_from}
+use Rattle.queue.specs.Queue.{Step, step, worked, on_contained, tree_with, judged, enqueue_call, remove_ready}
+use Rattle.queue.specs.Queue.{remove_from}
 use Rattle.queue.specs.Queue.{remove_call}
 
 -- Accepted, or refused with a number.
@@ -226,7 +226,8 @@ unfolding enqueue_call given
 enqueue_numbered front t q id c =
     judged_numbered t q id _
     (λ r k. by_test NumberedStep _ _ _
-    (if_equal_lem NumberedStep _ _ _ _ (worked_numbered q _ k _ (insert_numbered front _ _ t _ id _)) (λ z. omega arith))
+    (if_equal_lem NumberedStep _ _ _ _ (worked_numbered q _ k _ (insert_numbered front _ _ t _ id _))
+    (λ z. omega arith))
     (λ z. omega arith))
 
 tree_numbered : (t : List ThreadRecord) (q : CpuRunQueue) (id : ℕ) (b : Bool) (k : ℕ) → Numbered (tree_with t q id b k)

@@ -17,9 +17,11 @@ use Rattle.thread.specs.declared.ThreadRecord.{ThreadRecord}
 use Rattle.thread.specs.Membership.{on_link, empty_links, empty_queue_links}
 use Rattle.thread.specs.TreeKey.{algorithm_key, tree_key, ready_index_key, parts, compare_tree_keys}
 use Rattle.codec.specs.Codec.{word, left_tag, left_word, decoded, parameters_of, policy_from, role_from, backend_from}
-use Rattle.codec.specs.Codec.{budget_from, runtime_of, runtime_from, links_of, link_from, queue_links_of, membership_from}
+use Rattle.codec.specs.Codec.{budget_from, runtime_of, runtime_from, links_of, link_from, queue_links_of}
+use Rattle.codec.specs.Codec.{membership_from}
 use Rattle.codec.specs.Frame.{left_words, a_link, Part, kept, stored}
-use Rattle.rows.specs.Table.{out, answer, after, table, record_of, changed, reading, storing, links_at, key_at, set_links}
+use Rattle.rows.specs.Table.{out, answer, after, table, record_of, changed, reading, storing, links_at, key_at}
+use Rattle.rows.specs.Table.{set_links}
 use Rattle.rows.specs.TableCases.{on_links, on_key, on_made}
 use Rattle.rows.specs.Frame.{Framed}
 use Rattle.avl.specs.Rotation.{lean_of, on_lean}
@@ -29,23 +31,24 @@ use Rattle.rotations.specs.Balance.{height, larger, update, rotate_left, rotate_
 use Rattle.ready_index.specs.declared.Rooted.TheVariants as rooted
 use Rattle.ready_index.specs.Cases.{on_way}
 use Rattle.ready_index.specs.Index.{way_at, on_walk, walk, hung, rebuild_step, rebuild, insert}
-use Rattle.images.specs.Encoded.{encoded, policy_words_of, role_word, backend_word, budget_words, runtime_words, link_words}
+use Rattle.images.specs.Encoded.{encoded, policy_words_of, role_word, backend_word, budget_words, runtime_words}
+use Rattle.images.specs.Encoded.{link_words}
 use Rattle.images.specs.Encoded.{membership_words}
 use Rattle.images.specs.PartLaws.{link_exact}
 use Rattle.sound_rows.specs.Theorems.{same_words}
 
 -- The definitions that an insertion goes through, and those of a row's words and of what they stand for.
 unfoldable inserting : Unit {0}
-unfolding if_less given compare_numbers then_by compare_parts on_ordering on_policy on_link algorithm_key tree_key ready_index_key
-    parts compare_tree_keys record_of changed reading storing links_at key_at set_links on_links on_key on_made lean_of on_lean
-    on_height on_turned height larger update rotate_left rotate_right balance_right balance on_way way_at on_walk walk hung
-    rebuild_step rebuild insert
+unfolding if_less given compare_numbers then_by compare_parts on_ordering on_policy on_link algorithm_key tree_key
+    ready_index_key parts compare_tree_keys record_of changed reading storing links_at key_at set_links on_links on_key
+    on_made lean_of on_lean on_height on_turned height larger update rotate_left rotate_right balance_right balance
+    on_way way_at on_walk walk hung rebuild_step rebuild insert
 inserting = tt
 
 unfoldable encoding : Unit {0}
-unfolding if_equal encoded policy_words_of role_word backend_word budget_words runtime_words link_words membership_words table
-    decoded parameters_of policy_from role_from backend_from budget_from runtime_of runtime_from links_of link_from queue_links_of
-    membership_from
+unfolding if_equal encoded policy_words_of role_word backend_word budget_words runtime_words link_words membership_words
+    table decoded parameters_of policy_from role_from backend_from budget_from runtime_of runtime_from links_of
+    link_from queue_links_of membership_from
 encoding = tt
 
 -- A FIFO record of one priority, in which the turn decides.

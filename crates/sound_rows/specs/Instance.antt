@@ -23,8 +23,8 @@ abbrev none : List ℕ
 none = 0 ∷ 0 ∷ []
 
 row_encodes : parts_encode row ≡ true
-unfolding parts_encode links_encode queue_links_encode runtime_encodes option_encodes membership_encodes zeros if_less if_equal
-    choose
+unfolding parts_encode links_encode queue_links_encode runtime_encodes option_encodes membership_encodes zeros if_less
+    if_equal choose
 row_encodes = refl
 
 pub stored_again : all_words (left_stored row none) ≡ all_words row
@@ -35,8 +35,8 @@ abbrev five : List ℕ
 five = 1 ∷ 5 ∷ []
 
 table_encodes_lem : table_encodes (row ∷ []) ≡ true
-unfolding table_encodes all_from record_encodes parameters_encode policy_encodes budget_encodes links_encode queue_links_encode
-    runtime_encodes option_encodes membership_encodes zeros if_less if_equal choose
+unfolding table_encodes all_from record_encodes parameters_encode policy_encodes budget_encodes links_encode
+    queue_links_encode runtime_encodes option_encodes membership_encodes zeros if_less if_equal choose
 table_encodes_lem = refl
 
 pub linked_encodes : table_encodes (set (row ∷ []) 0 (left_stored row five)) ≡ true
@@ -50,8 +50,8 @@ abbrev odd : List ℕ
 odd = set row left_word 7
 
 pub odd_encodes_not : parts_encode odd ≡ false
-unfolding parts_encode links_encode queue_links_encode runtime_encodes option_encodes membership_encodes zeros if_less if_equal
-    choose
+unfolding parts_encode links_encode queue_links_encode runtime_encodes option_encodes membership_encodes zeros if_less
+    if_equal choose
 odd_encodes_not = refl
 
 pub odd_framed : RowFramed odd (left_stored odd none)

@@ -14,8 +14,8 @@ use Rattle.sound_rows.specs.QueueRows.{queue_words, root_spare_kept, queue_stays
 
 -- The definitions that the test of a queue's rows goes through.
 unfoldable testing : Unit {0}
-unfolding queue_encodes all_from queue_row_encodes list_encodes root_encodes marks_encode option_encodes zeros if_less if_equal
-    choose
+unfolding queue_encodes all_from queue_row_encodes list_encodes root_encodes marks_encode option_encodes zeros if_less
+    if_equal choose
 testing = tt
 
 -- The rows of an empty queue, which encode, with a root stored to record 7: a queue's encoding before and after.
@@ -77,7 +77,8 @@ halted = 2 ∷ 1 ∷ 1 ∷ 5 ∷ 1 ∷ []
 abbrev marked : List (List ℕ)
 marked = set rows marks_row halted
 
-pub mark_again : queue_words (get_or (set marked marks_row halted) marks_row []) ≡ queue_words (get_or marked marks_row [])
+pub mark_again : queue_words (get_or (set marked marks_row halted) marks_row [])
+    ≡ queue_words (get_or marked marks_row [])
 unfolding testing
 mark_again =
     marks_same marked (set marked marks_row halted) (mark_framed marked halted refl refl refl refl) refl refl refl refl

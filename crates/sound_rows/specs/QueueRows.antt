@@ -9,7 +9,8 @@ use Rattle.codec.specs.Codec.{word, link_from, epoch_from}
 use Rattle.codec.specs.Frame.{words_from, a_link, Part}
 use Rattle.queue.specs.declared.Root.{Root}
 use Rattle.lent_queue.specs.LentQueue.{queue_rows, tree_count, root_rows, marks_row, head_tag, head_word, total_word}
-use Rattle.lent_queue.specs.LentQueue.{budgets_word, epoch_tag, epoch_word, mark_word, list_from, root_from, halted_from}
+use Rattle.lent_queue.specs.LentQueue.{budgets_word, epoch_tag, epoch_word, mark_word, list_from, root_from}
+use Rattle.lent_queue.specs.LentQueue.{halted_from}
 use Rattle.lent_queue.specs.Frame.{spare_words, a_mark, ListFramed, RootFramed, MarksFramed, QueueFramed}
 use Rattle.images.specs.Images.{queue_row_words}
 use Rattle.images.specs.Encoded.{link_words, epoch_words, flag_word}

@@ -1,6 +1,7 @@
 -- What calls leave of a row that encodes: it still does, and where its record is left every word is as it was. The
 -- words that no call stores are as they were in every row.
-use Rattle.std.specs.Prelude.{ℕ, suc, ◌+◌, ◌%◌, ◌<◌, ◌≡◌, refl, Bool, true, false, List, [], ◌∷◌, ltb, eqb, length, get_or}
+use Rattle.std.specs.Prelude.{ℕ, suc, ◌+◌, ◌%◌, ◌<◌, ◌≡◌, refl, Bool, true, false, List, [], ◌∷◌, ltb, eqb, length}
+use Rattle.std.specs.Prelude.{get_or}
 use Rattle.std.proofs.Common.{sym, ◌∙◌, arith, eqb-true, ltb-true}
 use Rattle.std.proofs.Math.Path.{ap}
 use Rattle.std.proofs.Math.ListN.{get_or-map}
@@ -9,14 +10,16 @@ use Rattle.thread.specs.declared.ThreadRecord.{ThreadRecord}
 use Rattle.policy_words.specs.PolicyWords.{runtime_tag, runtime_first, runtime_second, runtime_third, runtime_fourth}
 use Rattle.policy_words.specs.PolicyWords.{policy_tag, runtime_of}
 use Rattle.policy_words.specs.Encodes.{both, zeros, option_encodes, runtime_encodes}
-use Rattle.codec.specs.Codec.{word, row_words, cpu_word, decoded, links_of, queue_links_of, ready_turn_word, left_tag, left_word}
+use Rattle.codec.specs.Codec.{word, row_words, cpu_word, decoded, links_of, queue_links_of, ready_turn_word, left_tag}
+use Rattle.codec.specs.Codec.{left_word}
 use Rattle.codec.specs.Codec.{right_tag, right_word, height_word, previous_tag, previous_word, next_tag, next_word}
 use Rattle.codec.specs.Codec.{membership_tag, membership_first, membership_second}
 use Rattle.codec.specs.Frame.{membership_encodes, words_from, beside_words, Part, kept, stored, RowFramed}
 use Rattle.rows.specs.Table.{table, record_of}
 use Rattle.rows.specs.Frame.{Framed}
 use Rattle.images.specs.Encoded.{link_words, runtime_words, membership_words}
-use Rattle.images.specs.Encodes.{links_encode, queue_links_encode, parameters_encode, record_encodes, all_from, record_at}
+use Rattle.images.specs.Encodes.{links_encode, queue_links_encode, parameters_encode, record_encodes, all_from}
+use Rattle.images.specs.Encodes.{record_at}
 use Rattle.images.specs.Encodes.{table_encodes, first_spare, second_spare}
 use Rattle.images.specs.PartLaws.{both_first, both_second, both_hold, byte_exact, link_exact, runtime_exact}
 use Rattle.images.specs.PartLaws.{membership_exact}

@@ -1,12 +1,11 @@
 -- Preparing and accounting, each refusal in document 01's order and nothing else refused; and a refusal changes
 -- nothing.
-use Rattle.std.specs.Prelude.{ℕ, ◌≤◌, ◌<◌, ◌≡◌, refl, Bool, true, false, List, ltb, length}
-use Rattle.std.proofs.Common.{arith, sym, ap, ◌∙◌, ltb-true, ltb-false}
-use Rattle.refusal.specs.Answer.{Answer, value, refused, already, no_thread, bad_config, back_in_time, bad_table, bad_record}
+use Rattle.std.specs.Prelude.{ℕ, ◌≡◌, refl, Bool, true, false, List, ltb, length}
+use Rattle.std.proofs.Common.{ltb-true, ltb-false}
+use Rattle.refusal.specs.Answer.{Answer, value, refused, already, no_thread, bad_config, back_in_time, bad_table}
+use Rattle.refusal.specs.Answer.{bad_record}
 use Rattle.refusal.specs.Cases.{choose, if_less, given, and_then}
-use Rattle.time.specs.declared.Deadline.{Deadline}
 use Rattle.algorithms.specs.declared.PolicyRuntime.{PolicyRuntime}
-use Rattle.algorithms.specs.Runtime.{accounted, epoch_refreshed}
 use Rattle.thread.specs.declared.ThreadRecord.{ThreadRecord}
 use Rattle.thread.specs.Membership.{is_unqueued}
 use Rattle.thread.specs.Judgement.{is_bad_record}
@@ -53,7 +52,8 @@ judged_at_lem t id f g same = go (ltb id (length t)) refl
     go : (x : Bool) → ltb id (length t) ≡ x
         → and_then (on_record (record_at t id) (refused no_thread)
         (λ r. choose (is_bad_record r) (refused bad_record) (value r))) f
-        ≡ choose x (choose (is_bad_record (record_of t id)) (refused bad_record) (g (record_of t id))) (refused no_thread)
+        ≡ choose x (choose (is_bad_record (record_of t id)) (refused bad_record) (g (record_of t id)))
+        (refused no_thread)
     go true e = rw (record_within t id (ltb-true id (length t) e)) (bad (is_bad_record (record_of t id)) refl)
     go false e = rw (record_beyond t id (ltb-false id (length t) e))
 
@@ -100,7 +100,8 @@ preparation_is t id front now c = go (ltb max_records (length t))
         })))
         (refused already)
 
-    go : (x : Bool) → and_then (choose x (refused bad_table) (judging.judged_at t id)) (λ r. prepare_record r front now c)
+    go : (x : Bool) → and_then (choose x (refused bad_table) (judging.judged_at t id))
+        (λ r. prepare_record r front now c)
         ≡ choose x (refused bad_table) (goes_on t id plan)
     go true = refl
     go false = judged_at_lem t id (λ r. prepare_record r front now c) plan (λ r e. prepare_record_is r front now c e)

@@ -50,7 +50,8 @@ joined (some x) l = x ∷ l
 -- What the calls hand out, the first first; a refused call hands out nothing and leaves the counters as they were.
 unfoldable pub handed_out : List Call → Turns → List Handed
 handed_out [] c = []
-handed_out (call ∷ rest) c = joined (handed (made call c) (named call) c) (handed_out rest (counters_after (made call c)))
+handed_out (call ∷ rest) c = joined (handed (made call c) (named call) c)
+    (handed_out rest (counters_after (made call c)))
 
 -- The counters after the calls.
 unfoldable pub counters_of : List Call → Turns → Turns

@@ -1,17 +1,14 @@
 -- A FIFO thread with a lesser turn comes before every other of its priority, band and role: by its tree key, and by its
 -- dispatch key under any window and demand.
-use Rattle.std.specs.Prelude.{ℕ, ◌<◌, ◌≡◌, refl, Bool, true, false, List, [], ◌∷◌}
-use Rattle.std.proofs.Common.{sym, ap, ◌∙◌}
-use Rattle.refusal.specs.Cases.{choose, given, if_equal}
+use Rattle.std.specs.Prelude.{ℕ, ◌<◌, ◌≡◌, refl, true, false}
+use Rattle.std.proofs.Common.{sym, ◌∙◌}
+use Rattle.refusal.specs.Cases.{choose, given}
 use Rattle.order.specs.declared.Ordering.TheVariants.{Less}
-use Rattle.order.specs.Order.{compare_numbers, then_by, compare_parts}
+use Rattle.order.specs.Order.{then_by, compare_parts}
 use Rattle.order.specs.StrictOrder.{compare_less, compare_equal}
 use Rattle.policy.specs.declared.ThreadPriority.{ThreadPriority}
 use Rattle.policy.specs.declared.SchedulingParameters.{SchedulingParameters}
-use Rattle.policy.specs.declared.SchedulingPolicy.{SchedulingPolicy}
 use Rattle.policy.specs.declared.SchedulingPolicy.TheVariants as policy
-use Rattle.policy.specs.declared.SchedulingRole.{SchedulingRole}
-use Rattle.policy.specs.declared.BudgetOption.{BudgetOption}
 use Rattle.policy.specs.declared.BudgetOption.TheVariants as budget
 use Rattle.policy.specs.PolicyCases.{on_policy, on_budget}
 use Rattle.thread.specs.declared.ThreadRecord.{ThreadRecord}
@@ -24,7 +21,7 @@ use Rattle.dispatch_keys.specs.declared.DispatchKey.{DispatchKey}
 use Rattle.arbitration.specs.declared.DispatchMode.{DispatchMode}
 use Rattle.arbitration.specs.declared.KeyOption.TheVariants as option
 use Rattle.window_config.specs.Config.{accepts_budget}
-use Rattle.arbitration.specs.Key.{exhausted_of, shut_out, strict_fifo, favoured, algorithm_of, on_algorithm, ordinary_rank}
+use Rattle.arbitration.specs.Key.{exhausted_of, shut_out, strict_fifo, favoured, algorithm_of, on_algorithm}
 use Rattle.arbitration.specs.Key.{tier_of, key_of, compare_keys}
 
 -- Two threads of one FIFO priority and band; r has the lesser turn.

@@ -1,7 +1,7 @@
 -- What one call of `prepare_enqueue` does to the counters: it hands out one turn at one end, or leaves both as they
 -- were.
-use Rattle.std.specs.Prelude.{ℕ, ◌+◌, ◌-◌, ◌<◌, ◌≤◌, ◌≡◌, refl, Bool, true, false, List, ltb, eqb, length}
-use Rattle.std.proofs.Common.{arith, sym, ap, ◌∙◌, ltb-true, eq-eqb, ne_eqb}
+use Rattle.std.specs.Prelude.{ℕ, ◌+◌, ◌-◌, ◌<◌, ◌≡◌, refl, Bool, true, false, List, ltb, eqb, length}
+use Rattle.std.proofs.Common.{arith, ap, ◌∙◌, ltb-true, eq-eqb, ne_eqb}
 use Rattle.std.proofs.Math.Option.{Option, none, some}
 use Rattle.refusal.specs.Answer.{Answer, value, refused, already, no_thread, turns_spent, bad_table, bad_record}
 use Rattle.refusal.specs.Cases.{choose, if_less, if_equal, given, and_then}
@@ -15,7 +15,7 @@ use Rattle.thread.specs.declared.ThreadRecord.{ThreadRecord}
 use Rattle.thread.specs.Membership.{is_unqueued}
 use Rattle.thread.specs.Judgement.{is_bad_record}
 use Rattle.thread.specs.Records.{with_runtime, with_turn}
-use Rattle.rows.specs.Table.{Out, out, after, record_of, record_at, changed, set_runtime, set_turn}
+use Rattle.rows.specs.Table.{out, after, record_of, record_at, changed, set_runtime}
 use Rattle.rows.specs.declared.RecordRead.{RecordRead}
 use Rattle.rows.specs.declared.RecordRead.TheVariants as read
 use Rattle.rows.specs.TableCases.{on_record}
@@ -27,10 +27,10 @@ use Rattle.decisions.specs.declared.Taken.{Taken}
 use Rattle.runtime.specs.declared.Preparation.{Preparation}
 use Rattle.decisions.specs.Turns.{front_turn, back_turn, kept_turn, turn_for}
 use Rattle.runtime.specs.Judging.{judged_at, judged}
-use Rattle.runtime.specs.Prepare.{Counted, counted, prepare_record, preparation, stored_preparation, prepared}
+use Rattle.runtime.specs.Prepare.{counted, prepare_record, preparation, stored_preparation, prepared}
 use Rattle.runtime.specs.Prepare.{prepare_enqueue}
 use Rattle.sound_runtime.specs.Handed.{Call, prepare, made, named, Handed, at_front, at_back, counters_after}
-use Rattle.sound_runtime.specs.Handed.{turn_after, handed}
+use Rattle.sound_runtime.specs.Handed.{handed}
 
 -- A turn, and the counters before and after it was taken or kept.
 pub data Taking (c : Turns) : ℕ → Turns → Type 0 where

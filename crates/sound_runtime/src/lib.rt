@@ -1,4 +1,4 @@
-// Turns, budgets and windows: the theory of crate runtime is in specs/ (specs/Theorems.antt has the theorems); there is
-// no code here.
+// Turns, budgets and windows: the theory of crate runtime is in specs/ and proofs/ (proofs/Theorems.antt has the
+// theorems); there is no code here.
 
 #![tactic(auto)]

@@ -51,7 +51,8 @@ module _ (queued : ℕ → Bool) (t : List ThreadRecord) (now : ℕ) (current : 
       → Within (alone (candidate_now t now j)) (gathered_below n queued t now current)
   below_each zero j l e = absurd (omega arith)
   below_each (suc n) j l e = same_or_not j n
-      (λ z. subst (λ m. Within (alone (candidate_now t now m)) (below (suc n))) (sym z) (here n (ap queued (sym z) ∙ e)))
+      (λ z. subst (λ m. Within (alone (candidate_now t now m)) (below (suc n))) (sym z)
+      (here n (ap queued (sym z) ∙ e)))
       (λ z. within_trans (below_each n j (omega arith) e) (wider n))
 
   pub below_most : (n : ℕ) (z : Gathered) → Within (of_current current) z

@@ -37,7 +37,8 @@ pub data Shift (now p : ℕ) (a : ThreadRecord) (p' : ℕ) (b : ThreadRecord) : 
 -- The head of tree k: none, and nobody stands there; or a thread that stands there and precedes every other that does.
 pub data Head (t : List ThreadRecord) (place : ℕ → ℕ) (k : ℕ) : Link → Type 0 where
   nobody_there : ((j : ℕ) → place j ≢ k) → Head t place k link.None
-  first_of_list : (i : ℕ) → place i ≡ k → ((j : ℕ) → place j ≡ k → j ≢ i → Precedes t i j) → Head t place k (link.Some i)
+  first_of_list : (i : ℕ) → place i ≡ k → ((j : ℕ) → place j ≡ k → j ≢ i → Precedes t i j)
+      → Head t place k (link.Some i)
 
 -- What the tree says of a queued record: policy and role, and of a budget one of the two trees of its role.
 pub data Standing (r : ThreadRecord) (k : ℕ) : Type 0 where

@@ -1,9 +1,8 @@
 -- The least key among the heads: the last pass names one of them, or none where none has a key, and the window is
 -- refreshed where there is a head.
-use Rattle.std.specs.Prelude.{ℕ, zero, suc, ◌+◌, ◌-◌, ◌/◌, ◌≤◌, ◌<◌, ◌≡◌, refl, Bool, true, false, List, length, get_or}
-use Rattle.std.proofs.Common.{sym, ap, ◌∙◌, subst, arith, le-ltb}
-use Rattle.refusal.specs.Cases.{never, choose, given}
-use Rattle.time.specs.Time.{rises}
+use Rattle.std.specs.Prelude.{ℕ, zero, suc, ◌+◌, ◌-◌, ◌≤◌, ◌<◌, ◌≡◌, refl, List, length, get_or}
+use Rattle.std.proofs.Common.{sym, ap, ◌∙◌, subst, arith}
+use Rattle.refusal.specs.Cases.{never, given}
 use Rattle.arbitration.specs.declared.CpuWindow.{CpuWindow}
 use Rattle.arbitration.specs.declared.Demand.{Demand}
 use Rattle.dispatch_keys.specs.declared.DispatchKey.{DispatchKey}
@@ -81,7 +80,8 @@ module _ (t : List ThreadRecord) (heads : List Link) (now : ℕ) (d : Demand) (W
     pub has_key : key_of W now (candidate_of (record_of t i)) d ≡ key.Some k mode
 
   abbrev pub Inside : ℕ → Type 0
-  Inside left = (k i : ℕ) → k < tree_count → tree_count ≤ k + left → get_or heads k link.None ≡ link.Some i → i < length t
+  Inside left = (k i : ℕ) → k < tree_count → tree_count ≤ k + left → get_or heads k link.None ≡ link.Some i
+      → i < length t
 
   later_trees : (left i : ℕ) (k : DispatchKey) → HeadKey left i k → HeadKey (suc left) i k
   later_trees left i k h =
@@ -119,7 +119,8 @@ module _ (t : List ThreadRecord) (heads : List Link) (now : ℕ) (d : Demand) (W
           → Every P c.ready
       pub fresh : (k i : ℕ) → k < tree_count → tree_count ≤ k + left → get_or heads k link.None ≡ link.Some i
           → c.window ≡ W
-      pub stale : ((k : ℕ) → k < tree_count → tree_count ≤ k + left → get_or heads k link.None ≡ link.None) → c.window ≡ w
+      pub stale : ((k : ℕ) → k < tree_count → tree_count ≤ k + left → get_or heads k link.None ≡ link.None)
+          → c.window ≡ w
       pub kept : w ≡ W → c.window ≡ W
 
     abbrev pub LeastAll : ℕ → Type 0
@@ -177,7 +178,8 @@ module _ (t : List ThreadRecord) (heads : List Link) (now : ℕ) (d : Demand) (W
         still_fresh = ap (λ (x : CpuWindow). refreshed x now) (sym e) ∙ refreshed_again w now ∙ e
 
         key_of_head : (j : ℕ) (k : DispatchKey) → HeadKey (suc left) j k
-            → get_or heads (last_tree - left) link.None ≡ link.Some j → Under (ready_with t i W now d best) (pair_parts k j)
+            → get_or heads (last_tree - left) link.None ≡ link.Some j
+            → Under (ready_with t i W now d best) (pair_parts k j)
         key_of_head j k h y =
             let q : i ≡ j = cc in
             subst (λ n. Under (ready_with t i W now d best) (pair_parts k n)) q

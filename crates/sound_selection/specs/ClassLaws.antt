@@ -25,7 +25,8 @@ use Rattle.arbitration.specs.declared.DispatchMode.{DispatchMode}
 use Rattle.arbitration.specs.declared.KeyOption.{KeyOption}
 use Rattle.arbitration.specs.declared.KeyOption.TheVariants as key
 use Rattle.window_config.specs.Config.{accepts_budget}
-use Rattle.arbitration.specs.Key.{exhausted_of, shut_out, strict_fifo, favoured, algorithm_of, on_algorithm, ordinary_rank}
+use Rattle.arbitration.specs.Key.{exhausted_of, shut_out, strict_fifo, favoured, algorithm_of, on_algorithm}
+use Rattle.arbitration.specs.Key.{ordinary_rank}
 use Rattle.arbitration.specs.Key.{tier_of, key_of}
 use Rattle.thread.specs.declared.ThreadRecord.{ThreadRecord}
 use Rattle.thread.specs.Filing.{budget_available_of, role_index}
@@ -185,7 +186,8 @@ module _ (w : CpuWindow) (now : ℕ) (d : Demand) where
   -- The head of a tree comes before every other thread of it.
   pub alike_before : (i j : ℕ) (a b : ThreadRecord) (k : DispatchKey) (m : DispatchMode) → Alike a b
       → accepts_budget w.config a.parameters ≡ true → accepts_budget w.config b.parameters ≡ true
-      → compare_tree_keys (ready_index_key a i) (ready_index_key b j) ≡ Less → key_of w now (candidate_of b) d ≡ key.Some k m
+      → compare_tree_keys (ready_index_key a i) (ready_index_key b j) ≡ Less
+      → key_of w now (candidate_of b) d ≡ key.Some k m
       → Before i j a k
   alike_before i j a b k m (both_fifo p q e f r) u v h g =
       before_by i j a b false 0 k m h (tier_same a b false (both_fifo p q e f r)) (fifo_key_lem a u p e)
@@ -197,7 +199,7 @@ module _ (w : CpuWindow) (now : ℕ) (d : Demand) where
       (tier_same a b (not (budget_available_of b.runtime)) (both_budget e f r l))
       (subst (λ y. key_of w now (candidate_of a) d ≡ formed (not y) 2 a) l (budget_key a u e)) (budget_key b v f) g
 
--- A round_robin_lem thread counts as pass 0.
+-- A round robin thread counts as pass 0.
 round_robin_pass : (x : PolicyRuntime) (p : SchedulingParameters) (turn : ℕ) → p.fair_backend ≡ backend.RoundRobin
     → (candidate_key x p turn).pass ≡ zero_pass
 unfolding candidate_key on_runtime on_backend

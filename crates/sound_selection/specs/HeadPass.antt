@@ -98,7 +98,8 @@ pub data Gathering {queued : ℕ → Bool} {q : CpuRunQueue} {t : List ThreadRec
 
 -- The trees not yet looked at have no head noted.
 abbrev pub Blank : ℕ → List Link → Type 0
-Blank left heads = (length heads ≡ tree_count) × ((k : ℕ) → tree_count ≤ k + left → get_or heads k link.None ≡ link.None)
+Blank left heads = (length heads ≡ tree_count)
+    × ((k : ℕ) → tree_count ≤ k + left → get_or heads k link.None ≡ link.None)
 
 precedes_same : (t s : List ThreadRecord) (i j : ℕ) → ((n : ℕ) → key_at s n ≡ key_at t n) → Precedes s i j
     → Precedes t i j

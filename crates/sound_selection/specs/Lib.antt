@@ -36,13 +36,5 @@ pub mod ReachedSound
 pub mod Classes
 -- Laws of records of one class.
 pub mod ClassLaws
--- A queued thread's tree says of which class it is.
-pub mod Filing
--- The guarantee for one selection from any sound queue.
-pub mod Guarantee
--- Demand 3.
-pub mod Demand3
 -- What computes in instances, under one name.
 pub mod Computing
--- A run in which the premises hold.
-pub mod Instance

@@ -150,7 +150,8 @@ module _ (queued : ℕ → Bool) (now role : ℕ) (b : role < 3) where
   abbrev pub Drains : ℕ → Type 0
   Drains moves =
       (q : CpuRunQueue) (t : List ThreadRecord) (S : Sound queued q t) → count (length t) (spent S.place) ≤ moves
-      → Drained S now role (move_all moves t (root_of q (budget_exhausted + role)) (root_of q (budget_ready + role)) now)
+      → Drained S now role (move_all moves t (root_of q (budget_exhausted + role))
+      (root_of q (budget_ready + role)) now)
 
   module _ (q : CpuRunQueue) (t : List ThreadRecord) (S : Sound queued q t) where
     abbrev own : ℕ → BudgetTrees

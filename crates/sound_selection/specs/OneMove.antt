@@ -122,7 +122,8 @@ module _ {queued : ℕ → Bool} {q : CpuRunQueue} {t : List ThreadRecord} (S : 
     abbrev trees : BudgetTrees
     trees = budget_trees M.rest M.top moves
 
-    moves_it : move_one t (budget_trees (root_of q (budget_exhausted + role)) (root_of q (budget_ready + role)) moves) i now
+    moves_it : move_one t (budget_trees (root_of q (budget_exhausted + role))
+        (root_of q (budget_ready + role)) moves) i now
         ≡ out (leaves (value tt) trees) M.table
     unfolding move_one on_rooted on_out on_answer
     moves_it = rw (removes, refreshes_there, inserts)

@@ -108,7 +108,8 @@ not_refreshed (runtime.Fair f) now p n = refl
 not_refreshed (runtime.Budget b) now p n = absurd n
 not_refreshed runtime.Idle now p n = refl
 
-budget_refreshed_lem : (x : PolicyRuntime) (b : BudgetRuntime) (now : ℕ) (p : SchedulingParameters) (q : BudgetParameters)
+budget_refreshed_lem : (x : PolicyRuntime) (b : BudgetRuntime) (now : ℕ) (p : SchedulingParameters)
+    (q : BudgetParameters)
     → x ≡ runtime.Budget b → p.budget ≡ option.Some q → sound_budget q ≡ true
     → epoch_refreshed x now p ≡ value (runtime.Budget (budget.refreshed b now q))
 unfolding epoch_refreshed on_runtime on_budget of_budget budget.refreshed_judged budget.judged choose given
@@ -124,14 +125,16 @@ module _ (now : ℕ) (r : ThreadRecord) where
   bad : {A : Type 0} → true ≡ false → A
   bad e = never cc
 
-  sound_by : (q : BudgetParameters) (y : Bool) → sound_budget q ≡ y → choose y false true ≡ false → sound_budget q ≡ true
+  sound_by : (q : BudgetParameters) (y : Bool) → sound_budget q ≡ y → choose y false true ≡ false
+      → sound_budget q ≡ true
   unfolding choose
   sound_by q true e h = e
   sound_by q false e h = bad h
 
   judged_by : (p : SchedulingPolicy) (x : PolicyRuntime) (b : BudgetOption) → r.parameters.policy ≡ p → r.runtime ≡ x
       → r.parameters.budget ≡ b
-      → choose (same_kind x p) (on_policy p (λ priority. has_budget b) (has_budget b) (is_bad_budget b) (has_budget b)) true
+      → choose (same_kind x p) (on_policy p (λ priority. has_budget b) (has_budget b) (is_bad_budget b)
+      (has_budget b)) true
       ≡ false → Refreshes now r
   unfolding choose same_kind on_policy has_budget is_bad_budget on_budget is_budget
   judged_by (policy.Fifo a) runtime.Fifo option.None e f g h = stays runtime.Fifo f tt (rw e) g

@@ -21,7 +21,8 @@ use Rattle.renewal.specs.Leaves.{on_leaves}
 use Rattle.demands.specs.Demands.{of_current}
 use Rattle.renewal.specs.Renewal.{renew}
 use Rattle.selection.specs.Heads.{Heads, Chosen, no_heads, gather_heads, least_of}
-use Rattle.selection.specs.Peek.{Peeked, peeked, chosen, peek_running, peek_parts, selection_parts, with_selection_parts}
+use Rattle.selection.specs.Peek.{Peeked, peeked, chosen, peek_running, peek_parts, selection_parts}
+use Rattle.selection.specs.Peek.{with_selection_parts}
 use Rattle.selection.specs.Peek.{restored, peek_next}
 use Rattle.sound_queue.specs.Sound.{Sound, OneProcessor}
 use Rattle.sound_selection.specs.Changes.{bare_at, Left, FineSelection, unchanged, answered}

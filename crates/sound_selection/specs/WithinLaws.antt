@@ -15,7 +15,8 @@ use Rattle.arbitration.specs.declared.Candidate.{Candidate}
 use Rattle.demands.specs.declared.PassOption.{PassOption}
 use Rattle.demands.specs.declared.PassOption.TheVariants as pass
 use Rattle.demands.specs.declared.Gathered.{Gathered}
-use Rattle.demands.specs.Demands.{demand_of, either, joined, add_demand, compare_passes, lesser_pass, on_pass, lowest_pass}
+use Rattle.demands.specs.Demands.{demand_of, either, joined, add_demand, compare_passes, lesser_pass, on_pass}
+use Rattle.demands.specs.Demands.{lowest_pass}
 use Rattle.demands.specs.Demands.{gathered}
 use Rattle.sound_selection.specs.Within.{AtMost, less, same, Implies, pass_parts, PassWithin, Within, alone}
 
@@ -98,7 +99,8 @@ pass_both (pass.Some a) (pass.Some b) p q = ap pass.Some (same_pass a b (at_most
 -- The lowest pass with one more, by the policy of that one.
 module _ (new : Wide) where
   abbrev with_one : SchedulingPolicy → PassOption → PassOption
-  with_one p l = on_policy p (λ priority. l) (on_pass l (pass.Some new) (λ old. given (lesser_pass old new) pass.Some)) l l
+  with_one p l = on_policy p (λ priority. l)
+      (on_pass l (pass.Some new) (λ old. given (lesser_pass old new) pass.Some)) l l
 
   pass_old : (p : SchedulingPolicy) (l : PassOption) → PassWithin l (with_one p l)
   unfolding on_policy on_pass given

@@ -16,7 +16,6 @@ use Rattle.policy.specs.Parameters.{default_weight, of_budget, of_fifo}
 use Rattle.algorithms.specs.declared.PolicyRuntime.{PolicyRuntime}
 use Rattle.algorithms.specs.declared.PolicyRuntime.TheVariants as runtime
 use Rattle.arbitration.specs.declared.CpuWindow.{CpuWindow}
-use Rattle.arbitration.specs.declared.Demand.{Demand}
 use Rattle.dispatch_keys.specs.declared.DispatchKey.{DispatchKey}
 use Rattle.arbitration.specs.declared.DispatchMode.TheVariants as mode
 use Rattle.arbitration.specs.declared.KeyOption.TheVariants as key
@@ -181,7 +180,8 @@ account_rows =
     row (accounted_seen (account_current (one (share role.Protected) (left 0 2000000 1000000)) 0 window mode.Ordinary
     9000000 11000000)) (0 ∷ 2000000 ∷ 2000000 ∷ 2 ∷ some 1 ++ 1000000 ∷ 0 ∷ [])
     -- BackInTime leaves record and window as they were.
-    ∷ row (accounted_seen (account_current (one (share role.Protected) (left 0 2000000 1000000)) 0 window mode.Ordinary 2
+    ∷ row (accounted_seen (account_current
+    (one (share role.Protected) (left 0 2000000 1000000)) 0 window mode.Ordinary 2
     1)) (7 ∷ 2000000 ∷ 3000000 ∷ 2 ∷ some 0 ++ 2000000 ∷ 1000000 ∷ [])
     -- Idle is accepted; a Fair record's pass and slice stay, and the window is still charged.
     ∷ row (accounted_seen (account_current (one idle runtime.Idle) 0 window mode.Priority 11000000 11500000))
@@ -217,7 +217,8 @@ switch_rows =
     ∷ gives_way fifo (ranked 2 9 5) false false ∷ gives_way (share role.Ordinary) (ranked 2 99 99) true false ∷ [])
     (1 ∷ 0 ∷ 1 ∷ 1 ∷ [])
     -- No ready thread, no switch; no key of its own, a switch.
-    ∷ row (bit (should_switch_of ready.None (key.Some (ranked 2 10 5) mode.Ordinary) (fair backend.Stride) true true true)
+    ∷ row (bit (should_switch_of ready.None (key.Some (ranked 2 10 5) mode.Ordinary)
+    (fair backend.Stride) true true true)
     ∷ bit (should_switch_of (ready.Some (ranked 3 1 1)) key.None (fair backend.Stride) false false false) ∷ [])
     (0 ∷ 1 ∷ [])
     ∷ []

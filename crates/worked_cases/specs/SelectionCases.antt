@@ -20,7 +20,8 @@ use Rattle.demands.specs.declared.PassOption.TheVariants as pass
 use Rattle.selection.specs.declared.Selection.{Selection}
 use Rattle.renewal.specs.Renewal.{with_trees}
 use Rattle.selection.specs.Peek.{Peeked, peeked, peek_next}
-use Rattle.selection.specs.Samples.{window, spent_window, bad_window, six, budgeted, fair, running, running_fair, last_at}
+use Rattle.selection.specs.Samples.{window, spent_window, bad_window, six, budgeted, fair, running, running_fair}
+use Rattle.selection.specs.Samples.{last_at}
 use Rattle.selection.specs.Samples.{selected, answer_of, window_of, queue_of, table_of, named, lowest}
 use Rattle.worked_cases.specs.Rows.{Row, row, bit}
 use Rattle.worked_cases.specs.Seen.{none, some, epoch_seen, runtimes_seen, roots_seen, queue_seen, table_seen}
@@ -222,7 +223,7 @@ refused_rows =
 
 abbrev pass_rows : List Row
 pass_rows =
-    -- Lowest fair pass: least over the heads of the Fair trees and a Fair current thread; a queued round_robin_lem thread
+    -- Lowest fair pass: least over the heads of the Fair trees and a Fair current thread; a queued round robin thread
     -- counts as 0, the current one with its own.
     row (pass_seen (lowest (answer_of (selected fairs 0 candidate.None)))) (1 ∷ 1 ∷ 4 ∷ [])
     ∷ row (pass_seen (lowest (answer_of (selected fairs 0 (candidate.Some (running_fair backend.RoundRobin 0 9))))))

@@ -1,6 +1,6 @@
 -- Demand 3 over the words that a board lends: from `board_new`'s words on, whatever calls are made for one processor
 -- and whatever becomes of rows that are not queued.
-use Rattle.std.specs.Prelude.{ℕ, ◌≤◌, ◌<◌, ◌≡◌, refl, Bool, true, false, List, [], ◌∷◌, length, get_or}
+use Rattle.std.specs.Prelude.{ℕ, ◌≤◌, ◌<◌, ◌≡◌, refl, Bool, List, [], ◌∷◌, length, get_or}
 use Rattle.std.proofs.Common.{sym, ap, ◌∙◌, subst, arith, ne_eqb}
 use Rattle.std.proofs.lemmas.List.{length-map}
 use Rattle.std.proofs.Math.ListN.{get_or-map}
@@ -20,15 +20,15 @@ use Rattle.lent_queue.specs.LentQueue.{queue_of}
 use Rattle.selection.specs.declared.Selection.{Selection}
 use Rattle.selection.specs.Peek.{Peeked, peeked, peek_next}
 use Rattle.board_words.specs.BoardWords.{selection_from, current_of}
-use Rattle.board.specs.Board.{Left, left, processor, queue_left, answered, beside, selection_left, Enqueues, Removes}
+use Rattle.board.specs.Board.{Left, left, processor, queue_left, answered, beside, selection_left}
 use Rattle.board.specs.Board.{Selects}
-use Rattle.sound_queue.specs.Sound.{including, excluding}
 use Rattle.sound_queue.specs.SoundLaws.{queued_inside}
 use Rattle.sound_queue.specs.Calls.{rows_fit}
-use Rattle.sound_selection.specs.Claim.{Call, enqueue_at, remove_at, select_at, change_to, State, left_by, left_by_selection}
+use Rattle.sound_selection.specs.Claim.{Call, enqueue_at, remove_at, select_at, change_to, State, left_by}
+use Rattle.sound_selection.specs.Claim.{left_by_selection}
 use Rattle.sound_selection.specs.Claim.{after, Allowed, after_all, fresh, Answered}
-use Rattle.sound_selection.specs.Demand3.{SoundIn, fresh_sound, calls_sound}
-use Rattle.sound_selection.specs.Guarantee.{one_selection}
+use Rattle.sound_selection.proofs.Demand3.{SoundIn, fresh_sound, calls_sound}
+use Rattle.sound_selection.proofs.Guarantee.{one_selection}
 use Rattle.sound_board.specs.Numbers.{NumberedStep, enqueue_numbered, remove_call_numbered}
 use Rattle.sound_board.specs.Claim.{Board, New, Step, Steps, none, then, enqueues, removes, selects, changes}
 use Rattle.sound_board.specs.Claim.{PremisesOn, Answers}
@@ -148,7 +148,8 @@ steps_sound cpu a S (then b c p s) = step_sound cpu b (steps_sound cpu a S p) s
 answers : (b : Board) (now running : ℕ) (window current answer : List ℕ) (n : ℕ) (window₁ answer₁ : List ℕ)
     (q t : List (List ℕ)) (o : Out (Peeked CpuRunQueue))
     → Answered b.queued (table b.rows) now (window_of window) (current_of (flag_from running) current) o
-    → left n (selection_from answer₁, (window_of window₁, queue_of q, table t)) ≡ selection_left (selection_from answer) o
+    → left n (selection_from answer₁, (window_of window₁, queue_of q, table t))
+    ≡ selection_left (selection_from answer) o
     → Answers b now running window current n answer₁
 unfolding selection_left answered beside
 answers b now running window current answer n window₁ answer₁ q t o A h =

@@ -55,7 +55,7 @@ use Rattle.sound_selection.specs.HeadPass.{candidate_bare, candidate_same, Found
 use Rattle.sound_selection.specs.Choosing.{HeadKey, Least, least}
 use Rattle.sound_selection.specs.Selecting.{Turn, turn, after_turn, Pass, pass, choice, answer, select_is}
 use Rattle.sound_selection.specs.Selecting.{select_left}
-use Rattle.sound_selection.specs.Filing.{admitted_accepts, admitted_backend, parameters_after, classed}
+use Rattle.sound_selection.proofs.Filing.{admitted_accepts, admitted_backend, parameters_after, classed}
 
 -- A record's candidate does not look at tree links.
 candidate_links : (t : List ThreadRecord) (j : ℕ) → candidate_of (record_of t j) ≡ candidate_of (bare_at t j)

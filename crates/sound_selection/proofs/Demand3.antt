@@ -30,7 +30,7 @@ use Rattle.sound_selection.specs.Changes.{bare_at, FineSelection}
 use Rattle.sound_selection.specs.Changes as changes
 use Rattle.sound_selection.specs.ChangeLaws.{fresher_parameters, fresher_cpu}
 use Rattle.sound_selection.specs.Selecting.{select_fine}
-use Rattle.sound_selection.specs.Guarantee.{one_selection}
+use Rattle.sound_selection.proofs.Guarantee.{one_selection}
 
 -- The queue of a state is sound, with its queued threads, which are all of one processor, and its FIFO priorities are
 -- bytes.

@@ -1,6 +1,6 @@
 -- The theorems about turns, budgets and windows.
 use Rattle.std.specs.Prelude.{ℕ, ◌-◌, ◌<◌, ◌≤◌, ◌≡◌, Bool, false, List, ltb, length}
-use Rattle.std.proofs.Common.{arith, sym, ◌∙◌, subst, ltb-true}
+use Rattle.std.proofs.Common.{arith, ◌∙◌, subst, ltb-true}
 use Rattle.std.proofs.Math.Path.{refl, ap}
 use Rattle.std.proofs.Math.Bool.{true}
 use Rattle.refusal.specs.Answer.{Answer, value, refused, already, no_thread, bad_config, back_in_time, turns_spent}
@@ -18,7 +18,7 @@ use Rattle.algorithms.specs.declared.PolicyRuntime.TheVariants as runtime
 use Rattle.thread.specs.declared.ThreadRecord.{ThreadRecord}
 use Rattle.thread.specs.Membership.{is_unqueued}
 use Rattle.thread.specs.Judgement.{is_bad_record}
-use Rattle.thread.specs.Records.{with_runtime, with_turn}
+use Rattle.thread.specs.Records.{with_runtime}
 use Rattle.thread.specs.TreeKey.{ready_index_key, compare_tree_keys}
 use Rattle.arbitration.specs.declared.Candidate.{Candidate}
 use Rattle.arbitration.specs.declared.CpuWindow.{CpuWindow}
@@ -33,15 +33,14 @@ use Rattle.queue.specs.Queue.{max_records}
 use Rattle.decisions.specs.declared.Turns.{Turns}
 use Rattle.decisions.specs.declared.Taken.{Taken}
 use Rattle.runtime.specs.declared.Preparation.{Preparation}
-use Rattle.runtime.specs.declared.Accounting.{Accounting}
 use Rattle.decisions.specs.Turns.{new_turns, front_turn, turn_for}
-use Rattle.runtime.specs.Prepare.{Counted, counted, preparation, stored_preparation, prepared, prepare_enqueue}
-use Rattle.runtime.specs.Account.{accounting, settled, account_current}
+use Rattle.runtime.specs.Prepare.{Counted, counted, prepared, prepare_enqueue}
+use Rattle.runtime.specs.Account.{settled, account_current}
 use Rattle.sound_runtime.specs.Handed.{Call, handed_out, counters_of, InOrder, NoRepeat, among}
 use Rattle.sound_runtime.specs.Outcome.{stored_record}
-use Rattle.sound_runtime.specs.Order.{in_order_lem, no_repeat, between}
+use Rattle.sound_runtime.proofs.Order.{in_order_lem, no_repeat, between}
 use Rattle.sound_runtime.specs.Keys.{Alike, tree_key_less, Ahead, dispatch_key_less}
-use Rattle.sound_runtime.specs.Budgets.{refreshed_within, Charged, charged_less, WindowCharged}
+use Rattle.sound_runtime.specs.Budgets.{refreshed_within, charged_less, WindowCharged}
 use Rattle.sound_runtime.specs.Budgets.{window_charged_less}
 use Rattle.runtime.specs.Judged.{fresh_of, charged_of}
 use Rattle.sound_runtime.specs.Calls.{preparation_is, accounting_is}
@@ -119,7 +118,8 @@ module _ (t : List ThreadRecord) (id : ℕ) (c : Turns) where
       go : (large within : Bool) → ltb id (length t) ≡ within → (bad unqueued : Bool)
           → IfFront t id c (prepared t id c
           (choose large (refused bad_table)
-          (choose within (choose bad (refused bad_record) (choose unqueued plan (refused already))) (refused no_thread))))
+          (choose within (choose bad (refused bad_record) (choose unqueued plan (refused already)))
+          (refused no_thread))))
       go true within l bad unqueued = tt
       go false false l bad unqueued = tt
       go false true l true unqueued = tt

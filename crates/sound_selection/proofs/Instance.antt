@@ -33,7 +33,7 @@ use Rattle.sound_selection.specs.Claim.{AnsweredIn}
 use Rattle.sound_selection.specs.Reached.{Reached}
 use Rattle.sound_selection.specs.Reached as reached
 use Rattle.sound_selection.specs.ReachedSound.{reached_sound}
-use Rattle.sound_selection.specs.Demand3.{demand_3}
+use Rattle.sound_selection.proofs.Demand3.{demand_3}
 use Rattle.sound_selection.specs.Computing.{computing}
 
 -- Threads 0, 1 and 2.

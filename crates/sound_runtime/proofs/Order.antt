@@ -1,7 +1,7 @@
 -- Turns handed out from one pair of counters are in order, and never repeat.
-use Rattle.std.specs.Prelude.{ℕ, ◌+◌, ◌-◌, ◌<◌, ◌≤◌, ◌≡◌, refl, Bool, true, false, List, [], ◌∷◌, eqb}
-use Rattle.std.proofs.Common.{arith, sym, ap, ◌∙◌, ne_eqb, eqb-true}
-use Rattle.std.proofs.Math.Option.{Option, none, some}
+use Rattle.std.specs.Prelude.{ℕ, ◌-◌, ◌<◌, ◌≤◌, ◌≡◌, refl, Bool, true, false, List, [], ◌∷◌, eqb}
+use Rattle.std.proofs.Common.{arith, ne_eqb, eqb-true}
+use Rattle.std.proofs.Math.Option.{Option}
 use Rattle.refusal.specs.Cases.{never, choose}
 use Rattle.decisions.specs.declared.Turns.{Turns}
 use Rattle.sound_runtime.specs.Handed.{Call, made, named, Handed, at_front, at_back, turn_of, handed, joined}
@@ -122,7 +122,8 @@ between (call ∷ rest) c b n h =
         × ((counters_of rest d).front ≤ d.front)
         → (d.front ≤ d.back → among n (handed_out rest d) ≡ true
         → ((counters_of rest d).front ≤ n) × (n < (counters_of rest d).back))
-        → among n (joined x (handed_out rest d)) ≡ true → ((counters_of rest d).front ≤ n) × (n < (counters_of rest d).back)
+        → among n (joined x (handed_out rest d)) ≡ true → ((counters_of rest d).front ≤ n)
+        × (n < (counters_of rest d).back)
     by d x hands_nothing w k h = k b h
     by d x (hands_back l) w k h =
         let low : d.back ≤ (counters_of rest d).back = w.0 in let high : (counters_of rest d).front ≤ d.front = w.1 in
