@@ -96,7 +96,8 @@ candidate_key r p turn =
     (record { pass = zero_pass; turn = turn })
 
 -- The algorithm's own deadline: a fair slice's end, or a budget's, which is refreshed; none without competition.
-unfoldable pub next_deadline : PolicyRuntime → ℕ → SchedulingParameters → Bool → Bool → Answer (PolicyRuntime × Deadline)
+unfoldable pub next_deadline : PolicyRuntime → ℕ → SchedulingParameters → Bool → Bool
+    → Answer (PolicyRuntime × Deadline)
 next_deadline r now p competition borrow =
     choose competition
     (on_runtime r

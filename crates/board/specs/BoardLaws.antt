@@ -47,8 +47,10 @@ use Rattle.runtime.specs.Prepare.{counted, prepare_enqueue}
 use Rattle.runtime.specs.Account.{account_current, candidate_stored, current_candidate}
 use Rattle.runtime.specs.Deadline.{refresh_deadline}
 use Rattle.policy_words.specs.PolicyWords.{word}
-use Rattle.window_words.specs.WindowWords.{window_period, window_allowance, window_floor, priority_rank_word, budget_rank_word}
-use Rattle.window_words.specs.WindowWords.{fair_rank_word, borrow_rank_word, prefer_fair_word, flag_from, config_of, order_of, progressed}
+use Rattle.window_words.specs.WindowWords.{window_period, window_allowance, window_floor, priority_rank_word}
+use Rattle.window_words.specs.WindowWords.{budget_rank_word}
+use Rattle.window_words.specs.WindowWords.{fair_rank_word, borrow_rank_word, prefer_fair_word, flag_from, config_of}
+use Rattle.window_words.specs.WindowWords.{order_of, progressed}
 use Rattle.window_entries.specs.Entries as window_entries
 use Rattle.board_words.specs.BoardWords.{made_window}
 use Rattle.board.specs.Board.{Left, left, numbered, answered, beside, queue_left, lengths_of, selection_left}
@@ -137,7 +139,8 @@ unfolding config_of order_of
 config_read w h = h
 
 -- The queue's calls.
-pub queue_left_lem : {a : Answer (Unit {0})} {n : ℕ} {q : CpuRunQueue} {t : List ThreadRecord} {x : Out (Step (Unit {0}))}
+pub queue_left_lem : {a : Answer (Unit {0})} {n : ℕ} {q : CpuRunQueue} {t : List ThreadRecord} {x : Out
+    (Step (Unit {0}))}
     → out (step a q) t ≡ x → n ≡ numbered a → left n (q, t) ≡ queue_left x
 unfolding queue_left
 queue_left_lem h e = rw (e, sym h)

@@ -55,7 +55,8 @@ charged r start end p =
 -- BackInTime where the end lies before the start (SPECIFICATION 2.5).
 unfoldable pub accounted_interval : BudgetRuntime → ℕ → ℕ → BudgetParameters → Answer BudgetRuntime
 unfolding judged
-accounted_interval r start end p = judged p (if_less end start (refused back_in_time) (given (charged r start end p) value))
+accounted_interval r start end p = judged p
+    (if_less end start (refused back_in_time) (given (charged r start end p) value))
 
 unfoldable pub period_deadline : ℕ → BudgetParameters → Answer Deadline
 unfolding judged
@@ -79,7 +80,8 @@ deadline_after r now p borrow =
 unfoldable pub deadline_judged : BudgetRuntime → ℕ → BudgetParameters → Bool → Answer (BudgetRuntime × Deadline)
 unfolding judged
 deadline_judged r now p borrow =
-    judged p (given (refreshed r now p) (λ fresh. given (deadline_after fresh now p borrow) (λ due. value (fresh, due))))
+    judged p (given (refreshed r now p) (λ fresh. given (deadline_after fresh now p borrow)
+    (λ due. value (fresh, due))))
 
 -- A turn that ends opens the burst again (SPECIFICATION 2.6).
 unfoldable pub turn_finished : BudgetRuntime → BudgetParameters → Answer BudgetRuntime

@@ -66,7 +66,8 @@ module _ (w : List ℕ) where
   by_priority h = rw h
 
   pub by_pass : word w policy_tag ≡ 1 → word w backend_tag ≡ 0 → word w runtime_tag ≡ 1
-      → record { high = word w runtime_first; low = word w runtime_second } ≡ algorithm_key (parameters_of w) (runtime_of w)
+      → record { high = word w runtime_first; low = word w runtime_second }
+      ≡ algorithm_key (parameters_of w) (runtime_of w)
       (word w ready_turn_word)
   unfolding runtime_of
   by_pass p q r =
@@ -95,6 +96,7 @@ module _ (w : List ℕ) where
   pub by_turn : (word w policy_tag ≡ 0 → ⊥) → (word w policy_tag ≡ 1 → ⊥)
       → wide (word w ready_turn_word) ≡ algorithm_key (parameters_of w) (runtime_of w) (word w ready_turn_word)
   by_turn p q =
-      sym (other_key (eqb (word w policy_tag) 2) (parameters_of w) (runtime_of w) (word w ready_turn_word) (other_row p q))
+      sym (other_key (eqb (word w policy_tag) 2) (parameters_of w) (runtime_of w) (word w ready_turn_word)
+      (other_row p q))
 
 pub ruleset by_tags = (by_priority, by_pass, without_pass, in_rotation, by_turn)

@@ -11,14 +11,17 @@ use Rattle.thread.specs.declared.QueueLinks.{QueueLinks}
 use Rattle.thread.specs.declared.QueueMembership.{QueueMembership}
 use Rattle.thread.specs.declared.ThreadRecord.{ThreadRecord}
 use Rattle.thread.specs.TreeKey.{algorithm_key, tree_key, ready_index_key}
-use Rattle.thread.specs.Records.{with_parameters, with_runtime, with_turn, with_links, with_left, with_right, with_height}
+use Rattle.thread.specs.Records.{with_parameters, with_runtime, with_turn, with_links, with_left, with_right}
+use Rattle.thread.specs.Records.{with_height}
 use Rattle.thread.specs.Records.{with_queue_links, with_cpu}
 use Rattle.codec.specs.Codec.{word, row_words, runtime_from, link_from, membership_from, parameters_of, runtime_of}
-use Rattle.codec.specs.Codec.{links_of, queue_links_of, decoded, ready_turn_word, left_tag, left_word, right_tag, right_word}
+use Rattle.codec.specs.Codec.{links_of, queue_links_of, decoded, ready_turn_word, left_tag, left_word, right_tag}
+use Rattle.codec.specs.Codec.{right_word}
 use Rattle.codec.specs.Codec.{height_word, previous_tag, previous_word, next_tag, next_word, membership_tag}
 use Rattle.codec.specs.Codec.{membership_first, membership_second, cpu_word}
 use Rattle.policy_words.specs.PolicyWords.{policy_tag, fifo_priority, band_word, role_tag, weight_word}
-use Rattle.policy_words.specs.PolicyWords.{quantum_word, backend_tag, budget_tag, budget_word, budget_period, budget_burst}
+use Rattle.policy_words.specs.PolicyWords.{quantum_word, backend_tag, budget_tag, budget_word, budget_period}
+use Rattle.policy_words.specs.PolicyWords.{budget_burst}
 use Rattle.policy_words.specs.PolicyWords.{runtime_tag, runtime_first, runtime_second, runtime_third, runtime_fourth}
 pub use Rattle.policy_words.specs.ByWords.{by_words}
 
@@ -29,7 +32,8 @@ over k a r = set r k (word a k)
 
 abbrev parameters_stored : List ℕ → List ℕ → List ℕ
 parameters_stored r a =
-    over budget_burst a (over budget_period a (over budget_word a (over budget_tag a (over backend_tag a (over quantum_word a
+    over budget_burst a (over budget_period a
+    (over budget_word a (over budget_tag a (over backend_tag a (over quantum_word a
     (over weight_word a (over role_tag a (over band_word a (over fifo_priority a (over policy_tag a r))))))))))
 
 abbrev pub runtime_stored : List ℕ → List ℕ → List ℕ
@@ -192,8 +196,10 @@ unfolding decoded
 record_read w e₁ e₂ e₃ e₄ e₅ = rw (e₁, e₂, e₃, e₄, e₅)
 
 pub key_read : (w : List ℕ) (id : ℕ) {algorithm : Wide} {band : ℕ}
-    → algorithm ≡ algorithm_key (parameters_of w) (runtime_of w) (word w ready_turn_word) → band ≡ word w band_word % 256
-    → record { algorithm = algorithm; band = band; turn = word w ready_turn_word; id = id } ≡ ready_index_key (decoded w) id
+    → algorithm ≡ algorithm_key (parameters_of w) (runtime_of w) (word w ready_turn_word)
+    → band ≡ word w band_word % 256
+    → record { algorithm = algorithm; band = band; turn = word w ready_turn_word; id = id }
+    ≡ ready_index_key (decoded w) id
 unfolding decoded ready_index_key tree_key parameters_of
 key_read w id e₁ e₂ = rw (e₁, e₂)
 

@@ -20,7 +20,8 @@ use Rattle.arbitration.specs.declared.Candidate.{Candidate}
 use Rattle.arbitration.specs.declared.Demand.{Demand}
 use Rattle.arbitration.specs.Window.{is_priority, is_protected}
 use Rattle.thread.specs.Filing.{budget_available_of}
-use Rattle.codec.specs.Codec.{word, policy_from, role_from, backend_from, epoch_from, runtime_from, parameters_of, runtime_of}
+use Rattle.codec.specs.Codec.{word, policy_from, role_from, backend_from, epoch_from, runtime_from, parameters_of}
+use Rattle.codec.specs.Codec.{runtime_of}
 use Rattle.codec.specs.Codec.{decoded, ready_turn_word}
 use Rattle.demands.specs.declared.Gathered.{Gathered}
 use Rattle.demands.specs.declared.PassOption.{PassOption}
@@ -108,7 +109,8 @@ priority_tag_lem tag = go (eqb tag 0) (eqb tag 1)
     go false false = refl
 
 policy_tag_lem : {A : Type 0} (tag priority : ℕ) (fifo : ThreadPriority → A) (fair budgeted idle : A)
-    → on_policy (policy_from tag priority) fifo fair budgeted idle ≡ if_equal tag 0 (fifo (record { 0 = priority % 256 }))
+    → on_policy (policy_from tag priority) fifo fair budgeted idle
+    ≡ if_equal tag 0 (fifo (record { 0 = priority % 256 }))
     (if_equal tag 1 fair (if_equal tag 2 budgeted idle))
 unfolding on_policy policy_from if_equal choose
 policy_tag_lem {A} tag priority fifo fair budgeted idle = go (eqb tag 0) (eqb tag 1) (eqb tag 2)
@@ -128,10 +130,12 @@ module _ (w : List ℕ) where
   demand_by_tags e = e ∙ sym (policy_tag_lem (word w policy_tag) (word w fifo_priority) _ _ _ _)
 
   pass_row_lem : (candidate_of (decoded w)).fair_pass ≡ pass_row w
-  unfolding candidate_of candidate_key given decoded parameters_of runtime_of runtime_from backend_from on_runtime on_backend
+  unfolding candidate_of candidate_key given decoded parameters_of runtime_of runtime_from backend_from on_runtime
+      on_backend
       pass_row if_equal choose
   pass_row_lem =
-      go (eqb (word w runtime_tag) 0) (eqb (word w runtime_tag) 1) (eqb (word w runtime_tag) 2) (eqb (word w backend_tag) 0)
+      go (eqb (word w runtime_tag) 0) (eqb (word w runtime_tag) 1) (eqb (word w runtime_tag) 2)
+      (eqb (word w backend_tag) 0)
     where
       go : (a b c d : Bool)
           → (on_runtime {A = RuntimeKey} (choose a runtime.Fifo
@@ -146,7 +150,8 @@ module _ (w : List ℕ) where
           })) runtime.Idle)))
           (record { pass = zero_pass; turn = word w ready_turn_word })
           (λ fair. on_backend (choose d backend.Stride backend.RoundRobin)
-          (record { pass = fair.pass; turn = word w ready_turn_word }) (record { pass = zero_pass; turn = word w ready_turn_word }))
+          (record { pass = fair.pass; turn = word w ready_turn_word })
+          (record { pass = zero_pass; turn = word w ready_turn_word }))
           (λ b. record { pass = zero_pass; turn = word w ready_turn_word })
           (record { pass = zero_pass; turn = word w ready_turn_word })
           ).pass

@@ -1,6 +1,7 @@
 -- Laws of bytes: how each loop goes from byte to byte, from word to word and from row to row.
 use Prim.Native.Nat.{ℕ, zero, suc, ◌+◌, ◌-◌, ◌*◌, ◌/◌, ◌%◌, ◌<◌, ◌≤◌}
-use Rattle.std.proofs.Common.{arith, add-one, mul-le-mul_left, sym, ◌∙◌, length-append, length-drop, take_all, take-suc-set, take_at, length-take-le}
+use Rattle.std.proofs.Common.{arith, add-one, mul-le-mul_left, sym, ◌∙◌, length-append, length-drop, take_all}
+use Rattle.std.proofs.Common.{take-suc-set, take_at, length-take-le}
 use Rattle.std.proofs.Math.Nat.{mul-zero, mul-suc}
 use Rattle.std.specs.Prelude.{◌≡◌, length, take, drop, get_or, set}
 use Rattle.std.proofs.Math.Path.{refl, ap}
@@ -163,7 +164,8 @@ pub no_rows : (width : ℕ) (bytes : List ℕ) → [] ≡ rows_of_bytes width 0 
 unfolding rows_of_bytes pieces
 no_rows width bytes = refl
 
-module _ (rows : List (List ℕ)) (width k : ℕ) (bytes : List ℕ) (so_far : take k rows ≡ rows_of_bytes width k bytes) where
+module _ (rows : List (List ℕ)) (width k : ℕ) (bytes : List ℕ)
+    (so_far : take k rows ≡ rows_of_bytes width k bytes) where
   pub row_read : {row : List ℕ} → k < length rows
       → row ≡ words_of_bytes width (take (word_bytes * width * k + word_bytes * width - word_bytes * width * k)
       (drop (word_bytes * width * k) bytes))

@@ -216,7 +216,8 @@ window_again w p =
       epoch_exact (word w 8) (word w 9) p.epoch_test,
     )
 
-pub window_exact : (w : List ℕ) → length w ≡ window_word_count → window_encodes w ≡ true → encoded_window (window_of w) ≡ w
+pub window_exact : (w : List ℕ) → length w ≡ window_word_count → window_encodes w ≡ true
+    → encoded_window (window_of w) ≡ w
 window_exact w size h = window_again w (window_passes w h) ∙ laid_all window_word_count w size
 
 module _ (w : CpuWindow) (f : WindowFits w) where

@@ -2,7 +2,8 @@
 use Rattle.std.specs.Prelude.{ℕ, zero, suc, ◌+◌, ◌<◌, ◌≤◌, ◌≡◌, Bool, ltb, take, drop, get_or}
 use native.Mathlib.Omega.{arith}
 use Rattle.std.proofs.Math.Path.{refl, sym, ap}
-use Rattle.std.proofs.Common.{◌∙◌, length-take, length-drop, take-append-drop, drop_of_length-le, drop-cons, drop-drop, drop_at, get_or-take, get_or-drop, length-take-le, ltb-true, lt-ltb}
+use Rattle.std.proofs.Common.{◌∙◌, length-take, length-drop, take-append-drop, drop_of_length-le, drop-cons, drop-drop}
+use Rattle.std.proofs.Common.{drop_at, get_or-take, get_or-drop, length-take-le, ltb-true, lt-ltb}
 use Rattle.std.proofs.Math.Bool.{true}
 use mathlib.Core.List.{List, [], ◌∷◌, ◌++◌, map}
 use Rattle.std.proofs.Math.ListN.{length}
@@ -125,7 +126,8 @@ module _ (rows : List (List ℕ)) (size : length rows ≡ queue_rows)
   list_at_lem k l =
       list_exact (get_or rows k []) (long k (omega arith)) (as_list k (get_or rows k []) (passes k (omega arith)) l)
 
-  root_at_lem : (k : ℕ) → k < tree_count → root_words (root_from (get_or rows (root_rows + k) [])) ≡ get_or rows (root_rows + k) []
+  root_at_lem : (k : ℕ) → k < tree_count → root_words (root_from (get_or rows (root_rows + k) []))
+      ≡ get_or rows (root_rows + k) []
   root_at_lem k l =
       root_exact (get_or rows (root_rows + k) []) (long (root_rows + k) (omega arith))
       (as_root (root_rows + k) (get_or rows (root_rows + k) []) (passes (root_rows + k) (omega arith)) (omega arith)
@@ -140,7 +142,8 @@ module _ (rows : List (List ℕ)) (size : length rows ≡ queue_rows)
           let below : k < priorities = omega (arith, length-take priorities rows) in
           rw (get_or-take priorities rows k [] below) (list_at_lem k (omega arith))
 
-  roots_again : map root_words (map root_from (take tree_count (drop root_rows rows))) ≡ take tree_count (drop root_rows rows)
+  roots_again : map root_words (map root_from (take tree_count (drop root_rows rows)))
+      ≡ take tree_count (drop root_rows rows)
   roots_again = mapped_again root_from root_words (take tree_count (drop root_rows rows)) at_place
     where
       at_place : (k : ℕ) → k < length (take tree_count (drop root_rows rows))
@@ -148,7 +151,8 @@ module _ (rows : List (List ℕ)) (size : length rows ≡ queue_rows)
           ≡ get_or (take tree_count (drop root_rows rows)) k []
       at_place k l =
           let below : k < tree_count = omega (arith, length-take tree_count (drop root_rows rows)) in
-          rw (get_or-take tree_count (drop root_rows rows) k [] below, get_or-drop root_rows rows k []) (root_at_lem k below)
+          rw (get_or-take tree_count (drop root_rows rows) k [] below, get_or-drop root_rows rows k [])
+          (root_at_lem k below)
 
   marks_last : drop marks_row rows ≡ get_or rows marks_row [] ∷ []
   marks_last =
@@ -232,9 +236,11 @@ module _ (q : CpuRunQueue) (f : QueueFits q) where
   marks_at : (k : ℕ) → k ≡ marks_row → all_from queue_row_encodes k (marks_words q ∷ []) ≡ true
   unfolding all_from
   marks_at k e =
-      both_hold (queue_row_encodes k (marks_words q)) true (at_marks k (marks_words q) (omega arith) (marks_pass q)) refl
+      both_hold (queue_row_encodes k (marks_words q)) true
+      (at_marks k (marks_words q) (omega arith) (marks_pass q)) refl
 
-  roots_at : (k : ℕ) → k ≡ root_rows → all_from queue_row_encodes k (map root_words q.indices ++ marks_words q ∷ []) ≡ true
+  roots_at : (k : ℕ) → k ≡ root_rows → all_from queue_row_encodes k (map root_words q.indices ++ marks_words q ∷ [])
+      ≡ true
   roots_at k e =
       all_append queue_row_encodes k (map root_words q.indices) (marks_words q ∷ [])
       (roots_pass k q.indices (omega arith) (omega (arith, f.roots_fit)))

@@ -27,7 +27,8 @@ accepted have want encodes number new old =
 -- So many words, and so many rows of so many words, by their test and the number of its refusal.
 abbrev pub load_words : ℕ → (List ℕ → Bool) → ℕ → List ℕ → List ℕ → Left (List ℕ)
 load_words count encodes number bytes old =
-    accepted (length bytes) (word_bytes * count) (encodes (words_of_bytes count bytes)) number (words_of_bytes count bytes)
+    accepted (length bytes) (word_bytes * count) (encodes (words_of_bytes count bytes)) number
+    (words_of_bytes count bytes)
     old
 
 abbrev pub store_words : ℕ → (List ℕ → Bool) → ℕ → List ℕ → List ℕ → Left (List ℕ)
@@ -69,4 +70,5 @@ load_table bytes t =
 
 unfoldable pub store_table : List (List ℕ) → List ℕ → Left (List ℕ)
 store_table t bytes =
-    if_less max_records (length t) (left bad_table bytes) (store_rows row_words (length t) table_encodes bad_record t bytes)
+    if_less max_records (length t) (left bad_table bytes)
+    (store_rows row_words (length t) table_encodes bad_record t bytes)

@@ -33,7 +33,8 @@ module _ {r : Bool} {w v : List ℕ} where
   window_tested e f = e ∙ ap window_encodes f
 
 -- As many rows as a queue has.
-pub queue_read : {y : List (List ℕ)} (n : ℕ) (bytes : List ℕ) → y ≡ rows_of_bytes queue_row_words n bytes → n ≡ queue_rows
+pub queue_read : {y : List (List ℕ)} (n : ℕ) (bytes : List ℕ) → y ≡ rows_of_bytes queue_row_words n bytes
+    → n ≡ queue_rows
     → y ≡ rows_of_bytes queue_row_words queue_rows bytes
 queue_read n bytes e f = e ∙ ap (λ k. rows_of_bytes queue_row_words k bytes) f
 

@@ -1,6 +1,7 @@
 -- Laws of the parts: words that pass a part's test are the words of what they stand for; a part whose numbers fit their
 -- types has words that pass the test and stand for it.
-use Rattle.std.specs.Prelude.{ℕ, zero, suc, ◌+◌, ◌%◌, ◌<◌, ◌≡◌, refl, Bool, false, List, [], ◌∷◌, ltb, eqb, length, drop}
+use Rattle.std.specs.Prelude.{ℕ, zero, suc, ◌+◌, ◌%◌, ◌<◌, ◌≡◌, refl, Bool, false, List, [], ◌∷◌, ltb, eqb, length}
+use Rattle.std.specs.Prelude.{drop}
 use Rattle.std.proofs.Common.{arith, sym, drop-cons}
 use Rattle.std.proofs.Math.Bool.{true}
 use Rattle.std.proofs.Math.Seq.{drop-length}
@@ -22,7 +23,8 @@ use Rattle.thread.specs.declared.Link.{Link}
 use Rattle.thread.specs.declared.Link.TheVariants as link
 use Rattle.thread.specs.declared.QueueMembership.{QueueMembership}
 use Rattle.thread.specs.declared.QueueMembership.TheVariants as membership
-use Rattle.codec.specs.Codec.{word, link_from, membership_from, policy_from, role_from, backend_from, budget_from, epoch_from}
+use Rattle.codec.specs.Codec.{word, link_from, membership_from, policy_from, role_from, backend_from, budget_from}
+use Rattle.codec.specs.Codec.{epoch_from}
 use Rattle.codec.specs.Codec.{runtime_from}
 use Rattle.window_words.specs.WindowWords.{flag_from}
 use Rattle.lent_queue.specs.LentQueue.{halted_from}
@@ -411,14 +413,16 @@ unfolding halted_from flag_from
 halted_stands b = flag_stands b
 
 pub budget_passes : (b : BudgetOption)
-    → budget_encodes (word (budget_words b) 0) (word (budget_words b) 1) (word (budget_words b) 2) (word (budget_words b) 3)
+    → budget_encodes (word (budget_words b) 0) (word (budget_words b) 1) (word (budget_words b) 2)
+    (word (budget_words b) 3)
     ≡ true
 unfolding budget_words budget_encodes zeros if_equal choose
 budget_passes budget.None = refl
 budget_passes (budget.Some b) = refl
 
 pub budget_stands : (b : BudgetOption)
-    → budget_from (word (budget_words b) 0) (word (budget_words b) 1) (word (budget_words b) 2) (word (budget_words b) 3) ≡ b
+    → budget_from (word (budget_words b) 0) (word (budget_words b) 1) (word (budget_words b) 2)
+    (word (budget_words b) 3) ≡ b
 unfolding budget_words budget_from if_equal choose
 budget_stands budget.None = refl
 budget_stands (budget.Some b) = refl
@@ -442,7 +446,8 @@ runtime_stands (runtime.Budget b) = rw (epoch_stands b.epoch)
 runtime_stands runtime.Idle = refl
 
 pub membership_passes : (m : QueueMembership) → MembershipFits m
-    → membership_encodes (word (membership_words m) 0) (word (membership_words m) 1) (word (membership_words m) 2) ≡ true
+    → membership_encodes (word (membership_words m) 0) (word (membership_words m) 1) (word (membership_words m) 2)
+    ≡ true
 unfolding membership_words membership_encodes zeros if_equal if_less choose
 membership_passes membership.None h = refl
 membership_passes (membership.ReadyRealTime c p) h = less_holds c.0 256 (ltb p 256) h.0 (lt-ltb p 256 h.1)

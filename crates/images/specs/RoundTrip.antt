@@ -112,7 +112,8 @@ pub rows_back : (width : ℕ) (rows : List (List ℕ)) → All (IsRow width) row
     → rows_of_bytes width (length rows) (bytes_of_rows rows) ≡ rows
 unfolding bytes_of_rows rows_of_bytes
 rows_back width rows h =
-    images_back (word_bytes * width) (words_of_bytes width) bytes_of_words (IsRow width) (row_length width) (row_back width)
+    images_back (word_bytes * width) (words_of_bytes width) bytes_of_words (IsRow width) (row_length width)
+    (row_back width)
     rows h
 
 pub rows_again : (width n : ℕ) (bytes : List ℕ) → All IsByte bytes → length bytes ≡ word_bytes * width * n
@@ -135,7 +136,8 @@ all_pieces P size f h (suc n) bytes = (h (take size bytes), all_pieces P size f 
 pub rows_wide : (width n : ℕ) (bytes : List ℕ) → All (λ (r : List ℕ). length r ≡ width) (rows_of_bytes width n bytes)
 unfolding rows_of_bytes
 rows_wide width n bytes =
-    all_pieces (λ (r : List ℕ). length r ≡ width) (word_bytes * width) (words_of_bytes width) (words_count width) n bytes
+    all_pieces (λ (r : List ℕ). length r ≡ width) (word_bytes * width) (words_of_bytes width)
+    (words_count width) n bytes
 
 -- What is written is bytes, and what is read from bytes is words: what a load leaves meets the premises of a store's
 -- theorem, and what a store leaves those of a load's.

@@ -71,7 +71,8 @@ all_empty zero = tt
 all_empty (suc n) = ((refl, all_zero 5), all_empty n)
 
 empty_passes : queue_encodes empty ≡ true
-unfolding queue_encodes all_from queue_row_encodes list_encodes root_encodes marks_encode option_encodes zeros if_less if_equal
+unfolding queue_encodes all_from queue_row_encodes list_encodes root_encodes marks_encode option_encodes zeros if_less
+    if_equal
     choose
 empty_passes = refl
 
@@ -94,12 +95,14 @@ unfolding load_record accepted if_equal choose
 too_short = refl
 
 spare_used : load_record (set (replicate 256 0) 240 1) plain ≡ left 11 plain
-unfolding load_record accepted words_of_bytes pieces word_of_bytes record_encodes parameters_encode policy_encodes budget_encodes
+unfolding load_record accepted words_of_bytes pieces word_of_bytes record_encodes parameters_encode policy_encodes
+    budget_encodes
     runtime_encodes links_encode queue_links_encode membership_encodes option_encodes zeros if_less if_equal choose
 spare_used = refl
 
 kinds_apart : load_record (set (replicate 256 0) 0 1) plain ≡ left 0 (set plain 0 1)
-unfolding load_record accepted words_of_bytes pieces word_of_bytes record_encodes parameters_encode policy_encodes budget_encodes
+unfolding load_record accepted words_of_bytes pieces word_of_bytes record_encodes parameters_encode policy_encodes
+    budget_encodes
     runtime_encodes links_encode queue_links_encode membership_encodes option_encodes zeros if_less if_equal choose
 kinds_apart = refl
 

@@ -82,9 +82,11 @@ pub table_load_leaves : (bytes : List ℕ) (old t : List (List ℕ)) (n : ℕ) �
     → t ≡ old
 unfolding load_table if_less
 table_load_leaves bytes old t n h =
-    too_many_by (ltb max_records (length old)) n old t (load_rows row_words (length old) table_encodes bad_record bytes old)
+    too_many_by (ltb max_records (length old)) n old t
+    (load_rows row_words (length old) table_encodes bad_record bytes old)
     (refused_leaves (length bytes) (word_bytes * row_words * length old)
-    (table_encodes (rows_of_bytes row_words (length old) bytes)) bad_record n (rows_of_bytes row_words (length old) bytes) old
+    (table_encodes (rows_of_bytes row_words (length old) bytes)) bad_record n
+    (rows_of_bytes row_words (length old) bytes) old
     t)
     h
 
@@ -92,8 +94,10 @@ pub table_store_leaves : (t : List (List ℕ)) (bytes after : List ℕ) (n : ℕ
     → after ≡ bytes
 unfolding store_table if_less
 table_store_leaves t bytes after n h =
-    too_many_by (ltb max_records (length t)) n bytes after (store_rows row_words (length t) table_encodes bad_record t bytes)
-    (refused_leaves (length bytes) (word_bytes * row_words * length t) (table_encodes t) bad_record n (bytes_of_rows t) bytes
+    too_many_by (ltb max_records (length t)) n bytes after
+    (store_rows row_words (length t) table_encodes bad_record t bytes)
+    (refused_leaves (length bytes) (word_bytes * row_words * length t) (table_encodes t) bad_record n
+    (bytes_of_rows t) bytes
     after) h
 
 -- Words, and rows, whatever their test.
@@ -111,9 +115,11 @@ module _ (count number : ℕ) (test : List ℕ → Bool) where
 
   module _ (bytes old w : List ℕ) (refuses : number ≡ 0 → ⊥)
       (h : load_words count test number bytes old ≡ left 0 w) where
-    took_words : Taken (length bytes) (word_bytes * count) (test (words_of_bytes count bytes)) (words_of_bytes count bytes) w
+    took_words : Taken (length bytes) (word_bytes * count) (test (words_of_bytes count bytes))
+        (words_of_bytes count bytes) w
     took_words =
-        took (length bytes) (word_bytes * count) (test (words_of_bytes count bytes)) number (words_of_bytes count bytes) old
+        took (length bytes) (word_bytes * count) (test (words_of_bytes count bytes)) number
+        (words_of_bytes count bytes) old
         w refuses h
 
     restored_words : (room : List ℕ) → All IsByte bytes → length room ≡ word_bytes * count
@@ -150,7 +156,8 @@ module _ (width count number : ℕ) (test : List (List ℕ) → Bool) where
     restored_rows : (room : List ℕ) → All IsByte bytes → length room ≡ word_bytes * width * count
         → store_rows width count test number rows room ≡ left 0 bytes
     restored_rows room is size =
-        rw (← took_rows.stored) (takes (length room) (word_bytes * width * count) (test (rows_of_bytes width count bytes))
+        rw (← took_rows.stored) (takes (length room) (word_bytes * width * count)
+        (test (rows_of_bytes width count bytes))
         number (bytes_of_rows (rows_of_bytes width count bytes)) room size took_rows.encodes
         ∙ ap (left 0) (rows_again width count bytes is took_rows.right_length))
 
@@ -187,7 +194,8 @@ row_size r = refl
 pub record_taken : (r : ThreadRecord) (row : List ℕ) → RecordFits r → All IsWord (encoded r)
     → (load_record (bytes_of_words (encoded r)) row ≡ left 0 (encoded r)) × (decoded (encoded r) ≡ r)
 record_taken r row f is = (
-  (record_saved (encoded r) (replicate (word_bytes * row_words) 0) row (row_size r, is) (record_encodes_lem r f) refl).1,
+  (record_saved (encoded r) (replicate (word_bytes * row_words) 0) row (row_size r, is)
+      (record_encodes_lem r f) refl).1,
   record_stands r f,
 )
 
@@ -202,7 +210,8 @@ module _ (bytes window w : List ℕ) (h : load_window bytes window ≡ left 0 w)
   pub window_restored : (room : List ℕ) → All IsByte bytes → length room ≡ word_bytes * window_word_count
       → store_window w room ≡ left 0 bytes
   unfolding store_window load_window
-  window_restored = restored_words window_word_count bad_config window_encodes bytes window w (λ z. absurd (omega arith)) h
+  window_restored = restored_words window_word_count bad_config window_encodes bytes window w
+      (λ z. absurd (omega arith)) h
 
   pub window_loaded : encoded_window (window_of w) ≡ w
   unfolding load_window
@@ -216,9 +225,11 @@ unfolding encoded_window
 window_size w = refl
 
 pub window_taken : (w : CpuWindow) (old : List ℕ) → WindowFits w → All IsWord (encoded_window w)
-    → (load_window (bytes_of_words (encoded_window w)) old ≡ left 0 (encoded_window w)) × (window_of (encoded_window w) ≡ w)
+    → (load_window (bytes_of_words (encoded_window w)) old ≡ left 0 (encoded_window w))
+    × (window_of (encoded_window w) ≡ w)
 window_taken w old f is = (
-  (window_saved (encoded_window w) (replicate (word_bytes * window_word_count) 0) old (window_size w, is) (window_encodes_lem w f)
+  (window_saved (encoded_window w) (replicate (word_bytes * window_word_count) 0) old (window_size w, is)
+      (window_encodes_lem w f)
       refl).1,
   window_stands w f,
 )
@@ -313,7 +324,8 @@ pub table_taken : (t : List ThreadRecord) (old : List (List ℕ)) → length t �
     → (load_table (bytes_of_rows (map encoded t)) old ≡ left 0 (map encoded t)) × (table (map encoded t) ≡ t)
 table_taken t old few same f is =
     let many : length (map encoded t) ≡ length t = length-map t encoded in (
-      (table_saved (map encoded t) (bytes_of_rows (map encoded t)) old (omega arith) (omega arith) is (table_encodes_lem t f)
+      (table_saved (map encoded t) (bytes_of_rows (map encoded t)) old (omega arith) (omega arith) is
+          (table_encodes_lem t f)
           (rows_size row_words (map encoded t) is)).1,
       table_stands t f,
     )

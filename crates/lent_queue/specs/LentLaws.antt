@@ -4,7 +4,8 @@ use Rattle.std.proofs.Common.{arith, ◌∙◌, get_or-take}
 use Rattle.std.proofs.Math.Path.{sym, ap}
 use mathlib.Core.List.{List, [], ◌∷◌, map}
 use Rattle.std.proofs.Math.ListN.{get_or-map}
-use Rattle.std.proofs.Math.Seq.{get_or-set_same, get_or-set_other, get_or-drop, take-set-le, take-set-lt, drop-set-lt, drop-set-add}
+use Rattle.std.proofs.Math.Seq.{get_or-set_same, get_or-set_other, get_or-drop, take-set-le, take-set-lt, drop-set-lt}
+use Rattle.std.proofs.Math.Seq.{drop-set-add}
 use Rattle.refusal.specs.Answer.{number_of}
 use Rattle.refusal.specs.declared.Refusal.{Refusal}
 use Rattle.refusal.specs.Cases.{choose, if_equal}
@@ -40,7 +41,8 @@ map_set {A} {B} f (x ∷ l) (suc i) a = ap {B = List B} (λ r. f x ∷ r) (map_s
 
 module _ (rows : List (List ℕ)) where
   -- A priority's list is its row.
-  pub list_read : (p : ℕ) → p < priorities → list_from (get_or rows p []) ≡ get_or (queue_of rows).realtime p empty_queue
+  pub list_read : (p : ℕ) → p < priorities
+      → list_from (get_or rows p []) ≡ get_or (queue_of rows).realtime p empty_queue
   unfolding queue_of list_from link_from if_equal choose
   list_read p h =
       sym (get_or-map list_from (take priorities rows) p [] ∙ ap list_from (get_or-take priorities rows p [] h))
@@ -120,7 +122,8 @@ module _ (rows : List (List ℕ)) where
     pub mark_stored : word w total_word ≡ word (get_or rows marks_row []) total_word
         → word w budgets_word ≡ word (get_or rows marks_row []) budgets_word
         → word w epoch_tag ≡ word (get_or rows marks_row []) epoch_tag
-        → word w epoch_word ≡ word (get_or rows marks_row []) epoch_word → word w mark_word ≡ 1 → q ≡ marked (queue_of rows)
+        → word w epoch_word ≡ word (get_or rows marks_row []) epoch_word → word w mark_word ≡ 1
+        → q ≡ marked (queue_of rows)
     unfolding queue_of with_marks halted_from if_equal choose
     mark_stored total budgets tag number mark = s ∙ rw (total, budgets, tag, number, mark)
 

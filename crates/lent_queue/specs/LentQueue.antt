@@ -80,7 +80,8 @@ queue_of rows =
       realtime_len = word (get_or rows marks_row []) total_word;
       fair = list_from (get_or rows fair_row []);
       indices = map root_from (take tree_count (drop root_rows rows));
-      budget_epoch = epoch_from (word (get_or rows marks_row []) epoch_tag) (word (get_or rows marks_row []) epoch_word);
+      budget_epoch = epoch_from (word (get_or rows marks_row []) epoch_tag)
+          (word (get_or rows marks_row []) epoch_word);
       budget_threads = word (get_or rows marks_row []) budgets_word;
       halted = halted_from (word (get_or rows marks_row []) mark_word);
     }

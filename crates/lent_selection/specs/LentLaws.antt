@@ -1,6 +1,8 @@
 -- Laws by which the functions meet the definitions, and that selection as they take it is `peek_next`.
-use Rattle.std.specs.Prelude.{ℕ, zero, suc, ◌+◌, ◌-◌, ◌/◌, ◌<◌, ◌≤◌, min, ◌≡◌, Bool, ltb, length, get_or, set, take, drop}
-use Rattle.std.proofs.Common.{arith, subst, ◌∙◌, length-take, length-drop, take-take, take_at, drop_at, get_or-take, get_or-drop, get_or-append-add}
+use Rattle.std.specs.Prelude.{ℕ, zero, suc, ◌+◌, ◌-◌, ◌/◌, ◌<◌, ◌≤◌, min, ◌≡◌, Bool, ltb, length, get_or, set, take}
+use Rattle.std.specs.Prelude.{drop}
+use Rattle.std.proofs.Common.{arith, subst, ◌∙◌, length-take, length-drop, take-take, take_at, drop_at, get_or-take}
+use Rattle.std.proofs.Common.{get_or-drop, get_or-append-add}
 use Rattle.std.proofs.Math.Path.{refl, sym, ap}
 use Rattle.std.proofs.Math.Bool.{true, false}
 use mathlib.Core.List.{List, [], ◌∷◌, ◌++◌}
@@ -15,7 +17,8 @@ use Rattle.queue.specs.declared.Verdict.{Verdict}
 use Rattle.queue.specs.declared.Verdict.TheVariants as verdict
 use Rattle.queue.specs.Answers.{verdict_answer}
 use Rattle.lent_queue.specs.LentQueue.{queue_rows, priorities, tree_count, fair_row, root_rows, marks_row, total_word}
-use Rattle.lent_queue.specs.LentQueue.{budgets_word, epoch_tag, epoch_word, mark_word, halted_from, queue_of, with_marks}
+use Rattle.lent_queue.specs.LentQueue.{budgets_word, epoch_tag, epoch_word, mark_word, halted_from, queue_of}
+use Rattle.lent_queue.specs.LentQueue.{with_marks}
 use Rattle.lent_queue.specs.Frame.{ListFramed, RootFramed, MarksFramed, QueueFramed, RootsFramed}
 use Rattle.lent_queue.specs.FrameLaws.{list_as_it_was, marks_as_they_were}
 use Rattle.codec.specs.Codec.{word, epoch_from}
@@ -118,7 +121,8 @@ roots_framed rows part h f = queue_framed rows part h (f.count ∙ part_size row
 
 pub roots_renewed : {a : Answer (Unit {0})} {t₁ : List ThreadRecord} (t : List ThreadRecord) (rows part : List (List ℕ))
     (now : ℕ) → length rows ≡ queue_rows → length part ≡ length (take tree_count (drop root_rows rows))
-    → out (leaves a (roots_of part)) t₁ ≡ renew_roles 3 (length t) t (roots_of (take tree_count (drop root_rows rows))) now
+    → out (leaves a (roots_of part)) t₁ ≡ renew_roles 3 (length t) t
+    (roots_of (take tree_count (drop root_rows rows))) now
     → out (leaves a (queue_of (take root_rows rows ++ (part ++ drop tree_count (drop root_rows rows))))) t₁
     ≡ renewed_roots t (queue_of rows) now
 unfolding renewed_roots queue_of roots_of on_out on_leaves
@@ -126,7 +130,8 @@ roots_renewed {a} {t₁} t rows part now h k s = rw (sym s, roots_stored rows pa
   where
     go : (a : Answer (Unit {0}))
         → out (leaves a (with_indices (queue_of rows) (roots_of part))) t₁
-        ≡ on_leaves (leaves a (roots_of part)) (λ n roots. out (leaves (refused n) (with_indices (queue_of rows) roots)) t₁)
+        ≡ on_leaves (leaves a (roots_of part))
+        (λ n roots. out (leaves (refused n) (with_indices (queue_of rows) roots)) t₁)
         (λ u roots. out (leaves (value tt) (with_indices (queue_of rows) roots)) t₁)
     go (value u) = refl
     go (refused n) = refl
@@ -134,15 +139,18 @@ roots_renewed {a} {t₁} t rows part now h k s = rw (sym s, roots_stored rows pa
 -- The row of counts, epoch and mark as it was but for the epoch, or for the mark.
 module _ {q : CpuRunQueue} (rows : List (List ℕ)) (w : List ℕ) (s : q ≡ with_marks (queue_of rows) w) where
   pub epoch_stored : (e : ℕ) → word w total_word ≡ word (get_or rows marks_row []) total_word
-      → word w budgets_word ≡ word (get_or rows marks_row []) budgets_word → word w epoch_tag ≡ 1 → word w epoch_word ≡ e
+      → word w budgets_word ≡ word (get_or rows marks_row []) budgets_word → word w epoch_tag ≡ 1
+      → word w epoch_word ≡ e
       → word w mark_word ≡ word (get_or rows marks_row []) mark_word → q ≡ with_epoch (queue_of rows) e
   unfolding queue_of with_marks with_epoch epoch_from if_equal choose
   epoch_stored e total budgets tag when mark = s ∙ rw (total, budgets, tag, when, mark)
 
-  pub mark_left : (n : ℕ) {r : ℕ} → r ≡ n → r ≡ queue_halted → word w total_word ≡ word (get_or rows marks_row []) total_word
+  pub mark_left : (n : ℕ) {r : ℕ} → r ≡ n → r ≡ queue_halted
+      → word w total_word ≡ word (get_or rows marks_row []) total_word
       → word w budgets_word ≡ word (get_or rows marks_row []) budgets_word
       → word w epoch_tag ≡ word (get_or rows marks_row []) epoch_tag
-      → word w epoch_word ≡ word (get_or rows marks_row []) epoch_word → word w mark_word ≡ 1 → q ≡ with_mark (queue_of rows) n
+      → word w epoch_word ≡ word (get_or rows marks_row []) epoch_word → word w mark_word ≡ 1
+      → q ≡ with_mark (queue_of rows) n
   unfolding queue_of with_marks with_mark is_halt halted_from if_equal choose
   mark_left n {r} e m total budgets tag when mark = s ∙ rw
       (total, budgets, tag, when, mark, eq-eqb n queue_halted (sym e ∙ m))
@@ -171,7 +179,8 @@ module _ (t : List ThreadRecord) (q : CpuRunQueue) (now e : ℕ) where
       (λ s t₁. on_leaves s
       (λ n q₁. out (leaves (refused n) (with_mark q₁ n)) t₁)
       (λ u q₁. out (leaves (value tt) (with_epoch q₁ e)) t₁)))
-  unfolding renewed_queue renewed_roots renew selection_parts with_selection_parts with_indices with_mark with_epoch choose
+  unfolding renewed_queue renewed_roots renew selection_parts with_selection_parts with_indices with_mark with_epoch
+      choose
       on_out on_leaves
   apart = go (is_epoch q.budget_epoch e) (renew_roles 3 (length t) t q.indices now)
     where
@@ -288,7 +297,8 @@ module _ (t : List ThreadRecord) (q : CpuRunQueue) (c : CpuIndex) (now : ℕ) (w
       go false true true e = ap (λ q. out (peeked (refused queue_halted) w q) t) e
       go false true false e = running_apart
 
-  pub peeked_so : {y : Out (Peeked CpuRunQueue)} → y ≡ peek_queue t q c now w current → y ≡ peek_next t q c now w current
+  pub peeked_so : {y : Out (Peeked CpuRunQueue)} → y ≡ peek_queue t q c now w current
+      → y ≡ peek_next t q c now w current
   peeked_so h = h ∙ sym peek_apart
 
 -- The rows of the roots are those of the queue.

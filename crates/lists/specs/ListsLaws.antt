@@ -97,7 +97,8 @@ next_stored_lem r l a size e =
     x31. rw (e))
     r size
 
-pub previous_stored_lem : (r : List ℕ) (l : Link) (a : List ℕ) → length r ≡ row_words → link_from (word a 0) (word a 1) ≡ l
+pub previous_stored_lem : (r : List ℕ) (l : Link) (a : List ℕ) → length r ≡ row_words
+    → link_from (word a 0) (word a 1) ≡ l
     → decoded (previous_stored r a) ≡ with_queue_links (with_previous (decoded r).queue_links l)
     (decoded r)
 unfolding decoded parameters_of runtime_of links_of queue_links_of
@@ -115,12 +116,14 @@ module _ (rows : List (List ℕ)) (i : ℕ) where
   unfolding decoded
   links_of_row h = queue_links_inside rows i h refl
 
-  relinked : (l : QueueLinks) (w : List ℕ) → i < length rows → decoded w ≡ with_queue_links l (decoded (get_or rows i []))
+  relinked : (l : QueueLinks) (w : List ℕ) → i < length rows
+      → decoded w ≡ with_queue_links l (decoded (get_or rows i []))
       → table (set rows i w) ≡ after (set_queue_links (table rows) i l)
   relinked l w h e = ap after (set_queue_links_inside rows i l w h e)
 
   pub next_set : (next : Link) (w : List ℕ) → i < length rows
-      → decoded w ≡ with_queue_links (with_next (decoded (get_or rows i [])).queue_links next) (decoded (get_or rows i []))
+      → decoded w ≡ with_queue_links (with_next (decoded (get_or rows i [])).queue_links next)
+      (decoded (get_or rows i []))
       → table (set rows i w) ≡ set_next (table rows) i next
   unfolding set_next on_queue_links
   next_set next w h e =

@@ -31,7 +31,8 @@ module _ (x y : ℕ) (more rest : List ℕ) where
   unfolding compare_parts then_by
   part_greater h = rw (compare_greater x y h)
 
-  pub part_equal : {r : Ordering} → y ≤ x → x ≤ y → r ≡ compare_parts more rest → r ≡ compare_parts (x ∷ more) (y ∷ rest)
+  pub part_equal : {r : Ordering} → y ≤ x → x ≤ y → r ≡ compare_parts more rest
+      → r ≡ compare_parts (x ∷ more) (y ∷ rest)
   unfolding compare_parts then_by
   part_equal h k e = rw (compare_equal x y (omega arith)) e
 

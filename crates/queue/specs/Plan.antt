@@ -1,7 +1,8 @@
 -- A call in two halves: what it is to do, found without the queue's lists, and the doing. The definitions in Queue say
 -- the same (PlanLaws).
 use Rattle.std.specs.Prelude.{ℕ, Bool, true, false, List, length}
-use Rattle.refusal.specs.Answer.{Answer, value, refused, damaged, bad_state, already, no_thread, queue_halted, bad_table}
+use Rattle.refusal.specs.Answer.{Answer, value, refused, damaged, bad_state, already, no_thread, queue_halted}
+use Rattle.refusal.specs.Answer.{bad_table}
 use Rattle.refusal.specs.Answer.{bad_record}
 use Rattle.refusal.specs.Cases.{choose, given, if_less, if_equal, and_then}
 use Rattle.thread.specs.declared.CpuIndex.{CpuIndex}

@@ -4,7 +4,8 @@ use Rattle.std.specs.Prelude.{ℕ, ◌+◌, ◌-◌, ◌<◌, ◌≤◌, ◌≡�
 use Rattle.std.proofs.Common.{arith, ap, ◌∙◌, ltb-true}
 use Rattle.std.proofs.Math.Path.{refl, sym}
 use Rattle.std.proofs.Math.Bool.{true, false}
-use Rattle.refusal.specs.Answer.{Answer, value, refused, number_of, damaged, bad_state, already, no_thread, queue_halted}
+use Rattle.refusal.specs.Answer.{Answer, value, refused, number_of, damaged, bad_state, already, no_thread}
+use Rattle.refusal.specs.Answer.{queue_halted}
 use Rattle.refusal.specs.Answer.{bad_table, bad_record}
 use Rattle.refusal.specs.declared.Refusal.{Refusal}
 use Rattle.refusal.specs.Cases.{choose, given, if_less, if_equal, and_then}
@@ -22,7 +23,8 @@ use Rattle.thread.specs.declared.IndexFor.{IndexFor}
 use Rattle.thread.specs.declared.IndexFor.TheVariants as indexed
 use Rattle.thread.specs.Membership.{on_membership, is_unqueued}
 use Rattle.thread.specs.Judgement.{is_bad_record}
-use Rattle.thread.specs.Filing.{budget_available_of, role_index, index_for, on_index, budget_exhausted, budget_ready, fair_index}
+use Rattle.thread.specs.Filing.{budget_available_of, role_index, index_for, on_index, budget_exhausted, budget_ready}
+use Rattle.thread.specs.Filing.{fair_index}
 use Rattle.thread.specs.FilingLaws.{role_index_le}
 use Rattle.rows.specs.declared.RecordRead.{RecordRead}
 use Rattle.rows.specs.declared.RecordRead.TheVariants as read
@@ -237,7 +239,8 @@ module _ {B : Type 0} {y : Answer B} where
   unfolding and_then
   tree_on f e m h = rw (sym e, m) h
 
-  pub tree_off : {r : TreeFound} {x : Answer ℕ} {n : Refusal} (f : ℕ → Answer B) → tree_answer r ≡ x → r ≡ tree.Refused n
+  pub tree_off : {r : TreeFound} {x : Answer ℕ} {n : Refusal} (f : ℕ → Answer B) → tree_answer r ≡ x
+      → r ≡ tree.Refused n
       → y ≡ refused (number_of n) → y ≡ and_then x f
   unfolding and_then
   tree_off f e m h = rw (sym e, m) h
@@ -292,7 +295,8 @@ module _ (q : CpuRunQueue) (m : QueueMembership) (k : ℕ) {w : Worked} {r : Cpu
   unfolding settled
   settled_done e n h = rw (e, n) (rw h)
 
-  pub settled_halted : {p : Parts} {h : Bool} {u : CpuRunQueue} → w ≡ work.Stored p h → h ≡ true → u ≡ with_parts q m k p
+  pub settled_halted : {p : Parts} {h : Bool} {u : CpuRunQueue} → w ≡ work.Stored p h → h ≡ true
+      → u ≡ with_parts q m k p
       → r ≡ marked u → step (refused queue_halted) r ≡ settled q m k (work_of w)
   unfolding settled
   settled_halted e n h g = rw (e, n) (rw (sym h) (ap (λ r. step (refused queue_halted) r) g))

@@ -1,7 +1,8 @@
 -- The queue's calls: enqueue at either end and remove, with document 01's refusals in its order, and what each leaves
 -- behind.
 use Rattle.std.specs.Prelude.{ℕ, ◌+◌, ◌-◌, Bool, true, false, List, length, get_or, set, replicate}
-use Rattle.refusal.specs.Answer.{Answer, value, refused, damaged, bad_state, already, no_thread, queue_halted, bad_table}
+use Rattle.refusal.specs.Answer.{Answer, value, refused, damaged, bad_state, already, no_thread, queue_halted}
+use Rattle.refusal.specs.Answer.{bad_table}
 use Rattle.refusal.specs.Answer.{bad_record}
 use Rattle.refusal.specs.Cases.{choose, given, if_less, if_equal}
 use Rattle.time.specs.declared.Epoch.TheVariants as epoch

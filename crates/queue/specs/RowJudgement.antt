@@ -62,7 +62,8 @@ bad_row w =
 
 -- `budget_available_of` by the tag.
 unfoldable pub time_left : List ℕ → Bool
-time_left w = given (kind_from (word w runtime_tag)) (λ r. if_equal r 2 (if_equal (word w runtime_third) 0 false true) false)
+time_left w = given (kind_from (word w runtime_tag))
+    (λ r. if_equal r 2 (if_equal (word w runtime_third) 0 false true) false)
 
 -- `index_for` by the tags.
 unfoldable pub index_row : List ℕ → IndexFor
@@ -182,9 +183,11 @@ module _ (w : List ℕ) where
   bad_row_lem =
       by_kind (policy_from (word w policy_tag) (word w fifo_priority))
       (eqb (runtime_kind (runtime_from (word w runtime_tag) (word w runtime_first) (word w runtime_second)
-      (word w runtime_third) (word w runtime_fourth))) (policy_kind (policy_from (word w policy_tag) (word w fifo_priority))))
+      (word w runtime_third) (word w runtime_fourth)))
+      (policy_kind (policy_from (word w policy_tag) (word w fifo_priority))))
       (has_budget (budget_from (word w budget_tag) (word w budget_word) (word w budget_period) (word w budget_burst)))
-      (is_bad_budget (budget_from (word w budget_tag) (word w budget_word) (word w budget_period) (word w budget_burst)))
+      (is_bad_budget (budget_from (word w budget_tag) (word w budget_word) (word w budget_period)
+      (word w budget_burst)))
       ∙ rw (
         policy_kind_lem (word w policy_tag) (word w fifo_priority),
         runtime_kind_lem (word w runtime_tag) (word w runtime_first) (word w runtime_second) (word w runtime_third)
@@ -205,7 +208,8 @@ module _ (w : List ℕ) where
       index_by_kind (policy_from (word w policy_tag) (word w fifo_priority))
       (index.Index (role_index (role_from (word w role_tag))))
       (index.Index (fair_index + role_index (role_from (word w role_tag))))
-      (choose (budget_available_of (runtime_of w)) (index.Index (budget_ready + role_index (role_from (word w role_tag))))
+      (choose (budget_available_of (runtime_of w))
+      (index.Index (budget_ready + role_index (role_from (word w role_tag))))
       (index.Index (budget_exhausted + role_index (role_from (word w role_tag))))) index.None
       ∙ rw (policy_kind_lem (word w policy_tag) (word w fifo_priority), role_number_lem (word w role_tag))
 

@@ -25,7 +25,8 @@ module _ {B : Type 0} {y : B} {r : Total} {x : Answer ℕ} (g f : ℕ → B) whe
   unfolding on_answer
   total_length e m h = rw (sym e, m) h
 
-  pub total_refused : {n : Refusal} → total_answer r ≡ x → r ≡ total.Refused n → y ≡ g (number_of n) → y ≡ on_answer x g f
+  pub total_refused : {n : Refusal} → total_answer r ≡ x → r ≡ total.Refused n → y ≡ g (number_of n)
+      → y ≡ on_answer x g f
   unfolding on_answer
   total_refused e m h = rw (sym e, m) h
 

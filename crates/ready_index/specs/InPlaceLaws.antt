@@ -41,7 +41,8 @@ climbed t s sub {l} {m} e f =
     go (out change.Made t₁) k = by_its_links t₁ s.id k
     go (out change.Damaged t₁) k = refl
 
-read_as : (t : List ThreadRecord) (i : ℕ) {x : LinksRead} → links_answer x ≡ links_answer (links_at t i) → x ≡ links_at t i
+read_as : (t : List ThreadRecord) (i : ℕ) {x : LinksRead} → links_answer x ≡ links_answer (links_at t i)
+    → x ≡ links_at t i
 read_as t i {x} e = same_links x (links_at t i) e
 
 -- By what was read of the node, x, and by the side that the step's row says: with 0 the left one.
@@ -71,7 +72,8 @@ module _ {y : Out Turned} {x : LinksRead} (t : List ThreadRecord) (step : List �
 
 -- What balancing gave, handed on.
 pub handed_up : {r : Turned} {s : List ThreadRecord} (t : List ThreadRecord) (i : ℕ) (left right : Link)
-    → out (turned_answer r) s ≡ answering turned_answer (balance_by t i left right) → out r s ≡ balance_by t i left right
+    → out (turned_answer r) s ≡ answering turned_answer (balance_by t i left right)
+    → out r s ≡ balance_by t i left right
 handed_up {r} {s} t i left right e = same_turn r s (balance_by t i left right) e
 
 -- Few laws, so that a search for what is not so comes to its end.

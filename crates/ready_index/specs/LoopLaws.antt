@@ -192,7 +192,8 @@ module _ (rows : List (List ℕ)) (n : ℕ) (full : length rows - n ≡ 0) where
       → search_of (on_link at searched.Damaged
       (λ i. on_sought (sought_at t key id i) searched.Damaged (λ l. searched.Found n l) (λ l. searched.Damaged)
       (λ l. searched.Damaged))) rows
-      ≡ on_link at missing (λ i. on_sought (sought_at t key id i) missing (λ l. found (stack rows 0 n) l 0) (λ l. missing)
+      ≡ on_link at missing (λ i. on_sought (sought_at t key id i) missing (λ l. found (stack rows 0 n) l 0)
+      (λ l. missing)
       (λ l. missing))
   unfolding on_link search_of
   last_at_lem t key id link.None = refl

@@ -43,7 +43,8 @@ use Rattle.algorithms.specs.declared.RuntimeAnswer.TheVariants as runtime
 use Rattle.algorithms.specs.declared.RuntimeDeadline.{RuntimeDeadline}
 use Rattle.algorithms.specs.declared.RuntimeDeadline.TheVariants as due
 use Rattle.algorithms.specs.Answers.{runtime_answer, runtime_deadline}
-use Rattle.policy_words.specs.PolicyWords.{word, epoch_from, policy_from, role_from, backend_from, budget_from, parameters_of}
+use Rattle.policy_words.specs.PolicyWords.{word, epoch_from, policy_from, role_from, backend_from, budget_from}
+use Rattle.policy_words.specs.PolicyWords.{parameters_of}
 use Rattle.record_entries.specs.RecordWords.{budget_of, budget_runtime_of, runtime_option_of, runtime_key_of}
 use Rattle.record_entries.specs.RecordWords.{priority_option_of, class_number, weight_number}
 use Rattle.record_entries.specs.Entries.{Told, told, told_of, parameters_told}
@@ -76,7 +77,8 @@ pub policy_told : (tag priority : ℕ) (q : SchedulingPolicy) (k : SchedulingCla
 policy_told tag priority q k e₁ e₃ e₄ e₅ e₆ = rw (sym e₁, e₄, e₃, e₆, e₅) refl
 
 module _ {x : WeightOption} (n : ℕ) {r : ℕ} where
-  pub weight_made : {w : ThreadWeight} → x ≡ new_weight n → x ≡ weight.Some w → r ≡ w.0 → r ≡ weight_number (new_weight n)
+  pub weight_made : {w : ThreadWeight} → x ≡ new_weight n → x ≡ weight.Some w → r ≡ w.0
+      → r ≡ weight_number (new_weight n)
   weight_made e m h = rw (sym e, m) h
 
   pub no_weight : x ≡ new_weight n → x ≡ weight.None → r ≡ 0 → r ≡ weight_number (new_weight n)

@@ -26,7 +26,12 @@ abbrev pub burst_ns_word : ℕ
 burst_ns_word = 2
 
 unfoldable pub budget_of : List ℕ → BudgetParameters
-budget_of w = record { budget_ns = word w budget_ns_word; period_ns = word w period_ns_word; burst_ns = word w burst_ns_word }
+budget_of w = record {
+  budget_ns = word w budget_ns_word;
+  period_ns = word w period_ns_word;
+  burst_ns =
+      word w burst_ns_word;
+}
 
 -- The epoch's two words, what remains, what remains of the burst; and whether there is a runtime at all.
 abbrev pub epoch_tag : ℕ

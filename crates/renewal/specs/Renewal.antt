@@ -90,7 +90,8 @@ unfoldable pub renew_roles : ℕ → ℕ → List ThreadRecord → List Root →
 renew_roles zero moves t roots now = out (leaves (value tt) roots) t
 renew_roles (suc left) moves t roots now =
     given (2 - left)
-    (λ role. on_out (move_all moves t (root_at roots (budget_exhausted + role)) (root_at roots (budget_ready + role)) now)
+    (λ role. on_out (move_all moves t (root_at roots (budget_exhausted + role))
+    (root_at roots (budget_ready + role)) now)
     (λ s t₁. on_leaves s
     (λ n trees. out (leaves (refused n) (with_trees roots role trees)) t₁)
     (λ u trees. renew_roles left trees.moves t₁ (with_trees roots role trees) now)))

@@ -110,7 +110,8 @@ module _ {B : Type 0} {y : B} {r : RuntimeAnswer} (g : ℕ → B) (f : PolicyRun
   unfolding on_answer
   runtime_fresh m h = rw m h
 
-  pub runtime_refused : {n : Refusal} → r ≡ runtime.Refused n → y ≡ g (number_of n) → y ≡ on_answer (runtime_answer r) g f
+  pub runtime_refused : {n : Refusal} → r ≡ runtime.Refused n → y ≡ g (number_of n)
+      → y ≡ on_answer (runtime_answer r) g f
   unfolding on_answer
   runtime_refused m h = rw m h
 
@@ -120,7 +121,8 @@ module _ {B : Type 0} {y : B} {r : Verdict} (g : ℕ → B) (f : Unit {0} → B)
   unfolding on_answer
   was_accepted m h = rw m h
 
-  pub was_turned_down : {n : Refusal} → r ≡ verdict.Refused n → y ≡ g (number_of n) → y ≡ on_answer (verdict_answer r) g f
+  pub was_turned_down : {n : Refusal} → r ≡ verdict.Refused n → y ≡ g (number_of n)
+      → y ≡ on_answer (verdict_answer r) g f
   unfolding on_answer
   was_turned_down m h = rw m h
 
@@ -198,7 +200,8 @@ module _ (w : List ℕ) where
   other_tags : (word w runtime_tag ≡ word w policy_tag → ⊥) → is_bad_record (decoded w) ≡ false → word w budget_tag ≡ 0
   unfolding bad_row given if_equal choose
   other_tags d good = go (eqb (kind_from (word w runtime_tag)) (kind_from (word w policy_tag)))
-      (eqb (kind_from (word w policy_tag)) 2) (eqb (word w budget_tag) 0) (sound_budget (budget_parameters w)) refl refl refl
+      (eqb (kind_from (word w policy_tag)) 2) (eqb (word w budget_tag) 0)
+      (sound_budget (budget_parameters w)) refl refl refl
       (judged_by_tags w refl ∙ good)
     where
       go : (same two none sound : Bool) → eqb (kind_from (word w runtime_tag)) (kind_from (word w policy_tag)) ≡ same
@@ -218,7 +221,8 @@ module _ (w : List ℕ) where
   unsound : (t : List ThreadRecord) (id now : ℕ) → record_at t id ≡ read.Got (decoded w) → (word w budget_tag ≡ 0 → ⊥)
       → word w runtime_tag ≡ 2 → sound_budget (budget_parameters w) ≡ false
       → budget_refreshed t id now ≡ out (refused bad_record) t
-  unfolding budget_refreshed refreshed_stored given on_record epoch_refreshed on_runtime on_budget refreshed_judged judged
+  unfolding budget_refreshed refreshed_stored given on_record epoch_refreshed on_runtime on_budget refreshed_judged
+      judged
       of_budget choose on_answer
   unsound t id now got n m s = rw (got, budget_runs w m, with_budget w n, s)
 
@@ -234,7 +238,8 @@ module _ {y : Out (Answer (Unit {0}))} (t : List ThreadRecord) (id : ℕ) (w : L
   unfolding row_refreshed if_equal choose on_budget
   row_plain e n m h = rw (plain_row w e m, eq-eqb (word w budget_tag) 0 n, without_budget w n) h
 
-  row_budget : record_at t id ≡ read.Got (decoded w) → word w runtime_tag ≡ word w policy_tag → (word w budget_tag ≡ 0 → ⊥)
+  row_budget : record_at t id ≡ read.Got (decoded w) → word w runtime_tag ≡ word w policy_tag
+      → (word w budget_tag ≡ 0 → ⊥)
       → word w runtime_tag ≡ 2 → y ≡ budget_refreshed t id now → y ≡ row_refreshed t id (decoded w) now
   unfolding row_refreshed if_equal choose on_budget
   row_budget got e n m h =
@@ -272,7 +277,8 @@ pub row_budget_inside : {y : Out (Answer (Unit {0}))} (rows : List (List ℕ)) (
     → word (get_or rows id []) runtime_tag ≡ word (get_or rows id []) policy_tag
     → (word (get_or rows id []) budget_tag ≡ 0 → ⊥) → word (get_or rows id []) runtime_tag ≡ 2
     → y ≡ budget_refreshed (table rows) id now → y ≡ row_refreshed (table rows) id (decoded (get_or rows id [])) now
-row_budget_inside rows id now l = row_budget (table rows) id (get_or rows id []) now (sym (record_inside rows id l refl))
+row_budget_inside rows id now l = row_budget (table rows) id (get_or rows id []) now
+    (sym (record_inside rows id l refl))
 
 pub ruleset by_tags = (row_without_budget, row_plain, row_budget_inside, row_strange, row_bad, row_idle)
 
@@ -291,7 +297,8 @@ module _ (t : List ThreadRecord) (id now : ℕ) {r : ThreadRecord} (got : record
       → on_out (refresh_record t id r now) (λ a t₁. on_answer a (λ n. g n t₁) (λ s. f s t₁))
       ≡ on_out (row_refreshed t id r now)
       (λ a t₁. on_answer a (λ n. g n t₁) (λ u. on_record (record_at t₁ id) (d t₁) (λ s. f s t₁)))
-  unfolding refresh_record row_refreshed budget_refreshed refreshed_stored given on_record choose on_budget on_answer on_out
+  unfolding refresh_record row_refreshed budget_refreshed refreshed_stored given on_record choose on_budget on_answer
+      on_out
   refreshed_then {B} g d f =
       rw got (go (is_bad_record r) r.parameters.budget (epoch_refreshed r.runtime now r.parameters))
     where
@@ -302,7 +309,8 @@ module _ (t : List ThreadRecord) (id now : ℕ) {r : ThreadRecord} (got : record
           (λ a t₁. on_answer a (λ n. g n t₁) (λ s. f s t₁))
           ≡ on_out {A = Answer (Unit {0})} {B = B} (choose bad (out (refused bad_record) t)
           (on_budget b (out (value (tt {0})) t)
-          (λ q. on_answer a (λ n. out (refused bad_record) t) (λ x. out (value (tt {0})) (after (set_runtime t id x))))))
+          (λ q. on_answer a (λ n. out (refused bad_record) t)
+          (λ x. out (value (tt {0})) (after (set_runtime t id x))))))
           (λ a t₁. on_answer a (λ n. g n t₁) (λ u. on_record (record_at t₁ id) (d t₁) (λ s. f s t₁)))
       go true b a = refl
       go false budget.None a = rw got refl

@@ -24,7 +24,8 @@ unfolding roots_of root_from link_from if_equal choose
 root_read rows k = ap (λ (x : Root). x.root) (get_or-map root_from rows k [])
 
 pub root_of_row : (rows : List (List ℕ)) (k : ℕ) {r : Link}
-    → r ≡ link_from (word (get_or rows k []) head_tag) (word (get_or rows k []) head_word) → r ≡ root_at (roots_of rows) k
+    → r ≡ link_from (word (get_or rows k []) head_tag) (word (get_or rows k []) head_word)
+    → r ≡ root_at (roots_of rows) k
 root_of_row rows k e = e ∙ sym (root_read rows k)
 
 roots_set : (rows : List (List ℕ)) (k : ℕ) (w : List ℕ) → roots_of (set rows k w) ≡ set (roots_of rows) k (root_from w)
@@ -54,7 +55,8 @@ root_not_put rows k r h =
     set_outside (roots_of rows) k (record { root = r })
     (let same : length (roots_of rows) ≡ length rows = roots_length rows in omega arith)
 
-pub root_put : (rows : List (List ℕ)) (k : ℕ) (w : List ℕ) {r : Link} → link_from (word w head_tag) (word w head_word) ≡ r
+pub root_put : (rows : List (List ℕ)) (k : ℕ) (w : List ℕ) {r : Link}
+    → link_from (word w head_tag) (word w head_word) ≡ r
     → roots_of (set rows k w) ≡ set (roots_of rows) k (record { root = r })
 unfolding root_from
 root_put rows k w e = roots_set rows k w ∙ ap (λ (l : Link). set (roots_of rows) k (record { root = l })) e

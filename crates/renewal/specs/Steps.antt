@@ -23,7 +23,8 @@ use Rattle.thread.specs.Filing.{budget_exhausted, budget_ready}
 
 -- The runtime of a budget that was refreshed, stored.
 unfoldable pub refreshed_stored : List ThreadRecord → ℕ → Answer PolicyRuntime → Out (Answer (Unit {0}))
-refreshed_stored t id a = on_answer a (λ n. out (refused bad_record) t) (λ x. out (value tt) (after (set_runtime t id x)))
+refreshed_stored t id a = on_answer a (λ n. out (refused bad_record) t)
+    (λ x. out (value tt) (after (set_runtime t id x)))
 
 -- The budget of a record refreshed to now.
 unfoldable pub budget_refreshed : List ThreadRecord → ℕ → ℕ → Out (Answer (Unit {0}))

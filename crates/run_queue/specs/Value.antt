@@ -6,7 +6,8 @@ use Rattle.policy_words.specs.PolicyWords.{word, epoch_from}
 use Rattle.queue.specs.RunQueue.{CpuRunQueue}
 use Rattle.queue.specs.Queue.{Step, step}
 use Rattle.queue.specs.Answers.{verdict_answer}
-use Rattle.lent_queue.specs.LentQueue.{total_word, budgets_word, epoch_tag, epoch_word, mark_word, list_from, halted_from}
+use Rattle.lent_queue.specs.LentQueue.{total_word, budgets_word, epoch_tag, epoch_word, mark_word, list_from}
+use Rattle.lent_queue.specs.LentQueue.{halted_from}
 use Rattle.selection.specs.Peek.{Peeked, peeked}
 use Rattle.selection.specs.Answers.{peek_answer}
 use Rattle.run_queue.specs.declared.CpuRunQueue as value

@@ -1,7 +1,9 @@
 -- Laws by which a value stored to rows, and read from them, is the same queue; and a call on the rows is the call on
 -- the value.
-use Rattle.std.specs.Prelude.{ℕ, zero, suc, ◌+◌, ◌<◌, ◌≤◌, min, ◌≡◌, Bool, true, false, List, [], ◌∷◌, ◌++◌, map, length, get_or, set, take, drop, replicate}
-use Rattle.std.proofs.Common.{arith, sym, ap, ◌∙◌, append-nil, length-take, drop_of_length-le, take_all, take_at, drop-drop, get_or-drop, get_or-append-add}
+use Rattle.std.specs.Prelude.{ℕ, zero, suc, ◌+◌, ◌<◌, ◌≤◌, min, ◌≡◌, Bool, true, false, List, [], ◌∷◌, ◌++◌, map}
+use Rattle.std.specs.Prelude.{length, get_or, set, take, drop, replicate}
+use Rattle.std.proofs.Common.{arith, sym, ap, ◌∙◌, append-nil, length-take, drop_of_length-le, take_all, take_at}
+use Rattle.std.proofs.Common.{drop-drop, get_or-drop, get_or-append-add}
 use Rattle.std.proofs.Math.Path.{refl}
 use Rattle.std.proofs.lemmas.List.{length-map}
 use Rattle.std.proofs.Math.ListN.{get_or-map}
@@ -136,7 +138,8 @@ lists_read rows e = e
 -- The roots stored over the rows of a queue.
 pub roots_put : {roots : List Root} (rows part : List (List ℕ)) → length rows ≡ queue_rows
     → length part ≡ length (take tree_count (drop root_rows rows)) → roots_of part ≡ roots
-    → queue_of (take root_rows rows ++ (part ++ drop tree_count (drop root_rows rows))) ≡ with_indices (queue_of rows) roots
+    → queue_of (take root_rows rows ++ (part ++ drop tree_count (drop root_rows rows)))
+    ≡ with_indices (queue_of rows) roots
 roots_put rows part h k e = roots_stored rows part h (k ∙ part_size rows h) ∙ ap (with_indices (queue_of rows)) e
 
 pub roots_read : {r : List Root} (rows : List (List ℕ)) → r ≡ roots_of (take tree_count (drop root_rows rows))

@@ -17,7 +17,8 @@ use Rattle.budget.specs.Runtime as budget
 use Rattle.algorithms.specs.declared.FairRuntime.{FairRuntime}
 use Rattle.algorithms.specs.declared.PolicyRuntime.{PolicyRuntime}
 use Rattle.algorithms.specs.declared.PolicyRuntime.TheVariants as runtime
-use Rattle.algorithms.specs.Runtime.{on_runtime, of_budget, same_kind, unless_back, accounted, epoch_refreshed, turn_finished}
+use Rattle.algorithms.specs.Runtime.{on_runtime, of_budget, same_kind, unless_back, accounted, epoch_refreshed}
+use Rattle.algorithms.specs.Runtime.{turn_finished}
 use Rattle.thread.specs.declared.ThreadRecord.{ThreadRecord}
 use Rattle.thread.specs.Judgement.{has_budget, is_bad_budget, is_bad_record}
 
@@ -59,7 +60,8 @@ finished_of (runtime.Fair f) q = runtime.Fair f
 finished_of runtime.Idle q = runtime.Idle
 
 pub good : (p : SchedulingPolicy) (q : BudgetOption) (r : PolicyRuntime)
-    → choose (same_kind r p) (on_policy p (λ priority. has_budget q) (has_budget q) (is_bad_budget q) (has_budget q)) true
+    → choose (same_kind r p) (on_policy p (λ priority. has_budget q) (has_budget q) (is_bad_budget q)
+    (has_budget q)) true
     ≡ false → Good p q r
 unfolding choose same_kind on_policy has_budget is_bad_budget on_budget
 good (policy.Fifo p) option.None runtime.Fifo e = fifo p
@@ -115,7 +117,8 @@ accounts_by : (p : SchedulingPolicy) (q : BudgetOption) (r : PolicyRuntime) (sta
     (unless_back r start end))
     (refused bad_record)
     ≡ if_less end start (refused back_in_time) (value (charged_of r q start end))
-unfolding choose same_kind on_runtime on_budget of_budget unless_back budget.accounted_interval budget.judged if_less given
+unfolding choose same_kind on_runtime on_budget of_budget unless_back budget.accounted_interval budget.judged if_less
+    given
 accounts_by p q r start end (fifo x) = refl
 accounts_by p q r start end (fair f) = refl
 accounts_by p q r start end (budgeted s b h) = rw h (go (ltb end start))

@@ -14,7 +14,8 @@ use Rattle.queue.specs.Queue.{max_records}
 
 -- NoThread, then BadRecord.
 unfoldable pub judged_at : List ThreadRecord → ℕ → Answer ThreadRecord
-judged_at t id = on_record (record_at t id) (refused no_thread) (λ r. choose (is_bad_record r) (refused bad_record) (value r))
+judged_at t id = on_record (record_at t id) (refused no_thread)
+    (λ r. choose (is_bad_record r) (refused bad_record) (value r))
 
 -- BadTable before them.
 unfoldable pub judged : List ThreadRecord → ℕ → Answer ThreadRecord

@@ -40,7 +40,8 @@ use Rattle.arbitration.specs.Window as window
 use Rattle.arbitration.specs.Calls.{With, with, judged, account_call, next_deadline_call}
 use Rattle.window_config.specs.Config.{sound_config}
 use Rattle.codec.specs.Codec.{word, policy_from, budget_from, runtime_from, membership_from, parameters_of, runtime_of}
-use Rattle.codec.specs.Codec.{queue_links_of, decoded, ready_turn_word, membership_tag, membership_first, membership_second}
+use Rattle.codec.specs.Codec.{queue_links_of, decoded, ready_turn_word, membership_tag, membership_first}
+use Rattle.codec.specs.Codec.{membership_second}
 use Rattle.rows.specs.declared.RecordRead.TheVariants as read
 use Rattle.rows.specs.Table.{Out, out, after, record_of, changed, record_at, set_runtime, set_turn}
 use Rattle.rows.specs.TableCases.{on_record}
@@ -53,7 +54,8 @@ use Rattle.decisions.specs.declared.Taken.{Taken}
 use Rattle.decisions.specs.declared.Turns.{Turns}
 use Rattle.decisions.specs.Turns.{turn_for}
 use Rattle.decisions.specs.Switch.{spent}
-use Rattle.decisions.specs.OwnDeadline.{on_key_mode, borrows, budget_expiry, turn_competition, turn_deadline, without_peer}
+use Rattle.decisions.specs.OwnDeadline.{on_key_mode, borrows, budget_expiry, turn_competition, turn_deadline}
+use Rattle.decisions.specs.OwnDeadline.{without_peer}
 use Rattle.decisions.specs.OwnDeadline.{budget_deadline, own_deadline}
 use Rattle.runtime.specs.Judging.{on_with, stored}
 use Rattle.runtime.specs.Prepare.{Counted, counted, prepare_record, stored_preparation, prepared}
@@ -64,7 +66,8 @@ use Rattle.runtime.specs.Judged.{accounts, finished_of, finishes}
 use Rattle.runtime.specs.Rows.{fair_runtime, pass_row, spent_row, slice_end, refreshed_end, budget_end, own_end}
 use Rattle.runtime.specs.Rows.{earlier_of, due_row, keyless_due, budget_stored, finished_row, charged_row}
 use Rattle.runtime.specs.Rows.{refreshed_row, candidate_row, prepared_row, row_prepared, accounted_row}
-use Rattle.policy_words.specs.PolicyWords.{policy_tag, fifo_priority, budget_tag, runtime_tag, runtime_first, runtime_second}
+use Rattle.policy_words.specs.PolicyWords.{policy_tag, fifo_priority, budget_tag, runtime_tag, runtime_first}
+use Rattle.policy_words.specs.PolicyWords.{runtime_second}
 use Rattle.policy_words.specs.PolicyWords.{runtime_third, runtime_fourth}
 
 -- What a judged row is, by the tag of its runtime: a sound budget with its runtime, or neither.
@@ -184,7 +187,8 @@ plain_fresh (runtime.Fair f) q now e = refl
 plain_fresh (runtime.Budget b) q now e = never cc
 plain_fresh runtime.Idle q now e = refl
 
-plain_charged : (x : PolicyRuntime) (q : BudgetOption) (start end : ℕ) → is_plain x ≡ true → charged_of x q start end ≡ x
+plain_charged : (x : PolicyRuntime) (q : BudgetOption) (start end : ℕ) → is_plain x ≡ true
+    → charged_of x q start end ≡ x
 plain_charged runtime.Fifo q start end e = refl
 plain_charged (runtime.Fair f) q start end e = refl
 plain_charged (runtime.Budget b) q start end e = never cc
@@ -392,7 +396,8 @@ module _ (w : List ℕ) where
   pub pass_by_tag : {r : Wide} → r ≡ pass_row w → r ≡ pass_of (decoded w).runtime
   unfolding pass_of pass_row if_equal
   pass_by_tag e =
-      e ∙ sym (by_tag w zero_pass (λ f. f.pass) (λ b. zero_pass) ∙ rw (either_way (eqb (word w runtime_tag) 2) zero_pass))
+      e ∙ sym (by_tag w zero_pass (λ f. f.pass) (λ b. zero_pass)
+      ∙ rw (either_way (eqb (word w runtime_tag) 2) zero_pass))
 
   pub spent_by_tag : {r : Bool} → r ≡ spent_row w → r ≡ spent (decoded w).runtime
   unfolding spent spent_row
@@ -460,14 +465,16 @@ data OwnOf (t : List ThreadRecord) (id : ℕ) (a : Answer (PolicyRuntime × Dead
 module _ (t : List ThreadRecord) (id : ℕ) (w : List ℕ) (got : record_at t id ≡ read.Got (decoded w))
     (sound : is_bad_record (decoded w) ≡ false) (now : ℕ) (m : DispatchMode) (x : Contention) where
   own_row : OwnOf t id (own_deadline now (decoded w).runtime (decoded w).parameters m x) (own_end t id w now m x)
-  unfolding own_end budget_end refreshed_end if_equal choose given on_answer own_deadline on_runtime budget_deadline on_budget
+  unfolding own_end budget_end refreshed_end if_equal choose given on_answer own_deadline on_runtime budget_deadline
+      on_budget
       without_peer turn_deadline turn_competition on_policy next_deadline of_budget_deadline budget.deadline_judged
       budget.judged
   own_row = go (row_of w sound)
     where
       by_peer : (c peer : Bool) → x.competition ≡ c → x.budget_peer ≡ peer → word w runtime_tag ≡ 2
           → (decoded w).runtime ≡ runtime.Budget (budget_runtime w)
-          → (decoded w).parameters.budget ≡ option.Some (budget_parameters w) → sound_budget (budget_parameters w) ≡ true
+          → (decoded w).parameters.budget ≡ option.Some (budget_parameters w)
+          → sound_budget (budget_parameters w) ≡ true
           → (decoded w).parameters.policy ≡ policy.Budget
           → OwnOf t id (own_deadline now (decoded w).runtime (decoded w).parameters m x) (own_end t id w now m x)
       by_peer false peer e f tag runs has s p =
@@ -476,10 +483,12 @@ module _ (t : List ThreadRecord) (id : ℕ) (w : List ℕ) (got : record_at t id
       by_peer true false e f tag runs has s p =
           own_of (runtime.Budget (budget_runtime w)) (budget_expiry now (word w runtime_third) (budget_parameters w))
           (rw (runs, has, e, f)) (rw (tag, e, f)
-          (ap (out (budget_expiry now (word w runtime_third) (budget_parameters w))) (stays t id w got sound (sym runs))))
+          (ap (out (budget_expiry now (word w runtime_third) (budget_parameters w)))
+          (stays t id w got sound (sym runs))))
       by_peer true true e f tag runs has s p =
           own_of (runtime.Budget (budget.refreshed (budget_runtime w) now (budget_parameters w)))
-          (budget.deadline_after (budget.refreshed (budget_runtime w) now (budget_parameters w)) now (budget_parameters w)
+          (budget.deadline_after (budget.refreshed (budget_runtime w) now (budget_parameters w)) now
+          (budget_parameters w)
           (borrows m))
           (rw (runs, has, e, f, p, s)) (rw (tag, e, f, s))
 

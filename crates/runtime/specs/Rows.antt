@@ -58,7 +58,8 @@ fair_runtime w =
 
 -- `pass_of` and `spent` by the runtime's tag.
 unfoldable pub pass_row : List ℕ → Wide
-pass_row w = if_equal (word w runtime_tag) 1 (record { high = word w runtime_first; low = word w runtime_second }) zero_pass
+pass_row w = if_equal (word w runtime_tag) 1
+    (record { high = word w runtime_first; low = word w runtime_second }) zero_pass
 
 unfoldable pub spent_row : List ℕ → Bool
 spent_row w = if_equal (word w runtime_tag) 1 (if_equal (word w runtime_third) 0 true false)
@@ -77,7 +78,8 @@ finished_row t id w =
 -- An interval charged to a budget.
 unfoldable pub charged_row : List ThreadRecord → ℕ → List ℕ → ℕ → ℕ → List ThreadRecord
 charged_row t id w start end =
-    if_equal (word w runtime_tag) 2 (given (budget.accounted_interval (budget_runtime w) start end (budget_parameters w))
+    if_equal (word w runtime_tag) 2 (given
+    (budget.accounted_interval (budget_runtime w) start end (budget_parameters w))
     (budget_stored t id)) t
 
 -- A budget refreshed to now, and whether there is time left.
@@ -153,7 +155,8 @@ unfoldable pub earlier_of : With Deadline → Deadline → With Deadline
 earlier_of (with (value end) w) own = with (value (earliest_of own end)) w
 earlier_of (with (refused n) w) own = with (refused n) w
 
-unfoldable pub due_row : List ThreadRecord → ℕ → List ℕ → ℕ → DispatchMode → CpuWindow → Contention → Out (With Deadline)
+unfoldable pub due_row : List ThreadRecord → ℕ → List ℕ → ℕ → DispatchMode → CpuWindow → Contention
+    → Out (With Deadline)
 due_row t id w now m window x =
     on_out (own_end t id w now m x)
     (λ own t₁. out (earlier_of (next_deadline_call window now m x.competition x.demand) own) t₁)

@@ -1,6 +1,7 @@
 -- Laws by which the functions meet the definitions, one for each way through a call: r is what a call gave, x what its
 -- contract says of it.
-use Rattle.std.specs.Prelude.{ℕ, zero, suc, ◌<◌, ◌≤◌, ◌≡◌, refl, Bool, true, false, not, List, [], eqb, length, get_or, set}
+use Rattle.std.specs.Prelude.{ℕ, zero, suc, ◌<◌, ◌≤◌, ◌≡◌, refl, Bool, true, false, not, List, [], eqb, length, get_or}
+use Rattle.std.specs.Prelude.{set}
 use Rattle.std.proofs.Common.{arith, ◌∙◌}
 use Rattle.std.proofs.Math.Path.{sym, ap}
 use Rattle.std.proofs.Math.Option.{Option, none, some}
@@ -38,10 +39,12 @@ use Rattle.thread.specs.Judgement.{is_bad_record}
 use Rattle.thread.specs.Records.{with_runtime}
 use Rattle.policy_words.specs.ByWords.{by_words}
 use Rattle.policy_words.specs.PolicyWords.{row_words, policy_tag, fifo_priority, band_word, role_tag, weight_word}
-use Rattle.policy_words.specs.PolicyWords.{quantum_word, backend_tag, budget_tag, budget_word, budget_period, budget_burst}
+use Rattle.policy_words.specs.PolicyWords.{quantum_word, backend_tag, budget_tag, budget_word, budget_period}
+use Rattle.policy_words.specs.PolicyWords.{budget_burst}
 use Rattle.policy_words.specs.PolicyWords.{runtime_tag, runtime_first, runtime_second, runtime_third, runtime_fourth}
 use Rattle.window_words.specs.WindowWords as words
-use Rattle.codec.specs.Codec.{word, policy_from, epoch_from, runtime_from, parameters_of, runtime_of, links_of, queue_links_of}
+use Rattle.codec.specs.Codec.{word, policy_from, epoch_from, runtime_from, parameters_of, runtime_of, links_of}
+use Rattle.codec.specs.Codec.{queue_links_of}
 use Rattle.codec.specs.Codec.{decoded}
 use Rattle.rows.specs.declared.Change.{Change}
 use Rattle.rows.specs.declared.RecordRead.TheVariants as read
@@ -134,7 +137,8 @@ tag_kind zero h = refl
 tag_kind (suc zero) h = refl
 tag_kind (suc (suc n)) h = absurd (omega arith)
 
-pub good_by_tags : (w : List ℕ) → word w runtime_tag ≡ word w policy_tag → word w runtime_tag < 2 → word w budget_tag ≡ 0
+pub good_by_tags : (w : List ℕ) → word w runtime_tag ≡ word w policy_tag → word w runtime_tag < 2
+    → word w budget_tag ≡ 0
     → false ≡ is_bad_record (decoded w)
 unfolding bad_row given if_equal choose
 good_by_tags w e l n =
@@ -188,7 +192,8 @@ sound_config_lem {b} e m = sym e ∙ not-false b m
 
 -- The end of a turn.
 module _ {y : Out (Answer (Unit {0}))} (rows : List (List ℕ)) (i : ℕ) where
-  pub finish_many : max_records < length rows → y ≡ out (refused bad_table) (table rows) → y ≡ finish_turn (table rows) i
+  pub finish_many : max_records < length rows → y ≡ out (refused bad_table) (table rows)
+      → y ≡ finish_turn (table rows) i
   unfolding finish_turn finishing stored and_then
   finish_many p h = rw (many rows i p) h
 
@@ -202,7 +207,8 @@ module _ {y : Out (Answer (Unit {0}))} (rows : List (List ℕ)) (i : ℕ) where
     unfolding finish_turn finishing stored and_then
     finish_bad q e m h = rw (few rows i p, bad_at rows i q e m) h
 
-    pub finish_on : {b : Bool} {t : List ThreadRecord} → i < length rows → b ≡ is_bad_record (decoded (get_or rows i []))
+    pub finish_on : {b : Bool} {t : List ThreadRecord} → i < length rows
+        → b ≡ is_bad_record (decoded (get_or rows i []))
         → b ≡ false
         → t ≡ finished_row (table rows) i (get_or rows i []) → y ≡ out (value tt) t → y ≡ finish_turn (table rows) i
     unfolding finish_turn finishing and_then
@@ -287,7 +293,8 @@ module _ {y : Out (Answer (Unit {0}) × Candidate)} (before : Candidate) (rows :
     unfolding candidate_at and_then candidate_stored
     candidate_idle m n h =
         rw (good_at rows i q e m, not-true running n)
-        (h ∙ ap (candidate_stored before) (idle_so (table rows) i (get_or rows i []) (row_got rows i q) (sym e ∙ m) now))
+        (h ∙ ap (candidate_stored before)
+        (idle_so (table rows) i (get_or rows i []) (row_got rows i q) (sym e ∙ m) now))
 
     pub candidate_on : {a : Bool} {t : List ThreadRecord} {c : Candidate} → b ≡ false → not running ≡ false
         → out a t ≡ refreshed_row (table rows) i (get_or rows i []) now

@@ -31,7 +31,8 @@ on_link link.None a f = a
 on_link (link.Some n) a f = f n
 
 -- None, ReadyRealTime, ReadyFair, Waiting, Terminated.
-unfoldable pub on_membership : {A : Type 0} → QueueMembership → A → (CpuIndex → ℕ → A) → (CpuIndex → A) → (ℕ → A) → A → A
+unfoldable pub on_membership : {A : Type 0} → QueueMembership → A → (CpuIndex → ℕ → A) → (CpuIndex → A) → (ℕ → A) → A
+    → A
 on_membership membership.None none real_time fair waiting terminated = none
 on_membership (membership.ReadyRealTime c p) none real_time fair waiting terminated = real_time c p
 on_membership (membership.ReadyFair c) none real_time fair waiting terminated = fair c
@@ -71,7 +72,8 @@ is_terminated m = on_membership m false (λ d q. false) (λ d. false) (λ q. fal
 -- `membership == other`.
 unfoldable pub same_membership : QueueMembership → QueueMembership → Bool
 same_membership m other =
-    on_membership m (is_unqueued other) (is_ready_real_time other) (is_ready_fair other) (is_waiting other) (is_terminated other)
+    on_membership m (is_unqueued other) (is_ready_real_time other) (is_ready_fair other) (is_waiting other)
+    (is_terminated other)
 
 -- The processor of a ready membership, or none.
 unfoldable pub ready_cpu : QueueMembership → CpuOption

@@ -46,13 +46,15 @@ module _ (w : List ℕ) where
       (neither (ltb (word w priority_rank_word % 256) (word w budget_rank_word % 256))
       (neither (ltb (word w budget_rank_word % 256) (word w fair_rank_word % 256)) refl refl) refl)
 
-  pub budget_not_after : word w budget_rank_word % 256 ≤ word w priority_rank_word % 256 → false ≡ sound_config (config_of w)
+  pub budget_not_after : word w budget_rank_word % 256 ≤ word w priority_rank_word % 256
+      → false ≡ sound_config (config_of w)
   budget_not_after h = unranked (first_rank h)
 
   pub fair_not_after : word w fair_rank_word % 256 ≤ word w budget_rank_word % 256 → false ≡ sound_config (config_of w)
   fair_not_after h = unranked (second_rank h)
 
-  pub borrow_not_after : word w borrow_rank_word % 256 ≤ word w fair_rank_word % 256 → false ≡ sound_config (config_of w)
+  pub borrow_not_after : word w borrow_rank_word % 256 ≤ word w fair_rank_word % 256
+      → false ≡ sound_config (config_of w)
   borrow_not_after h = unranked (third_rank h)
 
   pub floor_not_below : word w window_period ≤ word w window_floor → false ≡ sound_config (config_of w)
@@ -75,13 +77,15 @@ module _ (w : List ℕ) where
       rw (le-ltb (word w window_allowance) (word w window_period - word w window_floor) h)
       (neither (eqb (word w window_period) 0) refl
       (neither (ltb max_period (word w window_period)) refl
-      (neither (eqb (word w window_floor) 0) refl (neither (ltb (word w window_floor) (word w window_period)) refl refl))))
+      (neither (eqb (word w window_floor) 0) refl
+      (neither (ltb (word w window_floor) (word w window_period)) refl refl))))
 
   pub period_too_long : max_period < word w window_period → false ≡ sound_config (config_of w)
   unfolding sound_config config_of if_equal if_less
   period_too_long h = rw (lt-ltb max_period (word w window_period) h) (neither (eqb (word w window_period) 0) refl refl)
 
-  pub all_hold : word w priority_rank_word % 256 < word w budget_rank_word % 256 → word w budget_rank_word % 256 < word w fair_rank_word % 256
+  pub all_hold : word w priority_rank_word % 256 < word w budget_rank_word % 256
+      → word w budget_rank_word % 256 < word w fair_rank_word % 256
       → word w fair_rank_word % 256 < word w borrow_rank_word % 256
       → word w window_floor < word w window_period → (word w window_floor ≡ 0 → ⊥)
       → word w window_allowance < word w window_period - word w window_floor → word w window_period ≤ max_period

@@ -30,7 +30,8 @@ use Rattle.window_entries.specs.Entries.{left, left_of}
 
 -- A window's words refreshed: within its epoch, or into a later one.
 module _ (w : List ℕ) (now : ℕ) {n : ℕ} {later : Bool} where
-  pub words_within : n ≡ now / word w window_period → later ≡ rises (epoch_from (word w epoch_tag) (word w epoch_word)) n
+  pub words_within : n ≡ now / word w window_period
+      → later ≡ rises (epoch_from (word w epoch_tag) (word w epoch_word)) n
       → not later ≡ true → window_of w ≡ refreshed (window_of w) now
   unfolding choose refreshed given window_of config_of
   words_within d r t =

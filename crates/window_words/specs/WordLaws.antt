@@ -15,8 +15,10 @@ use Rattle.arbitration.specs.declared.KeyOption.{KeyOption}
 use Rattle.arbitration.specs.declared.KeyOption.TheVariants as key
 use Rattle.policy_words.specs.PolicyWords.{word, epoch_from, parameters_of}
 use Rattle.policy_words.specs.ByWords.{by_words}
-use Rattle.window_words.specs.WindowWords.{window_word_count, window_period, window_allowance, window_floor, priority_rank_word}
-use Rattle.window_words.specs.WindowWords.{budget_rank_word, fair_rank_word, borrow_rank_word, prefer_fair_word, epoch_tag, epoch_word}
+use Rattle.window_words.specs.WindowWords.{window_word_count, window_period, window_allowance, window_floor}
+use Rattle.window_words.specs.WindowWords.{priority_rank_word}
+use Rattle.window_words.specs.WindowWords.{budget_rank_word, fair_rank_word, borrow_rank_word, prefer_fair_word}
+use Rattle.window_words.specs.WindowWords.{epoch_tag, epoch_word}
 use Rattle.window_words.specs.WindowWords.{allowance_left, floor_left, demand_protected, demand_fair, demand_sensitive}
 use Rattle.window_words.specs.WindowWords.{demand_eligible, demand_any, candidate_pass_high, candidate_pass_low}
 use Rattle.window_words.specs.WindowWords.{candidate_available, candidate_turn, key_urgency, key_rank}

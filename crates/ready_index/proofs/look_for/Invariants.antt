@@ -6,7 +6,8 @@ use Rattle.ready_index.specs.LoopLaws.{whole}
 use Rattle.ready_index.proofs.look_for.Given as goal
 
 abbrev pub invariant-loop-room : goal.invariant-loop-room
-invariant-loop-room l = look_for l.room (table l.t) l.key l.id l.current ≡ whole (look_for 40 (table l.t) l.key l.id l.initial.current)
+invariant-loop-room l = look_for l.room (table l.t) l.key l.id l.current
+    ≡ whole (look_for 40 (table l.t) l.key l.id l.initial.current)
 
 abbrev pub decreases-loop-room : goal.decreases-loop-room
 decreases-loop-room l = l.room

@@ -12,7 +12,8 @@ use Rattle.ready_index.proofs.rebuild.Given as goal
 
 abbrev pub invariant-loop-len : goal.invariant-loop-len
 invariant-loop-len l = (l.start + l.len ≤ length l.path) × (length l.t ≡ length l.initial.t)
-    × (rebuild (stack l.path l.start l.len) (table l.t) l.sub ≡ whole (rebuild (stack l.path l.start l.steps) (table l.initial.t) l.initial.sub))
+    × (rebuild (stack l.path l.start l.len) (table l.t) l.sub
+    ≡ whole (rebuild (stack l.path l.start l.steps) (table l.initial.t) l.initial.sub))
     × Framed l.initial.t l.t
 
 abbrev pub decreases-loop-len : goal.decreases-loop-len

@@ -4,7 +4,8 @@ use Rattle.cases.proofs.machine.run.Given as goal
 
 abbrev pub invariant-loop-i : goal.invariant-loop-i
 invariant-loop-i l =
-    (l.differs ≤ l.i) × ((l.differs ≤ length l.words) × ((l.i ≤ length l.words + 1) × (length l.t ≡ length l.initial.t)))
+    (l.differs ≤ l.i) × ((l.differs ≤ length l.words)
+    × ((l.i ≤ length l.words + 1) × (length l.t ≡ length l.initial.t)))
 
 abbrev pub decreases-loop-i : goal.decreases-loop-i
 decreases-loop-i l = length l.words - l.i

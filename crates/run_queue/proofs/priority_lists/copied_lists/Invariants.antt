@@ -8,7 +8,8 @@ use Rattle.run_queue.specs.ValueLaws.{overlaid}
 use Rattle.run_queue.proofs.priority_lists.copied_lists.Given as goal
 
 abbrev pub invariant-loop-k : goal.invariant-loop-k
-invariant-loop-k l = (l.k ≤ priorities) × (length l.initial.lists ≡ priorities) × (length (lists_of l.rows) ≡ priorities)
+invariant-loop-k l = (l.k ≤ priorities) × (length l.initial.lists ≡ priorities)
+    × (length (lists_of l.rows) ≡ priorities)
     × (l.lists ≡ overlaid l.k (lists_of l.rows) l.initial.lists)
 
 abbrev pub decreases-loop-k : goal.decreases-loop-k

@@ -9,7 +9,8 @@ use Rattle.run_queue.proofs.priority_lists.copy_lists.Given as goal
 
 abbrev pub invariant-loop-k : goal.invariant-loop-k
 invariant-loop-k l = (l.k ≤ priorities) × (length l.rows ≡ priorities) × (length l.lists ≡ priorities)
-    × (length (lists_of l.initial.rows) ≡ priorities) × (lists_of l.rows ≡ overlaid l.k l.lists (lists_of l.initial.rows))
+    × (length (lists_of l.initial.rows) ≡ priorities)
+    × (lists_of l.rows ≡ overlaid l.k l.lists (lists_of l.initial.rows))
 
 abbrev pub decreases-loop-k : goal.decreases-loop-k
 decreases-loop-k l = priorities - l.k

@@ -8,7 +8,8 @@ use Rattle.run_queue.specs.ValueLaws.{overlaid}
 use Rattle.run_queue.proofs.tree_roots.copied_roots.Given as goal
 
 abbrev pub invariant-loop-k : goal.invariant-loop-k
-invariant-loop-k l = (l.k ≤ tree_count) × (length l.initial.indices ≡ tree_count) × (length (roots_of l.rows) ≡ tree_count)
+invariant-loop-k l = (l.k ≤ tree_count) × (length l.initial.indices ≡ tree_count)
+    × (length (roots_of l.rows) ≡ tree_count)
     × (l.indices ≡ overlaid l.k (roots_of l.rows) l.initial.indices)
 
 abbrev pub decreases-loop-k : goal.decreases-loop-k

@@ -13,7 +13,8 @@ use Rattle.selection.proofs.choosing.gather_heads.Given as goal
 abbrev pub invariant-loop-left : goal.invariant-loop-left
 invariant-loop-left l = (l.count + l.left ≤ 12) × (length l.t ≡ length l.initial.t) × (length l.heads ≡ 12)
     × (gather_numbers l.left (table l.t) (roots_of l.roots) l.cpu l.reading (take l.count l.heads) l.found
-    ≡ whole (gather_numbers 12 (table l.initial.t) (roots_of l.roots) l.cpu l.reading [] l.initial.found)) × Framed l.initial.t l.t
+    ≡ whole (gather_numbers 12 (table l.initial.t) (roots_of l.roots) l.cpu l.reading [] l.initial.found))
+    × Framed l.initial.t l.t
 
 abbrev pub decreases-loop-left : goal.decreases-loop-left
 decreases-loop-left l = l.left

@@ -8,7 +8,8 @@ use Rattle.selection.specs.HeadNumbers.{least_number}
 use Rattle.selection.proofs.choosing.least_of.Given as goal
 
 abbrev pub invariant-loop-k : goal.invariant-loop-k
-invariant-loop-k l = (l.k ≤ l.count) × (least_number (table l.t) (drop l.k (take l.count l.heads)) l.reading l.demand l.window l.best
+invariant-loop-k l = (l.k ≤ l.count) × (least_number (table l.t)
+    (drop l.k (take l.count l.heads)) l.reading l.demand l.window l.best
     ≡ whole (least_number (table l.t) (take l.count l.heads) l.reading l.demand l.window l.initial.best))
 
 abbrev pub decreases-loop-k : goal.decreases-loop-k
