@@ -1,7 +1,7 @@
 #!/usr/bin/env python3
-"""tools/respell.py [--list]: brings the repository's own names of definitions, lemmas and local values to the spelling of
-today's Rattle, everywhere that they stand: words in snake case, with types and facts as they are. Run once, at the top,
-after the kit's port.py. Names of functions, fields and exported symbols, strings, inputs and outputs stay.
+"""tools/respell.py [--list]: brings the repository's own names of definitions, lemmas and local values to the spelling
+of today's Rattle, everywhere that they stand: words in snake case, with types and facts as they are. Run once, at the
+top, after the kit's port.py. Names of functions, fields and exported symbols, strings, inputs and outputs stay.
 
 Where two old names would fall together, or a new one would be a field's, a constant's, a tactic's or an imported one,
 the new name is written out in OTHER. --list only says what falls together."""
@@ -30,8 +30,8 @@ OTHER = {
     'in-order': 'in_order_lem',
 }
 # Lemmas and fields whose names, plain already, are those of definitions now; and a tactic's.
-PLAIN = {n: n + '_lem' for n in """at_back at_front end_before found_number goes_on in_list in_order index_number key_left
-left_by list_at next_word of_three same_byte same_bytes same_place turned_down""".split()}
+PLAIN = {n: n + '_lem' for n in """at_back at_front end_before found_number goes_on in_list in_order index_number
+key_left left_by list_at next_word of_three same_byte same_bytes same_place turned_down""".split()}
 PLAIN['first_of'] = 'first_of_list'
 
 WORD = re.compile(r"(?<![\w'\-])[^\W\d_][\w']*(?:-[\w']+)*")
@@ -83,7 +83,8 @@ EDITS = files('crates/*/must-fail/*.edit', 'crates/*/wrong-answers')
 PAGES = files('*.md', 'docs/**/*.md', 'tools/*')
 TEXT = {f: open(f).read() for f in ANTT + RT + EDITS + PAGES if f != 'tools/respell.py'}
 
-SIGN = re.compile(r"^\s*(?:(?:abbrev|unfoldable|pub|data|record|ruleset) )*([^\s:(){}λ=]+(?: [^\s:(){}λ=]+)*) (?::|=)(?= |$)", re.M)
+SIGN = re.compile(r"^\s*(?:(?:abbrev|unfoldable|pub|data|record|ruleset) )*([^\s:(){}λ=]+(?: [^\s:(){}λ=]+)*)"
+                  r" (?::|=)(?= |$)", re.M)
 
 
 def in_answer(f):
@@ -196,9 +197,28 @@ def turn(text, f):
     return ''.join(p if i % 2 else WORD.sub(one, p) for i, p in enumerate(STRING.split(text)))
 
 
+TICKED = re.compile(r'(`[^`\n]*`)')
+
+
+def words(text, f):
+    """A comment: only what stands between back quotes is a name."""
+    return ''.join(turn(p, f) if i % 2 else p for i, p in enumerate(TICKED.split(text)))
+
+
+def terms(text, f):
+    """A file of definitions or of edits, line by line, each without its comment."""
+    mark = re.compile(r'(?:^|(?<=\s))--(?=\s|$)' if f in ANTT else r'^#')
+    out = []
+    for line in text.split('\n'):
+        at = mark.search(line)
+        cut = at.start() if at else len(line)
+        out.append(turn(line[:cut], f) + words(line[cut:], f))
+    return '\n'.join(out)
+
+
 def ghost(text, f):
-    """A source file: names in its clauses and its `ghost use` lines, and between back quotes in comments. Code has no name
-    in camel case but types', so such a name is a clause's wherever it stands outside strings."""
+    """A source file: names in its clauses and its `ghost use` lines, and between back quotes in comments. Code has no
+    name in camel case but types', so such a name is a clause's wherever it stands outside strings."""
     out = []
     for line in text.split('\n'):
         if line.lstrip().startswith('//'):
@@ -225,7 +245,7 @@ for f, text in TEXT.items():
     elif f in PAGES:
         made = ticks(text, f)
     else:
-        made = turn(text, f)
+        made = terms(text, f)
     if made != text:
         open(f, 'w').write(made)
 print(len(new), 'names respelled')

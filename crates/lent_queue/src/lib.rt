@@ -13,7 +13,8 @@ ghost use Rattle.queue_work.specs.Work.{work_of, Untouched};
 ghost use Rattle.queue.specs.Queue as calls;
 ghost use Rattle.queue.specs.Plan as plans;
 ghost use Rattle.queue.specs.Answers.{verdict_answer};
-ghost use Rattle.lent_queue.specs.LentQueue.{tree_count, marks_row, head_tag, head_word, tail_tag, tail_word, list_from};
+ghost use Rattle.lent_queue.specs.LentQueue.{tree_count, marks_row, head_tag, head_word, tail_tag, tail_word};
+ghost use Rattle.lent_queue.specs.LentQueue.{list_from};
 ghost use Rattle.lent_queue.specs.LentQueue.{queue_of, with_realtime, with_fair, with_root, with_counts, with_marks};
 ghost use Rattle.lent_queue.specs.Frame.{QueueFramed};
 

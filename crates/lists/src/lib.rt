@@ -176,7 +176,8 @@ fn with_next(w: Row, next: Link) -> Row
 }
 
 fn with_previous(w: Row, previous: Link) -> Row
-    ensures result_value { decoded result ≡ with_queue_links (with_previous (decoded w).queue_links previous) (decoded w) }
+    ensures result_value { decoded result
+        ≡ with_queue_links (with_previous (decoded w).queue_links previous) (decoded w) }
     ensures row_framed { RowFramed w result }
 {
     let words = words_of_link(previous);

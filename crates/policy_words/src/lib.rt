@@ -267,8 +267,10 @@ pub fn words_of_epoch(epoch: Epoch) -> [u64; 2]
 }
 
 pub fn words_of_runtime(runtime: PolicyRuntime) -> PolicyRuntimeWords
-    ensures result_value { runtime_from (word result 0) (word result 1) (word result 2) (word result 3) (word result 4) ≡ runtime }
-    ensures result_value_2 { runtime_encodes (word result 0) (word result 1) (word result 2) (word result 3) (word result 4) ≡ true }
+    ensures result_value { runtime_from (word result 0) (word result 1) (word result 2) (word result 3)
+        (word result 4) ≡ runtime }
+    ensures result_value_2 { runtime_encodes (word result 0) (word result 1) (word result 2) (word result 3)
+        (word result 4) ≡ true }
 {
     match runtime {
         PolicyRuntime::Fifo => [0, 0, 0, 0, 0],

@@ -3,7 +3,8 @@
 #![tactic(auto)]
 
 ghost use Rattle.std.specs.Prelude.{◌≡◌};
-ghost use Rattle.thread.specs.Membership.{empty_queue, is_none, points_to, is_unqueued, is_ready_real_time, is_ready_fair};
+ghost use Rattle.thread.specs.Membership.{empty_queue, is_none, points_to, is_unqueued, is_ready_real_time};
+ghost use Rattle.thread.specs.Membership.{is_ready_fair};
 ghost use Rattle.thread.specs.Membership.{is_waiting, is_terminated, same_membership, ready_cpu};
 ghost use Rattle.thread.specs.TreeKey.{compare_from_turn, compare_from_band, compare_from_low, compare_tree_keys};
 

@@ -14,7 +14,8 @@ pub returns-in_default-clause-t_after : goal.returns-in_default-clause-t_after
 returns-in_default-clause-t_after c = arrived _ (search (gatherings, beside) depth 8)
 
 pub loop-left-preserved-in_default-head : goal.loop-left-preserved-in_default-head
-loop-left-preserved-in_default-head c = (search rules, search rules, search rules, search gatherings depth 8, search framing depth 8)
+loop-left-preserved-in_default-head c =
+    (search rules, search rules, search rules, search gatherings depth 8, search framing depth 8)
 
 pub loop-left-preserved : goal.loop-left-preserved
 loop-left-preserved c = (search rules, search rules, search rules, search gatherings depth 8, search framing depth 8)
