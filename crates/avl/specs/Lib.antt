@@ -10,15 +10,5 @@ pub mod Operations
 pub mod Fibonacci
 -- Laws of the balance factor's test.
 pub mod RotationLaws
--- Rotations, balancing and rebuilding keep the in_order_lem list.
-pub mod InOrder
--- Balancing a node whose sides differ by at most two gives a balanced tree.
-pub mod Balance
--- Rebuilding along a path of a balanced tree gives a balanced tree.
-pub mod Rebuild
--- Insertion keeps balance and adds one thread in its place.
-pub mod Insertion
--- Removal keeps balance and takes out one thread.
-pub mod Removal
 -- A balanced tree of height h has at least F(h + 2) − 1 nodes, so its height is bounded by their number.
 pub mod Size

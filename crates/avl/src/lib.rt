@@ -1,5 +1,5 @@
-// Balanced search trees after Adelson-Velsky and Landis (1962; Knuth, volume 3, 6.2.3): their theory is in specs/, and
-// the one test on heights that code needs is here.
+// Balanced search trees after Adelson-Velsky and Landis (1962; Knuth, volume 3, 6.2.3): their theory is in specs/ and
+// proofs/, and the one test on heights that code needs is here.
 #![tactic(auto)]
 
 ghost use Rattle.std.specs.Prelude.{◌≡◌};

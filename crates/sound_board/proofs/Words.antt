@@ -23,7 +23,7 @@ use Rattle.board_words.specs.BoardWords.{selection_from, current_of}
 use Rattle.board.specs.Board.{Left, left, processor, queue_left, answered, beside, selection_left}
 use Rattle.board.specs.Board.{Selects}
 use Rattle.sound_queue.specs.SoundLaws.{queued_inside}
-use Rattle.sound_queue.specs.Calls.{rows_fit}
+use Rattle.sound_queue.proofs.Calls.{rows_fit}
 use Rattle.sound_selection.specs.Claim.{Call, enqueue_at, remove_at, select_at, change_to, State, left_by}
 use Rattle.sound_selection.specs.Claim.{left_by_selection}
 use Rattle.sound_selection.specs.Claim.{after, Allowed, after_all, fresh, Answered}

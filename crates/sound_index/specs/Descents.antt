@@ -43,7 +43,8 @@ use Rattle.sound_index.specs.Represents.{Frames, steps}
 -- The step from a node j, by the ordering of the sought key.
 way_by : (t : List ThreadRecord) (ranks : ℕ → ℕ) (i j : ℕ) (a : TreeKey) (l r : Tree) → Compares t ranks → Read t i a
     → links_at t j ≡ links.Got (links_over l r)
-    → way_at t a j ≡ on_ordering (compare_numbers (ranks i) (ranks j)) (way.Left (root l)) way.Equal (way.Right (root r))
+    → way_at t a j ≡ on_ordering (compare_numbers (ranks i) (ranks j)) (way.Left (root l)) way.Equal
+    (way.Right (root r))
 unfolding way_at on_key on_links
 way_by t ranks i j a l r c k e =
     let m = links_got_within t j e in

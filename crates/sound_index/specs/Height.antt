@@ -1,5 +1,5 @@
--- A table holds no balanced tree that is higher than 16, so no path in it has more than 16 entries and MAX_PATH never
--- binds.
+-- A table of up to 4,096 records holds no balanced tree that is higher than 16. That its paths are no longer leans on
+-- this: proofs/Height.antt.
 use Rattle.std.specs.Prelude.{◌≡◌, Bool, ◌≢◌, ℕ, zero, suc, ◌≤◌, ◌<◌, length, eqb}
 use Rattle.std.proofs.Math.Path.{refl, ap}
 use Rattle.std.proofs.Math.Bool.{true, false}
@@ -9,8 +9,7 @@ use Rattle.std.proofs.Common.{le_refl}
 use borrow.Author.Tests.{eqb-true, eqb-false, ne_eqb}
 use Rattle.refusal.specs.Cases.{choose}
 use Rattle.avl.specs.Tree.{Tree, in_order, size, height, Balanced}
-use Rattle.avl.specs.Path.{Frame, plug}
-use Rattle.avl.specs.Size.{in_order_length, height_of_table, path_length}
+use Rattle.avl.specs.Size.{in_order_length, height_of_table}
 use Rattle.thread.specs.declared.ThreadRecord.{ThreadRecord}
 use Rattle.sound_index.specs.Holds.{Holds}
 use Rattle.sound_index.specs.Rank.{rank}
@@ -102,10 +101,3 @@ held_size t x h =
 -- 4,096 records give height 16 at most.
 pub held_height : (t : List ThreadRecord) (x : Tree) → Holds t x → Balanced x → length t ≤ max_records → height x ≤ 16
 held_height t x h b n = height_of_table x b (omega (arith, held_size t x h))
-
--- No path in it has more than 16 entries, so MAX_PATH (40) never binds; the way to a removed thread and on to its
--- successor is one such path.
-pub held_path : (t : List ThreadRecord) (x : Tree) → Holds t x → Balanced x → length t ≤ max_records
-    → (z : List Frame) (y : Tree) → plug z y ≡ x → length z ≤ 16
-held_path t x h b n z y e =
-    let k : height (plug z y) ≡ height x = ap height e in omega (arith, path_length z y, held_height t x h b n)

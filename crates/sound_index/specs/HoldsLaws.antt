@@ -144,7 +144,8 @@ represents_rising t s lo hi x e p =
     up_rising t lo hi (in_order x) (rw e at (linked_below s x (represents_linked (rank t) (rank t) s lo hi x p)))
     (represents_up (rank t) (rank t) s lo hi x p)
 
-carry_precedes : (t s : List ThreadRecord) (i j : ℕ) → key_at s i ≡ key_at t i → key_at s j ≡ key_at t j → Precedes t i j
+carry_precedes : (t s : List ThreadRecord) (i j : ℕ) → key_at s i ≡ key_at t i → key_at s j ≡ key_at t j
+    → Precedes t i j
     → Precedes s i j
 carry_precedes t s i j e f p =
     record { key = p.key; other = p.other; has_key = e ∙ p.has_key; has_other = f ∙ p.has_other; less = p.less }
@@ -168,7 +169,8 @@ carry_rising t s (i ∷ l) h p =
       rest = carry_rising t s l f p.rest;
     }
 
-carry_linked : (t s : List ThreadRecord) (x : Tree) → ((j : ℕ) → has j (in_order x) ≡ true → links_at s j ≡ links_at t j)
+carry_linked : (t s : List ThreadRecord) (x : Tree)
+    → ((j : ℕ) → has j (in_order x) ≡ true → links_at s j ≡ links_at t j)
     → Linked t x → Linked s x
 unfolding in_order
 carry_linked t s leaf h p = tt

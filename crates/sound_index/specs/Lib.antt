@@ -30,11 +30,7 @@ pub mod HoldsLaws
 pub mod Height
 -- What an accepted insertion and an accepted removal are.
 pub mod Outcomes
--- Document 01's demand 2 on one tree.
-pub mod Demand2
 -- A sound tree by itself.
 pub mod Sound
--- A sound tree is balanced and in key order.
-pub mod Soundness
 -- The calls on a tree by itself, with what is refused before.
 pub mod Calls

@@ -7,7 +7,7 @@ use Rattle.avl.specs.Tree as tree
 use Rattle.avl.specs.Rotation as rotation
 use Rattle.avl.specs.Path.{Frame, left_of, right_of}
 use Rattle.avl.specs.Path as path
-use Rattle.avl.specs.Balance.{balance_height}
+use Rattle.avl.proofs.Balance.{balance_height}
 use Rattle.thread.specs.declared.Link.TheVariants as link
 use Rattle.thread.specs.declared.Links.{Links}
 use Rattle.thread.specs.declared.ThreadRecord.{ThreadRecord}

@@ -1,6 +1,6 @@
 -- On a table that represents a tree, `remove` of a thread of it does what the removal of trees does, and empties the
 -- thread's links.
-use Rattle.std.specs.Prelude.{◌≡◌, ℕ, suc, ◌+◌, ◌≤◌, ◌<◌, length}
+use Rattle.std.specs.Prelude.{◌≡◌, ℕ, suc, ◌≤◌, ◌<◌, length}
 use Rattle.std.proofs.Math.Path.{refl, ap}
 use Rattle.std.proofs.Common.{sym, ◌∙◌, subst}
 use mathlib.Core.List.{List, [], ◌++◌}
@@ -10,9 +10,9 @@ use Rattle.avl.specs.Tree.{Tree, leaf, node, height, in_order, Balanced}
 use Rattle.avl.specs.Rotation as rotation
 use Rattle.avl.specs.Path.{Frame, plug, before, after}
 use Rattle.avl.specs.Operations.{successor_from, join, remove_at}
-use Rattle.avl.specs.InOrder.{rebuild_in_order}
-use Rattle.avl.specs.Rebuild.{BalancedAt, balanced_at}
-use Rattle.avl.specs.Removal.{successor_in, right_side, Joined, join_joins}
+use Rattle.avl.proofs.InOrder.{rebuild_in_order}
+use Rattle.avl.proofs.Rebuild.{BalancedAt, balanced_at}
+use Rattle.avl.proofs.Removal.{successor_in, right_side, Joined, join_joins}
 use Rattle.thread.specs.declared.Link.{Link}
 use Rattle.thread.specs.declared.Link.TheVariants as link
 use Rattle.thread.specs.declared.Links.{Links}
@@ -46,7 +46,8 @@ module _ (ranks key : ℕ → ℕ) where
       → Represents ranks key t lo (key i) l → (f : Roots ranks key t (suc (key s)) hi o y) → key s < hi → height l < 200
       → height y < 200
       → Roots ranks key t lo hi
-      (on_rooted o (out rooted.Damaged) (λ sub t₁. on_made (set_links t₁ s (links_by (root l) sub 1)) (out rooted.Damaged)
+      (on_rooted o (out rooted.Damaged) (λ sub t₁. on_made (set_links t₁ s (links_by (root l) sub 1))
+      (out rooted.Damaged)
       (λ t₂. on_turned (balance t₂ s) (out rooted.Damaged) (λ top t₃. out (rooted.Root (link.Some top)) t₃))))
       (rotation.balance l s y)
   unfolding on_rooted on_made on_turned
@@ -139,7 +140,8 @@ module _ (ranks key : ℕ → ℕ) where
   rebuilt_above : (t : List ThreadRecord) (LO HI lo hi i : ℕ) (l r : Tree) (z : List Frame) (o : Out Rooted)
       → Frames ranks key t lo hi LO HI z → Roots ranks key t lo hi o (join l r)
       → Joined l i r (join l r) → height (node l i r) ≤ 40 → length z ≤ 40
-      → Roots ranks key t LO HI (on_rooted o (out rooted.Damaged) (λ sub t₁. rebuild (steps z) t₁ sub)) (remove_at z l r)
+      → Roots ranks key t LO HI (on_rooted o (out rooted.Damaged) (λ sub t₁. rebuild (steps z) t₁ sub))
+      (remove_at z l r)
   unfolding on_rooted
   rebuilt_above t LO HI lo hi i l r z o p B J h k =
       let m = frames_within ranks key t lo hi LO HI z p in

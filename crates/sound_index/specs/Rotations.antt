@@ -25,7 +25,8 @@ use Rattle.rotations.specs.declared.Turned.TheVariants as turned
 use Rattle.rows.specs.Table.{out, links_at, set_links}
 use Rattle.rows.specs.TableCases.{on_links, on_made}
 use Rattle.rotations.specs.Cases.{on_height, on_turned}
-use Rattle.rotations.specs.Balance.{height, larger, update, rotate_left, rotate_right, balance_left, balance_right, balance}
+use Rattle.rotations.specs.Balance.{height, larger, update, rotate_left, rotate_right, balance_left, balance_right}
+use Rattle.rotations.specs.Balance.{balance}
 use Rattle.sound_index.specs.Holds.{stored, root, links_over}
 use Rattle.sound_index.specs.TableLaws.{set_made, stored_other}
 use Rattle.sound_index.specs.Represents.{links_by, Represents, Opened, Turns}
@@ -129,7 +130,8 @@ module _ (ranks key : ℕ → ℕ) where
       }
 
   -- The second half of a double rotation to the right, after the left child's.
-  double_right_lem : (t : List ThreadRecord) (lo hi : ℕ) (l : Tree) (i : ℕ) (r : Tree) (j : ℕ) (a : Tree) (k : ℕ) (b : Tree)
+  double_right_lem : (t : List ThreadRecord) (lo hi : ℕ) (l : Tree) (i : ℕ) (r : Tree) (j : ℕ) (a : Tree) (k : ℕ)
+      (b : Tree)
       (o : Opened ranks key t lo hi l i r)
       → Turns ranks key t lo (key i) (rotate_left t j) (node a k b) → tree.height a < 250 → tree.height b < 250
       → tree.height r < 250
@@ -178,7 +180,8 @@ module _ (ranks key : ℕ → ℕ) where
       (omega arith) (omega arith) (omega arith)
 
   -- The second half of a double rotation to the left, after the right child's.
-  double_left_lem : (t : List ThreadRecord) (lo hi : ℕ) (l : Tree) (i : ℕ) (r : Tree) (j : ℕ) (a : Tree) (k : ℕ) (b : Tree)
+  double_left_lem : (t : List ThreadRecord) (lo hi : ℕ) (l : Tree) (i : ℕ) (r : Tree) (j : ℕ) (a : Tree) (k : ℕ)
+      (b : Tree)
       (o : Opened ranks key t lo hi l i r)
       → Turns ranks key t (suc (key i)) hi (rotate_right t j) (node a k b) → tree.height l < 250 → tree.height a < 250
       → tree.height b < 250

@@ -71,7 +71,8 @@ stored_besides t i l = set_besides t i l (decoded [])
 pub besides_length : (t s : List ThreadRecord) → besides_links s ≡ besides_links t → length s ≡ length t
 unfolding besides_links
 besides_length t s e =
-    sym (length-map s (with_links empty_links)) ∙ ap (length {A = ThreadRecord}) e ∙ length-map t (with_links empty_links)
+    sym (length-map s (with_links empty_links)) ∙ ap (length {A = ThreadRecord}) e
+    ∙ length-map t (with_links empty_links)
 
 -- at each number records alike but for them,
 besides_record : (t s : List ThreadRecord) (i : ℕ) → besides_links s ≡ besides_links t
@@ -131,7 +132,8 @@ record_links t s j l e =
     ∙ ap (λ (r : ThreadRecord). links.Got r.ready_tree) g.1 ∙ sym (links_within t j l)
 
 -- and its key.
-pub record_key : (t s : List ThreadRecord) (j : ℕ) → j < length t → record_at s j ≡ record_at t j → key_at s j ≡ key_at t j
+pub record_key : (t s : List ThreadRecord) (j : ℕ) → j < length t → record_at s j ≡ record_at t j
+    → key_at s j ≡ key_at t j
 record_key t s j l e =
     let g = got_record t s j l e in key_within s j g.0
     ∙ ap (λ (r : ThreadRecord). key.Got (ready_index_key r j)) g.1 ∙ sym (key_within t j l)

@@ -43,7 +43,8 @@ module _ {t : List ThreadRecord} {q : ThreadQueue} {members : List ℕ} {m : Que
   member_of j h = member_links (queue_links_at t) m link.None members link.None j L.linked h
 
   -- A table in which the members' links are as they were holds the same list.
-  pub holds_frame : (t' : List ThreadRecord) → ((j : ℕ) → has j members ≡ true → queue_links_at t' j ≡ queue_links_at t j)
+  pub holds_frame : (t' : List ThreadRecord)
+      → ((j : ℕ) → has j members ≡ true → queue_links_at t' j ≡ queue_links_at t j)
       → HoldsList t' q members m
   holds_frame t' h = record {
     head = L.head;

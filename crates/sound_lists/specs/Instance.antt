@@ -19,7 +19,8 @@ use Rattle.rows.specs.Table.{out, record_of, changed, reading, storing, queue_li
 use Rattle.rows.specs.TableCases.{on_queue_links, on_record}
 use Rattle.lists.specs.Checks.{assigned_to, head_agrees, tail_agrees, ends_agree, preflight_insert, previous_valid}
 use Rattle.lists.specs.Checks.{next_valid, validate_neighbors}
-use Rattle.lists.specs.Lists.{on_answer, on_out, set_next, set_previous, commit_insert, commit_remove, append, prepend, push}
+use Rattle.lists.specs.Lists.{on_answer, on_out, set_next, set_previous, commit_insert, commit_remove, append, prepend}
+use Rattle.lists.specs.Lists.{push}
 use Rattle.lists.specs.Lists.{push_front, update_previous_link, update_next_link, unlink, remove}
 use Rattle.sound_lists.specs.Sound.{HoldsList, MayJoin}
 
@@ -48,8 +49,10 @@ module _ (r : ThreadRecord) where
   pub first_pushed : push (in_none r ∷ in_none r ∷ in_none r ∷ []) empty_queue 0 fair_list
       ≡ out (value (record { head = link.Some 0; tail = link.Some 0; len = 1 }))
       (in_list r link.None link.None ∷ in_none r ∷ in_none r ∷ [])
-  unfolding push on_answer on_out append commit_insert set_next given preflight_insert assigned_to ends_agree head_agrees
-      tail_agrees on_record on_queue_links record_at queue_links_at set_queue_links reading storing changed record_of choose
+  unfolding push on_answer on_out append commit_insert set_next given preflight_insert assigned_to ends_agree
+      head_agrees
+      tail_agrees on_record on_queue_links record_at queue_links_at set_queue_links reading storing changed record_of
+      choose
       if_less if_equal on_link on_membership on_cpu is_none is_unqueued is_ready_fair same_membership ready_cpu
   first_pushed = refl
 
@@ -57,16 +60,20 @@ module _ (r : ThreadRecord) where
       (record { head = link.Some 0; tail = link.Some 0; len = 1 }) 1 fair_list
       ≡ out (value (record { head = link.Some 0; tail = link.Some 1; len = 2 }))
       (in_list r link.None (link.Some 1) ∷ in_list r (link.Some 0) link.None ∷ in_none r ∷ [])
-  unfolding push on_answer on_out append commit_insert set_next given preflight_insert assigned_to ends_agree head_agrees
-      tail_agrees on_record on_queue_links record_at queue_links_at set_queue_links reading storing changed record_of choose
+  unfolding push on_answer on_out append commit_insert set_next given preflight_insert assigned_to ends_agree
+      head_agrees
+      tail_agrees on_record on_queue_links record_at queue_links_at set_queue_links reading storing changed record_of
+      choose
       if_less if_equal on_link on_membership on_cpu is_none is_unqueued is_ready_fair same_membership ready_cpu
   second_pushed = refl
 
   pub third_pushed : push (in_list r link.None (link.Some 1) ∷ in_list r (link.Some 0) link.None ∷ in_none r ∷ [])
       (record { head = link.Some 0; tail = link.Some 1; len = 2 }) 2 fair_list
       ≡ out (value of_three) (table_of_three r)
-  unfolding push on_answer on_out append commit_insert set_next given preflight_insert assigned_to ends_agree head_agrees
-      tail_agrees on_record on_queue_links record_at queue_links_at set_queue_links reading storing changed record_of choose
+  unfolding push on_answer on_out append commit_insert set_next given preflight_insert assigned_to ends_agree
+      head_agrees
+      tail_agrees on_record on_queue_links record_at queue_links_at set_queue_links reading storing changed record_of
+      choose
       if_less if_equal on_link on_membership on_cpu is_none is_unqueued is_ready_fair same_membership ready_cpu
   third_pushed = refl
 
@@ -90,8 +97,10 @@ module _ (r : ThreadRecord) where
   pub second_removed : remove (table_of_three r) of_three 1 fair_list
       ≡ out (value (record { head = link.Some 0; tail = link.Some 2; len = 2 }))
       (in_list r link.None (link.Some 2) ∷ in_none r ∷ in_list r (link.Some 0) link.None ∷ [])
-  unfolding remove on_out unlink update_previous_link update_next_link set_next set_previous commit_remove validate_neighbors
-      previous_valid next_valid points_to on_queue_links queue_links_at set_queue_links reading storing changed record_of choose
+  unfolding remove on_out unlink update_previous_link update_next_link set_next set_previous commit_remove
+      validate_neighbors
+      previous_valid next_valid points_to on_queue_links queue_links_at set_queue_links reading storing changed
+      record_of choose
       if_less if_equal on_link on_membership is_ready_fair same_membership
   second_removed = refl
 
@@ -100,9 +109,11 @@ module _ (r : ThreadRecord) where
       (in_list r link.None (link.Some 2) ∷ in_none r ∷ in_list r (link.Some 0) link.None ∷ [])
       (record { head = link.Some 0; tail = link.Some 2; len = 2 }) 1 fair_list
       ≡ out (value (record { head = link.Some 1; tail = link.Some 2; len = 3 }))
-      (in_list r (link.Some 1) (link.Some 2) ∷ in_list r link.None (link.Some 0) ∷ in_list r (link.Some 0) link.None ∷ [])
+      (in_list r (link.Some 1) (link.Some 2) ∷ in_list r link.None (link.Some 0) ∷ in_list r
+      (link.Some 0) link.None ∷ [])
   unfolding push_front on_answer on_out prepend commit_insert set_previous given preflight_insert assigned_to ends_agree
-      head_agrees tail_agrees on_record on_queue_links record_at queue_links_at set_queue_links reading storing changed record_of
+      head_agrees tail_agrees on_record on_queue_links record_at queue_links_at set_queue_links reading storing changed
+      record_of
       choose if_less if_equal on_link on_membership on_cpu is_none is_unqueued is_ready_fair same_membership ready_cpu
   second_pushed_front = refl
 
@@ -110,7 +121,9 @@ module _ (r : ThreadRecord) where
   pub self_linked_removed : remove (in_list r (link.Some 0) (link.Some 0) ∷ [])
       (record { head = link.Some 0; tail = link.Some 0; len = 1 }) 0 fair_list
       ≡ out (value (record { head = link.Some 0; tail = link.Some 0; len = 0 })) (in_none r ∷ [])
-  unfolding remove on_out unlink update_previous_link update_next_link set_next set_previous commit_remove validate_neighbors
-      previous_valid next_valid points_to on_queue_links queue_links_at set_queue_links reading storing changed record_of choose
+  unfolding remove on_out unlink update_previous_link update_next_link set_next set_previous commit_remove
+      validate_neighbors
+      previous_valid next_valid points_to on_queue_links queue_links_at set_queue_links reading storing changed
+      record_of choose
       if_less if_equal on_link on_membership is_ready_fair same_membership
   self_linked_removed = refl

@@ -14,10 +14,6 @@ pub mod LinkedLaws
 pub mod Frame
 -- What the checks find on a sound list.
 pub mod AcceptedLaws
--- push and push_front on a sound list.
-pub mod Insertion
--- remove on a sound list.
-pub mod Removal
 -- A list of three, computed.
 pub mod Instance
 -- Where the checks pass, every store is inside the table; damaged tables too.

@@ -1,5 +1,5 @@
 -- On any table and any list: a call that is refused leaves the table as it was.
-use Rattle.std.specs.Prelude.{ℕ, ◌-◌, ◌≡◌, refl, Bool, List, eqb}
+use Rattle.std.specs.Prelude.{ℕ, ◌-◌, refl, Bool, List, eqb}
 use Rattle.std.proofs.Math.Bool.{true, false}
 use Rattle.refusal.specs.Answer.{Answer, value, refused, damaged}
 use Rattle.refusal.specs.Cases.{never, choose, if_equal}

@@ -41,7 +41,8 @@ module _ (t : List ThreadRecord) (i : ℕ) (g : QueueLinks → QueueLinks) where
   pub links_relinked_other : (j : ℕ) → j ≢ i → queue_links_at (changed t i (relinked g)) j ≡ queue_links_at t j
   unfolding queue_links_at
   links_relinked_other j h =
-      reading_other t i (relinked g) (λ (r : ThreadRecord). queue_links_read.Got r.queue_links) queue_links_read.Damaged j h
+      reading_other t i (relinked g) (λ (r : ThreadRecord). queue_links_read.Got r.queue_links) queue_links_read.Damaged
+      j h
 
   pub record_relinked_other : (j : ℕ) → j ≢ i → record_at (changed t i (relinked g)) j ≡ record_at t j
   unfolding record_at
@@ -53,7 +54,8 @@ rest_set : (t : List ThreadRecord) (i : ℕ) (l : QueueLinks) (d : ThreadRecord)
     ≡ map (with_queue_links empty_queue_links) t
 rest_set [] i l d = refl
 rest_set (r ∷ t) zero l d = refl
-rest_set (r ∷ t) (suc i) l d = ap (λ (s : List ThreadRecord). with_queue_links empty_queue_links r ∷ s) (rest_set t i l d)
+rest_set (r ∷ t) (suc i) l d = ap (λ (s : List ThreadRecord). with_queue_links empty_queue_links r ∷ s)
+    (rest_set t i l d)
 
 pub rest_relinked : (t : List ThreadRecord) (i : ℕ) (g : QueueLinks → QueueLinks)
     → without_lists (changed t i (relinked g)) ≡ without_lists t

@@ -1,6 +1,7 @@
 -- A thread put into one of the twelve trees and taken out of it, and what else may change.
 use Rattle.std.specs.Prelude.{◌≡◌, refl, Bool, true, false, ◌≢◌, List, ◌∷◌, ℕ, ◌≤◌, ◌<◌, length, get_or, set, eqb}
-use Rattle.std.proofs.Common.{sym, ap, ◌∙◌, arith, length-set, get_or-set_same, get_or-set_other, eqb-true, eq-eqb, ne_eqb}
+use Rattle.std.proofs.Common.{sym, ap, ◌∙◌, arith, length-set, get_or-set_same, get_or-set_other, eqb-true, eq-eqb}
+use Rattle.std.proofs.Common.{ne_eqb}
 use Rattle.std.proofs.lemmas.Bool.{eqb-false}
 use Rattle.refusal.specs.Cases.{choose}
 use Rattle.avl.specs.Tree.{Tree, in_order, Balanced}
@@ -13,7 +14,7 @@ use Rattle.sound_index.specs.TableLaws.{besides_length}
 use Rattle.sound_index.specs.HasLaws.{has_added}
 use Rattle.sound_index.specs.HoldsLaws.{holds_still}
 use Rattle.sound_index.specs.Outcomes.{OnlyLinks, Inserted, Removed}
-use Rattle.sound_index.specs.Demand2.{held_inside, contains_tells, insertion, removal, other_tree}
+use Rattle.sound_index.proofs.Demand2.{held_inside, contains_tells, insertion, removal, other_tree}
 use Rattle.queue.specs.declared.Root.{Root}
 use Rattle.queue.specs.Queue.{empty_root}
 use Rattle.sound_queue.specs.Forest.{Forest, placed, Replanted}
@@ -23,7 +24,8 @@ use Rattle.queue.specs.RunQueue.{tree_count}
 -- The trees stand in every table of up to 4,096 records in which their threads have the same tree links and keys.
 pub forest_still : {roots : List Root} {t : List ThreadRecord} {place : ℕ → ℕ} (s : List ThreadRecord)
     → length s ≤ max_records
-    → ((j : ℕ) → place j < tree_count → (links_at s j ≡ links_at t j) × (key_at s j ≡ key_at t j)) → Forest roots t place
+    → ((j : ℕ) → place j < tree_count → (links_at s j ≡ links_at t j) × (key_at s j ≡ key_at t j))
+    → Forest roots t place
     → Forest roots s place
 forest_still {roots} {t} {place} s n h F = record {
   trees = F.trees;
@@ -85,7 +87,8 @@ module _ {roots : List Root} {t : List ThreadRecord} {place : ℕ → ℕ} (F : 
             rw z (ap (λ (r : Root). r.root)
             (get_or-set_same roots k (record { root = root y }) empty_root (omega (arith, F.twelve))))
         rooted_by m c false e =
-            ap (λ (r : Root). r.root) (get_or-set_other roots k m (record { root = root y }) empty_root (eqb-false m k e))
+            ap (λ (r : Root). r.root) (get_or-set_other roots k m (record { root = root y }) empty_root
+            (eqb-false m k e))
             ∙ F.rooted m c
 
         holds_by : (m : ℕ) → m < tree_count → (x : Bool) → eqb m k ≡ x → Holds s (tree_if x m)
@@ -98,7 +101,8 @@ module _ {roots : List Root} {t : List ThreadRecord} {place : ℕ → ℕ} (F : 
         balanced_by m c true = v
         balanced_by m c false = F.balanced m c
 
-        exact_by : (j m : ℕ) → m < tree_count → (x : Bool) → eqb m k ≡ x → has j (in_order (tree_if x m)) ≡ eqb (after j) m
+        exact_by : (j m : ℕ) → m < tree_count → (x : Bool) → eqb m k ≡ x
+            → has j (in_order (tree_if x m)) ≡ eqb (after j) m
         exact_by j m c true e = here j ∙ ap (eqb (after j)) (sym (eqb-true m k e))
         exact_by j m c false e = F.exact j m c ∙ else j m c (eqb-false m k e)
 
@@ -157,7 +161,8 @@ module _ {roots : List Root} {t : List ThreadRecord} {place : ℕ → ℕ} (F : 
       }
 
       -- A thread that stands in tree k is taken out of it, and then stands in none.
-      pub uprooted : Replanted roots t k i place (placed i tree_count place) (remove t (get_or roots k empty_root).root i)
+      pub uprooted : Replanted roots t k i place (placed i tree_count place)
+          (remove t (get_or roots k empty_root).root i)
       uprooted =
           uprooted_by (removal t (F.trees k) i (F.holds k b) (F.balanced k b) F.small
           (F.exact i k b ∙ eq-eqb (place i) k n))

@@ -12,7 +12,8 @@ use Rattle.thread.specs.declared.CpuIndex.{CpuIndex}
 use Rattle.thread.specs.declared.QueueMembership.{QueueMembership}
 use Rattle.thread.specs.declared.ThreadQueue.{ThreadQueue}
 use Rattle.thread.specs.declared.ThreadRecord.{ThreadRecord}
-use Rattle.thread.specs.Membership.{on_link, on_membership, is_unqueued, is_ready_real_time, is_ready_fair, same_membership}
+use Rattle.thread.specs.Membership.{on_link, on_membership, is_unqueued, is_ready_real_time, is_ready_fair}
+use Rattle.thread.specs.Membership.{same_membership}
 use Rattle.rows.specs.Table.{out, record_of}
 use Rattle.rows.specs.TableCases.{on_queue_links, on_record}
 use Rattle.rows.specs.TableLaws.{record_within}
@@ -31,7 +32,8 @@ use Rattle.sound_queue.specs.ListsLaws.{list_counts}
 use Rattle.sound_queue.specs.SoundLaws.{row_queued, few}
 
 -- The memberships of one list on two processors are not the same.
-other_membership : (c d : CpuIndex) (n : ℕ) → c.0 ≢ d.0 → same_membership (membership_at c n) (membership_at d n) ≡ false
+other_membership : (c d : CpuIndex) (n : ℕ) → c.0 ≢ d.0
+    → same_membership (membership_at c n) (membership_at d n) ≡ false
 unfolding same_membership on_membership membership_at is_ready_fair is_ready_real_time if_equal choose
 other_membership c d zero h = rw (ne_eqb c.0 d.0 h)
 other_membership c d (suc p) h = rw (ne_eqb c.0 d.0 h)

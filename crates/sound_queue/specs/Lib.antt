@@ -24,17 +24,9 @@ pub mod SoundLaws
 pub mod Outside
 -- Whether a thread may join its list.
 pub mod Joining
--- An enqueue, at either end, on a sound queue.
-pub mod Enqueueing
--- A removal on a sound queue.
-pub mod Removing
 -- What the checks before a call's work come to.
 pub mod Verdict
--- The theorems about sound queues.
-pub mod Calls
 -- Changes of trees and runtimes: what a selection does to a sound queue.
 pub mod Runtimes
 -- A budget thread moved to the other tree of its role.
 pub mod Moving
--- A small sound queue, by computation.
-pub mod Instance

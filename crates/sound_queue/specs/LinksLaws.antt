@@ -45,11 +45,13 @@ pub besides_queue_links : (t s : List ThreadRecord) (j : ℕ) → besides_links 
     → queue_links_at s j ≡ queue_links_at t j
 unfolding besides_links queue_links_at
 besides_queue_links t s j e =
-    alike_reading (with_links empty_links) (λ (r : ThreadRecord). queue_links_read.Got r.queue_links) queue_links_read.Damaged t
+    alike_reading (with_links empty_links)
+    (λ (r : ThreadRecord). queue_links_read.Got r.queue_links) queue_links_read.Damaged t
     s j (λ r. refl) e
 
 -- List stores leave tree links and keys.
-pub list_stores_links : (t s : List ThreadRecord) (j : ℕ) → without_lists s ≡ without_lists t → links_at s j ≡ links_at t j
+pub list_stores_links : (t s : List ThreadRecord) (j : ℕ) → without_lists s ≡ without_lists t
+    → links_at s j ≡ links_at t j
 unfolding without_lists links_at
 list_stores_links t s j e =
     alike_reading (with_queue_links empty_queue_links) (λ (r : ThreadRecord). links.Got r.ready_tree) links.Damaged t s
@@ -58,7 +60,8 @@ list_stores_links t s j e =
 pub list_stores_key : (t s : List ThreadRecord) (j : ℕ) → without_lists s ≡ without_lists t → key_at s j ≡ key_at t j
 unfolding without_lists key_at ready_index_key
 list_stores_key t s j e =
-    alike_reading (with_queue_links empty_queue_links) (λ (r : ThreadRecord). key.Got (ready_index_key r j)) key.Damaged t s j
+    alike_reading (with_queue_links empty_queue_links)
+    (λ (r : ThreadRecord). key.Got (ready_index_key r j)) key.Damaged t s j
     (λ r. refl) e
 
 pub list_stores_length : (t s : List ThreadRecord) → without_lists s ≡ without_lists t → length s ≡ length t

@@ -14,7 +14,7 @@ use Rattle.rows.specs.Table.{record_of, record_at, queue_links_at, max_records}
 use Rattle.rows.specs.TableLaws.{record_within, record_got_within, queue_links_within}
 use Rattle.avl.specs.Tree.{leaf, in_order}
 use Rattle.sound_index.specs.TableLaws.{record_links, record_key}
-use Rattle.sound_index.specs.Soundness.{holds_empty}
+use Rattle.sound_index.proofs.Soundness.{holds_empty}
 use Rattle.sound_lists.specs.Frame.{empty_holds}
 use Rattle.queue.specs.declared.Root.{Root}
 use Rattle.queue.specs.RunQueue.{CpuRunQueue, tree_count}

@@ -100,8 +100,8 @@ removing i = record { thread = i; after = excluding i; tree = tree_count; list =
 
 -- From a sound queue a call left queue r and table s: the queue is sound, and has that effect on it and no other. Each
 -- of the twelve trees and each of the 257 lists holds what it held, but for the one thread (`kept_trees` and
--- `kept_lists` in Calls.antt say so of `contains` and of reading the list). Of every record only links changed, and a
--- record that is neither queued nor the thread's did not change at all.
+-- `kept_lists` in proofs/Calls.antt say so of `contains` and of reading the list). Of every record only links changed,
+-- and a record that is neither queued nor the thread's did not change at all.
 pub record Kept {queued : ℕ → Bool} {q : CpuRunQueue} {t : List ThreadRecord}
     (S : Sound queued q t) (e : Effect) (r : CpuRunQueue) (s : List ThreadRecord) : Type 0 where
   pub sound : Sound (e.after queued) r s

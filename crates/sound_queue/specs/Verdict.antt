@@ -30,7 +30,8 @@ module _ (t : List ThreadRecord) (q : CpuRunQueue) (i : ℕ) (n : length t ≤ m
   unfolding judged if_less choose on_record
   no_thread_lem l = rw (le-ltb max_records (length t) n, h, record_beyond t i l)
 
-  bad_record_lem : i < length t → is_bad_record (record_of t i) ≡ true → judged t q i f ≡ out (step (refused bad_record) q) t
+  bad_record_lem : i < length t → is_bad_record (record_of t i) ≡ true
+      → judged t q i f ≡ out (step (refused bad_record) q) t
   unfolding judged if_less choose on_record
   bad_record_lem l b = rw (le-ltb max_records (length t) n, h, record_within t i l, b)
 

@@ -1,4 +1,4 @@
-// Sound queues: the theory of enqueue and remove is in specs/ (specs/Calls.antt has the theorems); there is no code
-// here.
+// Sound queues: the theory of enqueue and remove is in specs/ and proofs/ (proofs/Calls.antt has the theorems); there
+// is no code here.
 
 #![tactic(auto)]

@@ -22,7 +22,7 @@ use Rattle.sound_queue.specs.SoundLaws.{included_other, excluded, excluded_other
 use Rattle.sound_queue.specs.Outside.{same_record}
 use Rattle.sound_queue.specs.LinksLaws.{same_length, same_parameters, same_cpu}
 use Rattle.sound_queue.specs.Sound as sound
-use Rattle.sound_queue.specs.Calls.{new_sound, changes_sound, enqueue_fine, enqueue_own, remove_fine, rows_fit}
+use Rattle.sound_queue.proofs.Calls.{new_sound, changes_sound, enqueue_fine, enqueue_own, remove_fine, rows_fit}
 use Rattle.sound_selection.specs.Claim.{Call, enqueue_at, remove_at, select_at, change_to, State, Bytes, left_by}
 use Rattle.sound_selection.specs.Claim.{left_by_selection, after, Allowed, after_all, AllAllowed, Stands, accepted}
 use Rattle.sound_selection.specs.Claim.{unchanged, AllStand, fresh, PremisesIn, AnsweredIn}

@@ -21,7 +21,7 @@ use Rattle.rows.specs.Table.{record_of}
 use Rattle.sound_index.specs.Holds.{Precedes, PrecedesAll, Rising, has, besides_links}
 use Rattle.sound_index.specs.HasLaws.{or_cases}
 use Rattle.sound_index.specs.Outcomes.{least_of}
-use Rattle.sound_index.specs.Demand2.{first_names_least}
+use Rattle.sound_index.proofs.Demand2.{first_names_least}
 use Rattle.queue.specs.declared.Root.{Root}
 use Rattle.queue.specs.Queue.{is_budget}
 use Rattle.ready_index.specs.Answers.{least_answer}

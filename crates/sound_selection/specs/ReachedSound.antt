@@ -3,7 +3,7 @@ use Rattle.std.specs.Prelude.{Bool, List, ℕ}
 use Rattle.thread.specs.declared.ThreadRecord.{ThreadRecord}
 use Rattle.queue.specs.RunQueue.{CpuRunQueue}
 use Rattle.sound_queue.specs.Sound.{Sound}
-use Rattle.sound_queue.specs.Calls.{new_sound, changes_sound, enqueue_sound, remove_sound}
+use Rattle.sound_queue.proofs.Calls.{new_sound, changes_sound, enqueue_sound, remove_sound}
 use Rattle.sound_selection.specs.Reached.{Reached}
 use Rattle.sound_selection.specs.Reached as reached
 use Rattle.sound_selection.specs.Selecting.{select_sound}

@@ -96,7 +96,8 @@ module _ {t : List ThreadRecord} {q : ThreadQueue} {members : List ℕ} {m : Que
       let u = relinked_at t q.tail (next_is (link.Some id)) in
       let g : QueueLinks → QueueLinks = λ k. record { previous = q.tail; next = link.None; membership = m } in
       linked_join (queue_links_at (appended_table t q id m)) m link.None members (id ∷ []) link.None
-      (linked_end (queue_links_at t) (queue_links_at (appended_table t q id m)) m link.None members link.None (link.Some id)
+      (linked_end (queue_links_at t) (queue_links_at (appended_table t q id m)) m link.None members link.None
+      (link.Some id)
       L.distinct
       (λ j z n. links_relinked_other u id g j (apart j id members z J.outside)
       ∙ links_at_other t q.tail (next_is (link.Some id)) j (λ y. n (sym L.tail ∙ y)))
@@ -107,7 +108,8 @@ module _ {t : List ThreadRecord} {q : ThreadQueue} {members : List ℕ} {m : Que
         here =
             links_relinked_same u id g (links_at_other t q.tail (next_is (link.Some id)) id (not_tail id J.outside)
             ∙ queue_links_within t id J.below)
-            ∙ ap (λ (p : Link). queue_links_read.Got (record { previous = p; next = link.None; membership = m })) L.tail;
+            ∙ ap (λ (p : Link). queue_links_read.Got
+            (record { previous = p; next = link.None; membership = m })) L.tail;
         rest = tt;
       })
 
@@ -119,7 +121,8 @@ module _ {t : List ThreadRecord} {q : ThreadQueue} {members : List ℕ} {m : Que
         here = links_relinked_same u id g
             (links_at_other t q.head (previous_is (link.Some id)) id (not_head id J.outside)
             ∙ queue_links_within t id J.below)
-            ∙ ap (λ (p : Link). queue_links_read.Got (record { previous = link.None; next = p; membership = m })) L.head;
+            ∙ ap (λ (p : Link). queue_links_read.Got
+            (record { previous = link.None; next = p; membership = m })) L.head;
         rest =
             linked_start (queue_links_at t) (queue_links_at (prepended_table t q id m)) m link.None
             (link.Some id) members link.None L.distinct

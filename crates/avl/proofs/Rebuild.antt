@@ -4,7 +4,7 @@ use Rattle.std.specs.Prelude.{List, [], ◌∷◌}
 use Rattle.avl.specs.Tree.{Tree, node, height, Near, Balanced}
 use Rattle.avl.specs.Rotation.{balance}
 use Rattle.avl.specs.Path.{Frame, left_of, right_of, plug, rebuild, BalancedAround}
-use Rattle.avl.specs.Balance.{balance_balanced}
+use Rattle.avl.proofs.Balance.{balance_balanced}
 
 -- The tree with t in the place of x is balanced, and its height differs by at most one from what it was.
 pub record Replaced (z : List Frame) (x t : Tree) : Type 0 where

@@ -24,11 +24,12 @@ use Rattle.sound_lists.specs.Members.{has}
 use Rattle.sound_lists.specs.MembersLaws.{has_first}
 use Rattle.sound_lists.specs.Sound.{HoldsList, MayJoin}
 use Rattle.sound_lists.specs.Sound as list
-use Rattle.sound_lists.specs.Insertion.{push_holds, push_front_holds}
+use Rattle.sound_lists.proofs.Insertion.{push_holds, push_front_holds}
 use Rattle.queue.specs.RunQueue.{CpuRunQueue, tree_count}
 use Rattle.queue_work.specs.declared.Parts.{Parts}
 use Rattle.queue_work.specs.Work.{push_at, insert_work}
-use Rattle.queue.specs.Queue.{Step, step, empty_root, parts_of, with_parts, worked, is_fifo, is_budget, judged, enqueue_call}
+use Rattle.queue.specs.Queue.{Step, step, empty_root, parts_of, with_parts, worked, is_fifo, is_budget, judged}
+use Rattle.queue.specs.Queue.{enqueue_call}
 use Rattle.sound_queue.specs.Forest.{Forest, placed, Replanted}
 use Rattle.sound_queue.specs.PlaceLaws.{placed_same, placed_other, same_or_not}
 use Rattle.sound_queue.specs.ForestLaws.{forest_still, planted}
@@ -40,7 +41,8 @@ use Rattle.sound_queue.specs.Sound.{by_filing, Queued, queued_of, Sound, includi
 use Rattle.sound_queue.specs.Sound.{MayEnqueue}
 use Rattle.sound_queue.specs.LinksLaws.{besides_queue_links, list_stores_links, list_stores_key}
 use Rattle.sound_queue.specs.LinksLaws.{list_stores_length, both_stores}
-use Rattle.sound_queue.specs.PartsLaws.{list_of_lem, membership_for_lem, list_for_lem, assigned_to_lem, in_a_list, list_stored_lem}
+use Rattle.sound_queue.specs.PartsLaws.{list_of_lem, membership_for_lem, list_for_lem, assigned_to_lem, in_a_list}
+use Rattle.sound_queue.specs.PartsLaws.{list_stored_lem}
 use Rattle.sound_queue.specs.PartsLaws.{list_stored_other, priorities_stored, rest_stored, filing, total_in_lem}
 use Rattle.sound_queue.specs.PartsLaws.{counted_in_lem, insert_work_lem, cpu_by}
 use Rattle.sound_queue.specs.SoundLaws.{included, included_other, row_queued, row_not_queued, row_included}
@@ -50,7 +52,8 @@ use Rattle.sound_queue.specs.SoundLaws.{queued_if_listed, few}
 -- The checks before a call's work, where none of them refuses.
 pub judged_passes : {A : Type 0} (t : List ThreadRecord) (q : CpuRunQueue) (i k : ℕ)
     (f : ThreadRecord → ℕ → Out (Step A)) → length t ≤ max_records → q.halted ≡ false → i < length t
-    → is_bad_record (record_of t i) ≡ false → index_for (record_of t i).parameters (record_of t i).runtime ≡ index.Index k
+    → is_bad_record (record_of t i) ≡ false
+    → index_for (record_of t i).parameters (record_of t i).runtime ≡ index.Index k
     → judged t q i f ≡ f (record_of t i) k
 unfolding judged if_less choose on_record on_index
 judged_passes t q i k f n h l b e = rw (le-ltb max_records (length t) n, h, record_within t i l, b, e)

@@ -23,7 +23,7 @@ use Rattle.lists.specs.Lists.{on_answer}
 use Rattle.ready_index.specs.declared.Contained.TheVariants as contained
 use Rattle.ready_index.specs.Index.{contains}
 use Rattle.queue.specs.RunQueue.{CpuRunQueue, tree_count}
-use Rattle.queue.specs.Queue.{Step, step, new_queue, root_of, judged, enqueue_call, remove_call}
+use Rattle.queue.specs.Queue.{Step, step, new_queue, root_of, enqueue_call, remove_call}
 use Rattle.sound_queue.specs.Count.{count}
 use Rattle.sound_queue.specs.CountLaws.{count_same}
 use Rattle.sound_queue.specs.Lists.{list_at, list_for, row_of, list_count, threads_of, relisted}
@@ -36,8 +36,8 @@ use Rattle.sound_queue.specs.Sound.{unchanged, made, PriorityFits, MayEnqueue}
 use Rattle.sound_queue.specs.PartsLaws.{in_a_list, list_for_lem, listed_not_idle, membership_for_lem, filing}
 use Rattle.sound_queue.specs.Joining.{Joining, ours, theirs, joining, work_refused}
 use Rattle.sound_queue.specs.SoundLaws.{queued_inside, queued_membership}
-use Rattle.sound_queue.specs.Enqueueing.{judged_passes, enqueued}
-use Rattle.sound_queue.specs.Removing.{removed, removed_elsewhere, in_no_tree}
+use Rattle.sound_queue.proofs.Enqueueing.{judged_passes, enqueued}
+use Rattle.sound_queue.proofs.Removing.{removed, removed_elsewhere, in_no_tree}
 use Rattle.sound_queue.specs.Verdict.{Verdict, refuses, passes, verdict}
 use Rattle.sound_queue.specs.Outside as outside
 

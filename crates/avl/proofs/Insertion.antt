@@ -4,8 +4,8 @@ use Rattle.std.specs.Prelude.{ℕ, List}
 use Rattle.avl.specs.Tree.{leaf, node, in_order, Balanced}
 use Rattle.avl.specs.Path.{Frame, plug, before, after}
 use Rattle.avl.specs.Operations.{insert_at, Added}
-use Rattle.avl.specs.InOrder.{plug_in_order, rebuild_in_order}
-use Rattle.avl.specs.Rebuild.{rebuild_balanced, balanced_at}
+use Rattle.avl.proofs.InOrder.{plug_in_order, rebuild_in_order}
+use Rattle.avl.proofs.Rebuild.{rebuild_balanced, balanced_at}
 
 -- The tree's threads in order are the earlier ones with i added between what lies left and right of the path.
 pub insertion_in_order : (z : List Frame) (i : ℕ) → Added (in_order (plug z leaf)) i (in_order (insert_at z i))

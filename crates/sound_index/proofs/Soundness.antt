@@ -14,8 +14,8 @@ use Rattle.ready_index.specs.Index.{contains, insert, remove}
 use Rattle.sound_index.specs.Holds.{root, Holds, has}
 use Rattle.sound_index.specs.TableLaws.{besides_length}
 use Rattle.sound_index.specs.Outcomes.{OnlyLinks}
-use Rattle.sound_index.specs.Demand2.{held_inside, contains_tells, insertion, removal, equal_key_refused}
-use Rattle.sound_index.specs.Demand2.{absent_refused, outside_refused, other_records}
+use Rattle.sound_index.proofs.Demand2.{held_inside, contains_tells, insertion, removal, equal_key_refused}
+use Rattle.sound_index.proofs.Demand2.{absent_refused, outside_refused, other_records}
 use Rattle.sound_index.specs.Sound.{Sound, empty, inserted, removed, changed, Held}
 
 -- An empty tree is held by every table.

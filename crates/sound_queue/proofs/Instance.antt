@@ -17,17 +17,20 @@ use Rattle.thread.specs.Judgement.{has_budget, is_bad_budget, is_bad_record}
 use Rattle.thread.specs.Filing.{budget_available_of, role_index, index_for, on_index}
 use Rattle.thread.specs.Records.{with_runtime}
 use Rattle.thread.specs.TreeKey.{algorithm_key, tree_key, ready_index_key, parts, compare_tree_keys}
-use Rattle.rows.specs.Table.{record_of, changed, reading, storing, links_at, key_at, queue_links_at, record_at, set_links}
+use Rattle.rows.specs.Table.{record_of, changed, reading, storing, links_at, key_at, queue_links_at, record_at}
+use Rattle.rows.specs.Table.{set_links}
 use Rattle.rows.specs.Table.{set_queue_links, out}
 use Rattle.rows.specs.TableCases.{on_links, on_key, on_queue_links, on_record, on_made}
 use Rattle.lists.specs.Checks.{assigned_to, head_agrees, tail_agrees, ends_agree, preflight_insert, previous_valid}
 use Rattle.lists.specs.Checks.{next_valid, validate_neighbors}
-use Rattle.lists.specs.Lists.{on_answer, on_out, set_next, set_previous, commit_insert, commit_remove, append, prepend, push}
+use Rattle.lists.specs.Lists.{on_answer, on_out, set_next, set_previous, commit_insert, commit_remove, append, prepend}
+use Rattle.lists.specs.Lists.{push}
 use Rattle.lists.specs.Lists.{push_front, update_previous_link, update_next_link, unlink}
 use Rattle.lists.specs.Lists as list
 use Rattle.rotations.specs.Cases.{on_height, on_turned}
 use Rattle.ready_index.specs.Cases.{on_rooted, on_way, on_sought}
-use Rattle.rotations.specs.Balance.{height, larger, update, rotate_left, rotate_right, balance_left, balance_right, balance}
+use Rattle.rotations.specs.Balance.{height, larger, update, rotate_left, rotate_right, balance_left, balance_right}
+use Rattle.rotations.specs.Balance.{balance}
 use Rattle.ready_index.specs.Index.{way_at, look_for, contains, on_walk, walk, hung, rebuild_step, rebuild, insert}
 use Rattle.ready_index.specs.Index.{sought_at, on_search, search, on_successor, successor, replace}
 use Rattle.ready_index.specs.Index as index
@@ -42,7 +45,7 @@ use Rattle.sound_queue.specs.Sound.{Sound, nobody, including, excluding, tree_fo
 use Rattle.sound_queue.specs.Sound.{PriorityFits, MayEnqueue}
 use Rattle.sound_queue.specs.PlaceLaws.{same_or_not}
 use Rattle.sound_queue.specs.SoundLaws.{included_other}
-use Rattle.sound_queue.specs.Calls.{new_sound, changes_sound, enqueue_sound, remove_sound, remove_accepted}
+use Rattle.sound_queue.proofs.Calls.{new_sound, changes_sound, enqueue_sound, remove_sound, remove_accepted}
 use Rattle.sound_queue.specs.Runtimes.{refresh_sound}
 
 -- One FIFO thread, then a budget thread with time left at the front.
@@ -133,18 +136,20 @@ pub record Computed : Type 0 where
   pub left : threads_of gone.table (list_at gone.queue 7) ≡ []
 
 pub computed : Computed
-unfolding choose if_less if_equal given compare_numbers then_by compare_parts on_ordering on_policy on_role on_backend on_budget
-    sound_budget on_runtime same_kind candidate_key lean_of on_lean on_link on_membership on_cpu is_none points_to is_unqueued
-    is_ready_real_time is_ready_fair is_waiting is_terminated same_membership ready_cpu has_budget is_bad_budget is_bad_record
-    budget_available_of role_index index_for on_index algorithm_key tree_key ready_index_key parts compare_tree_keys record_of changed
-    reading storing links_at key_at queue_links_at record_at set_links set_queue_links on_links on_key on_queue_links on_record
-    on_made assigned_to head_agrees tail_agrees ends_agree preflight_insert previous_valid next_valid validate_neighbors on_answer
-    on_out set_next set_previous commit_insert commit_remove append prepend push push_front update_previous_link update_next_link
-    unlink list.remove on_height on_turned on_rooted on_way on_sought height larger update rotate_left rotate_right balance_left
-    balance_right balance way_at look_for contains on_walk walk hung rebuild_step rebuild insert sought_at on_search
-    search on_successor successor replace index.remove counted_in counted_out total_in total_out push_at insert_work remove_work
-    list_of parts_of with_parts worked is_fifo is_budget membership_for judged enqueue_call partner on_contained tree_with
-    remove_ready remove_from remove_call made and_after then left_by including tree_for list_at threads_from
+unfolding choose if_less if_equal given compare_numbers then_by compare_parts on_ordering on_policy on_role on_backend
+    on_budget sound_budget on_runtime same_kind candidate_key lean_of on_lean on_link on_membership on_cpu is_none
+    points_to is_unqueued is_ready_real_time is_ready_fair is_waiting is_terminated same_membership ready_cpu has_budget
+    is_bad_budget is_bad_record budget_available_of role_index index_for on_index algorithm_key tree_key ready_index_key
+    parts compare_tree_keys record_of changed reading storing links_at key_at queue_links_at record_at set_links
+    set_queue_links on_links on_key on_queue_links on_record on_made assigned_to head_agrees tail_agrees ends_agree
+    preflight_insert previous_valid next_valid validate_neighbors on_answer on_out set_next set_previous commit_insert
+    commit_remove append prepend push push_front update_previous_link update_next_link unlink list.remove on_height
+    on_turned on_rooted on_way on_sought height larger update rotate_left rotate_right balance_left balance_right
+    balance way_at look_for contains on_walk walk hung rebuild_step rebuild insert sought_at on_search search
+    on_successor successor replace index.remove counted_in counted_out total_in total_out push_at insert_work
+    remove_work list_of parts_of with_parts worked is_fifo is_budget membership_for judged enqueue_call partner
+    on_contained tree_with remove_ready remove_from remove_call made and_after then left_by including tree_for list_at
+    threads_from
 computed = record {
   may_enqueue = (
     record {

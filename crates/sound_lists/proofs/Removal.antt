@@ -97,7 +97,11 @@ module _ {t : List ThreadRecord} {q : ThreadQueue} {m : QueueMembership} (a : Li
       × Linked (queue_links_at t) m (last_or link.None a) (id ∷ b) link.None
   sides = linked_split (queue_links_at t) m link.None a (id ∷ b) link.None L.linked
 
-  valid : validate_neighbors t q (record { previous = last_or link.None a; next = first_or b link.None; membership = m })
+  valid : validate_neighbors t q (record {
+    previous = last_or link.None a;
+    next = first_or b link.None;
+    membership = m;
+  })
       id ≡ true
   unfolding validate_neighbors choose
   valid =

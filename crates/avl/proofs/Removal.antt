@@ -1,12 +1,12 @@
 -- Removal keeps balance and takes out one thread.
-use Rattle.std.specs.Prelude.{◌≡◌, refl, ℕ, ◌+◌, List, [], ◌∷◌, ◌++◌}
+use Rattle.std.specs.Prelude.{◌≡◌, refl, ℕ, List, [], ◌∷◌, ◌++◌}
 use Rattle.std.proofs.Common.{sym, ap, ◌∙◌, subst, arith, append_assoc, append-nil}
 use Rattle.avl.specs.Tree.{Tree, leaf, node, height, in_order, Near, Balanced, leftmost}
 use Rattle.avl.specs.Path.{Frame, left_of, plug, rebuild, before, after}
 use Rattle.avl.specs.Operations.{Successor, successor_from, join_by, join, remove_at, Added}
-use Rattle.avl.specs.InOrder.{balance_in_order, plug_in_order, rebuild_in_order}
-use Rattle.avl.specs.Balance.{balance_balanced}
-use Rattle.avl.specs.Rebuild.{Replaced, rebuild_balanced, balanced_at}
+use Rattle.avl.proofs.InOrder.{balance_in_order, plug_in_order, rebuild_in_order}
+use Rattle.avl.proofs.Balance.{balance_balanced}
+use Rattle.avl.proofs.Rebuild.{Replaced, rebuild_balanced, balanced_at}
 
 -- The successor's path leads to it and goes to the left only.
 pub record SuccessorIn (z : List Frame) (x : Tree) (s : Successor) : Type 0 where
@@ -21,7 +21,8 @@ successor_in z (node a j b) i r =
     let s = successor_in (left_of i r ∷ z) a j b in record { whole = s.whole; first = s.first }
 
 -- The successor is the leftmost thread.
-pub successor_leftmost : (z : List Frame) (l : Tree) (i : ℕ) (r : Tree) → (successor_from z l i r).thread ≡ leftmost l i r
+pub successor_leftmost : (z : List Frame) (l : Tree) (i : ℕ) (r : Tree)
+    → (successor_from z l i r).thread ≡ leftmost l i r
 successor_leftmost z leaf i r = refl
 successor_leftmost z (node a j b) i r = successor_leftmost (left_of i r ∷ z) a j b
 

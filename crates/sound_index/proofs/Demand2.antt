@@ -5,9 +5,9 @@ use Rattle.std.proofs.Common.{sym, ap, ◌∙◌, subst, arith, eq-eqb, ne_eqb}
 use Rattle.refusal.specs.Cases.{never, choose}
 use Rattle.avl.specs.Tree.{Tree, leaf, node, in_order, Balanced}
 use Rattle.avl.specs.Operations.{insert_at, remove_at, Added}
-use Rattle.avl.specs.InOrder.{leftmost_first}
-use Rattle.avl.specs.Insertion.{insertion_in_order, insertion_balanced}
-use Rattle.avl.specs.Removal.{removal_in_order, removal_balanced}
+use Rattle.avl.proofs.InOrder.{leftmost_first}
+use Rattle.avl.proofs.Insertion.{insertion_in_order, insertion_balanced}
+use Rattle.avl.proofs.Removal.{removal_in_order, removal_balanced}
 use Rattle.thread.specs.declared.Link.{Link}
 use Rattle.thread.specs.declared.TreeKey.{TreeKey}
 use Rattle.thread.specs.declared.ThreadRecord.{ThreadRecord}
@@ -50,7 +50,8 @@ not_both true e f = never cc
 not_both false e f = never cc
 
 -- A thread that is not of the tree has another rank than each of the tree's.
-other_rank : (t : List ThreadRecord) (x : Tree) (i : ℕ) → Holds t x → i < length t → has i (in_order x) ≡ false → (j : ℕ)
+other_rank : (t : List ThreadRecord) (x : Tree) (i : ℕ) → Holds t x → i < length t → has i (in_order x) ≡ false
+    → (j : ℕ)
     → has j (in_order x) ≡ true → rank t i ≢ rank t j
 other_rank t x i h l e j f q =
     let same : i ≡ j = rank_injective t i j l (held_inside t x j h f) q in
@@ -69,7 +70,8 @@ first_names_least t (node l i r) h b n =
     descend_is (rank t) (rank t) l 40 t 0 (suc (length t)) i r (holds_represents t (node l i r) h)
     (omega (arith, held_height t (node l i r) h b n)) ∙ ap least_of (sym f.1)
 
-contains_yes : (t : List ThreadRecord) (x : Tree) (i : ℕ) (a : TreeKey) → Holds t x → Balanced x → length t ≤ max_records
+contains_yes : (t : List ThreadRecord) (x : Tree) (i : ℕ) (a : TreeKey) → Holds t x → Balanced x
+    → length t ≤ max_records
     → Read t i a → has i (in_order x) ≡ true → contains t (root x) i ≡ contained.Yes
 unfolding contains on_key
 contains_yes t x i a h b n k e =
@@ -206,7 +208,8 @@ removal t x i h b n e =
     (rekey (rank t) (rank t) g t 0 (suc (length t)) x (in_list_lem t (in_order x)) (holds_represents t x h)) b
     (omega (arith, held_height t x h b n)))
 
-insert_again : (t : List ThreadRecord) (x : Tree) (i : ℕ) (a : TreeKey) → Holds t x → Balanced x → length t ≤ max_records
+insert_again : (t : List ThreadRecord) (x : Tree) (i : ℕ) (a : TreeKey) → Holds t x → Balanced x
+    → length t ≤ max_records
     → Read t i a → has i (in_order x) ≡ true
     → insert t (root x) i ≡ out rooted.Damaged t
 unfolding insert on_key on_walk

@@ -19,7 +19,7 @@ use Rattle.ready_index.specs.declared.Contained.TheVariants as contained
 use Rattle.ready_index.specs.Index.{contains, remove}
 use Rattle.sound_lists.specs.Members.{without}
 use Rattle.sound_lists.specs.Sound as list
-use Rattle.sound_lists.specs.Removal.{remove_holds}
+use Rattle.sound_lists.proofs.Removal.{remove_holds}
 use Rattle.queue.specs.RunQueue.{CpuRunQueue, tree_count}
 use Rattle.queue_work.specs.declared.Parts.{Parts}
 use Rattle.queue_work.specs.Work.{remove_work}
@@ -42,7 +42,7 @@ use Rattle.sound_queue.specs.PartsLaws.{remove_work_lem}
 use Rattle.sound_queue.specs.SoundLaws.{excluded, excluded_other, row_queued, row_not_queued, row_excluded}
 use Rattle.sound_queue.specs.SoundLaws.{counted, sound_by, queued_placed, not_queued_placed, queued_inside}
 use Rattle.sound_queue.specs.SoundLaws.{queued_membership}
-use Rattle.sound_queue.specs.Enqueueing.{judged_passes, out_is}
+use Rattle.sound_queue.proofs.Enqueueing.{judged_passes, out_is}
 
 -- Once the tree is known, for a thread in a list of processor d:
 module _ (t : List ThreadRecord) (q : CpuRunQueue) (i : ℕ) (cpu d : CpuIndex) (r : ThreadRecord) (k : ℕ) where
@@ -240,7 +240,8 @@ module _ {queued : ℕ → Bool} {q : CpuRunQueue} {t : List ThreadRecord} (S : 
             (total_out_lem (ltb 0 row) q.realtime_len total
             (rw (list_fifo (record_of t i).parameters.policy row refl row_low) at
             (total_was is_fifo q.realtime_len S.total)))
-            (rw (list_of_lem q own row) (out_is (lists·.remove t (list_at q row) i (membership_at own row)) (value A.list)
+            (rw (list_of_lem q own row) (out_is (lists·.remove t (list_at q row) i (membership_at own row))
+            (value A.list)
             A.accepted))
             R.is
             (counted_out_lem (is_budget (record_of t i).parameters.policy) _ budgets
