@@ -1,6 +1,6 @@
 #!/usr/bin/env python3
-"""tools/wrong_answers.py [--list | --check [NAME..] | --shape [NAME..] | --try [NAME..] | --gate], from the
-repository's root: the wrong answers that the contracts rule out, and whether each is refused where it is put.
+"""tools/wrong_answers.py [--list | --check [NAME..] | --shape [NAME..] | --try [NAME..] | --gate [NAME..]],
+from the repository's root: the wrong answers that the contracts rule out, and whether each is refused where it is put.
 
 A wrong answer of a function is a line `# fn PATH: the wrong answer in words` of crates/NAME/wrong-answers with the
 `file:`, `old:` and `new:` lines below it that put it into the function PATH of the crate. The old text stands once in
@@ -9,22 +9,29 @@ wrong promise is an edit of its own, crates/NAME/must-fail/*.edit, which `rt ci`
 first line says it in words.
 
 --try puts the answers of the crates, which `rt check` proves first, into copies of them, as many at once as do not
-touch each other, and asks `rt dev`, which begins with what is checked of the crate as it stands (see `warm`). --gate
-does so with the marked answers of all crates, each crate once `rt ci`, at work beside it, has proved it.
-The check says of each function whether it is proved: the named one must not be, by itself and not only because it
-calls another that is not. That it is a fact that fails and not the form of the proof is asked in two ways: what the
-check says of the proof must be that a fact was not found; and where a proof is written for the function, the edited
-function must take the same steps in the same order (STEPS, by its MIR), so that it leaves the same list of things to
-prove and the proof still fits it: --shape asks this alone, in a second a round. Where none is written, the check finds
-the proof by itself, whatever the shape. And no function may be refused by itself that is not edited and reaches none
-that is: the copy is the crate, but for the edits. A refused answer is decided where the prover did not stop at a bound
-of its own (BOUNDS) before it had tried all that its rules give; --try names those that are not, and the public
-functions with fewer than two that are. What the check said of a round is kept in target/wrong-answers/NAME.
+touch each other, and has each copy checked as `rt must-fail` does: over what `rt check` kept of the crate as it stands,
+of which what rests on an edit is checked anew. --gate does so with the marked answers of all crates, right after `rt
+ci`: over the libraries that this has left built and nothing kept besides, and of the copy it has the edited functions
+alone checked (`--only`), where the edits change nothing else.
+The check says of each function whether it is proved: the named one must not be, by itself and not only because it calls
+another that is not. That it is a fact that fails and not the form of the proof is asked in two ways: what the check
+says of the proof must be that a fact was not found; and where a whole proof is written for the function (Proof.antt),
+the edited function must leave the same kinds of things to prove in the same order (`--generated DIR --old-names` lists
+them), so that the proof still fits it: --shape asks this alone, in some seconds a round. Where none is written, or one
+goal by goal (Answers.antt), the check finds the rest by itself, whatever the shape. And no function may be refused by
+itself that is not edited and reaches none that is: the copy is the crate, but for the edits. A refused answer is
+decided where the prover did not stop at a bound of its own (BOUNDS) before it had tried all that its rules give, or
+names values at which the goal is false, or tried every way once --try has written the goal's `search` down; --try names
+those that are not, and the public functions with fewer than two that are. What the check said of a round is kept in
+target/wrong-answers/NAME.
 
 The last line is 'N wrong answers refused, 0 not', and the exit status is 0 then. --list writes docs/WRONG-ANSWERS.md,
 --check asks whether that page is current and has two wrong answers or more for each public function; `--check NAME..`
 asks the second alone, of these crates."""
 import glob
+import importlib.machinery
+import importlib.util
+import json
 import os
 import re
 import shutil
@@ -32,9 +39,9 @@ import subprocess
 import sys
 import tempfile
 import threading
-import time
 from collections import namedtuple
 from concurrent.futures import ThreadPoolExecutor
+from contextlib import contextmanager
 from functools import lru_cache
 
 PAGE = 'docs/WRONG-ANSWERS.md'
@@ -47,6 +54,20 @@ not; of a definition or a promise, that the crate is not proved. The gate tries 
 functions the marked ones of crates/NAME/wrong-answers, of definitions and promises all, crates/NAME/must-fail. The
 others are tried by hand, `python3 tools/wrong_answers.py --try NAME`; docs/GUARANTEES.md says what was seen of them.
 """
+
+
+
+def tool(name):
+    """Another tool of this folder as a module."""
+    path = os.path.join(os.path.dirname(os.path.abspath(__file__)), name)
+    loader = importlib.machinery.SourceFileLoader(name, path)
+    sys.dont_write_bytecode = True
+    made = importlib.util.module_from_spec(importlib.util.spec_from_loader(name, loader))
+    loader.exec_module(made)
+    return made
+
+
+rattle = tool('rattle')
 
 # Of a definition or a promise there is no function. Changes are a file, the old text and the new one each.
 Answer = namedtuple('Answer', 'function words changes by_gate')
@@ -88,31 +109,32 @@ def answers(crate):
     return answers_in(path) if os.path.exists(path) else []
 
 
-@lru_cache(maxsize=None)
 def uses():
-    """What crates.txt says: each crate, and the crates that it uses."""
-    with open('crates.txt') as text:
-        lines = [line.split('#')[0].split(':') for line in text]
-    return {line[0].strip(): line[1].split() for line in lines if len(line) == 2}
+    """The crates of crates.txt, each with the libraries that it uses."""
+    return {crate: used for crate, (_, used) in rattle.listed().items()}
 
 
 # What the check said of a round, and what it means.
 
 
 def unproved(said):
-    """The functions that are not proved by themselves; of one that had no proof written, the check says 'no proof', and
-    of one over a slice of structs, whose derivation is stored, that the borrow checker does not cover it."""
-    told = r'^fn (\S+): (?:not proved$|not proved; the borrow checker does not cover|no proof\b)'
-    return set(re.findall(told, said, re.MULTILINE))
+    """The functions that are not proved by themselves; of one whose proof the check looks for itself, or finds in part
+    by answers, it says 'no proof'."""
+    return set(re.findall(r'^fn (\S+): (?:not proved$|no proof\b)', said, re.MULTILINE))
 
 
-# What the check says where a fact is not found: by a search whose goal is a statement, by arithmetic, by rewriting, by
-# congruence, by an equation whose ends are others; or of a function whose proof it looks for by itself.
+# What the check says where a fact is not found: by a search whose goal is a statement and no value, by arithmetic, by
+# cases, by rewriting, by congruence, by an equation whose ends are others; or, of a function whose proof it looks for
+# by itself, of a goal.
 FACTS = re.compile(
-    r'`search`: no proof of `[^`]*(?:Post|Path|≡|<|≤)|`omega`: the goal does not follow'
+    r'`search`: no proof of `(?!\S*(?:\.declared\.|ℕ|List\b|Bool\b))|`omega`: the goal does not follow'
     r'|`rw` has no last argument, so what it leaves must be a path whose two ends are equal|`cc` (?!proves only)'
-    r'|the two (?:values|types) (?:first differ|differ only) where|the two types are `Path |`search` does not close'
+    r'|`grind`:? found no proof|the two (?:values|types) (?:first differ|differ only) where|the two types are `Path |'
+    r'`search` does not close'
+    r'|`search` did not prove `'
 )
+# What it says of a declaration of a proof that rests on another that is refused.
+RESTS = re.compile(r'was not admitted \(it has holes|^\d+ declarations? that depends? on ')
 
 
 def faults(said, crate, function):
@@ -120,14 +142,14 @@ def faults(said, crate, function):
     it rests on another that is refused."""
     place = re.escape(f'/proofs/{function.replace("::", "/")}/')
     told = re.findall(rf'^\S*{place}\w+\.antt:\d+:\d+: error: (.*(?:\n  .*)*)', said, re.MULTILINE)
-    told = [fault for fault in told if 'was not admitted (it has holes' not in fault]
+    told = [fault for fault in told if not RESTS.search(fault)]
     return told + re.findall(rf'^fn {crate}::{function}: (no proof: .*)', said, re.MULTILINE)
 
 
 def why_not(said, crate, function):
     """Why a wrong answer does not count as refused; nothing where it does."""
-    if 'logic=' not in said:
-        return said[:300]
+    if not re.search('^(logic=not-proved|only=)', said, re.MULTILINE):
+        return said[-300:]
     if f'{crate}::{function}' not in unproved(said):
         return 'NOT REFUSED there'
     told = faults(said, crate, function)
@@ -136,18 +158,21 @@ def why_not(said, crate, function):
 
 
 # What the check says where a tactic stopped at a bound of its own: congruence at its own, a search at its steps, its
-# count or its depth.
-BOUNDS = re.compile(r'met a bound of its own|broke off|was spent|Not every way was tried|stopped \d+ lemmas deep')
+# count or its depth; and where it does not say.
+BOUNDS = re.compile(
+    r'met a bound of its own|broke off|was spent|Not every way was tried|stopped \d+ lemmas deep'
+    r'|`search` did not prove `'
+)
 
 
 def at_bound(said, crate, function):
     """Whether the prover stopped at a bound of its own at each fact that it did not find, so that it never looked at
-    everything that its rules give: the answer is refused, but not decided."""
+    everything that its rules give: the answer is refused, but not decided. Of a proof that it looks for by itself it
+    does not say so; there a goal is decided where it names values that the known facts allow and the goal does not."""
+    before = rf'(?=(?:\nnote: .*)*\nfn {crate}::{function}: no proof)'
+    refuted = re.search(f'^note: .* allow values at which this goal is false{before}', said, re.MULTILINE)
     told = faults(said, crate, function)
-    note = r'note: what antt said of a `search` in the proof that rattle made: .*(?:\n  .*)*'
-    before = rf'(?=(?:\nnote: .*(?:\n  .*)*)*\nfn {crate}::{function}: no proof)'
-    notes = re.findall(f'^{note}{before}', said, re.MULTILINE)
-    return bool(told) and all(BOUNDS.search(fault) for fault in notes or told)
+    return not refuted and bool(told) and all(BOUNDS.search(fault) for fault in told)
 
 
 # The lists, and the page of them.
@@ -171,22 +196,28 @@ def page():
 
 def public(crate):
     """The public functions of a library, as the check names them: of the root file, of types, exported to C, or shown
-    by the root file's `pub use`."""
+    by the root file's `pub use`. In a static library NAME_c beside a library NAME a function that is nothing but the
+    call of its name there is left out: the library's answers are its own."""
     root = f'crates/{crate}/src/lib.rt'
     if not os.path.exists(root):
         return []
     with open(root) as text:
-        shown = set(re.findall(r'^pub use (\w+)::(\w+);', text.read(), re.MULTILINE))
-    found = []
+        shown = {(module, name.strip()) for module, one, several
+                 in re.findall(r'^pub use (\w+)::(?:(\w+)|\{([^}]*)\});', text.read(), re.MULTILINE)
+                 for name in (one or several).split(',')}
+    library, found = re.sub(r'_c$', '', crate), []
     for path in sorted(glob.glob(f'crates/{crate}/src/*.rt')):
         module, owner = os.path.basename(path)[: -len('.rt')], ''
         with open(path) as text:
-            lines = text.read().split('\n')
-        for line in lines:
+            whole = text.read()
+        passed = re.findall(rf'^\{{\n +{library}::(\w+)\([\w,\s]*\);?\n\}}', whole, re.MULTILINE)
+        for line in whole.split('\n'):
             if line.startswith('impl '):
                 owner = line.split()[1] + '::'
             head = re.match(r'( *)pub (extern "C" )?fn (\w+)', line)
-            if head and (head.group(1) or head.group(2) or module == 'lib' or (module, head.group(3)) in shown):
+            if not head or (library != crate and head.group(3) in passed):
+                continue
+            if head.group(1) or head.group(2) or module == 'lib' or (module, head.group(3)) in shown:
                 within = ('' if module == 'lib' else module + '::') + (owner if head.group(1) else '')
                 found.append(within + head.group(3))
     return found
@@ -261,6 +292,20 @@ def span(text, function):
     return 0, len(text)
 
 
+def within(place, answer):
+    """Whether the answer changes its function's body alone, on which no proof of another function rests."""
+    for file, old, _ in answer.changes:
+        with open(f'{place}/{file}') as text:
+            before = text.read()
+        start, end = span(before, answer.function)
+        body = re.search(r'^ *\{$', before[start:end], re.MULTILINE)
+        if end - start == len(before) or not body:
+            return False
+        if before[start + body.end():end].count(old.replace('\\n', '\n')) != 1:
+            return False
+    return True
+
+
 def put_in(place, answer):
     """Puts the answer into the crate at a place; \\n in its lines is the end of a line. Says why where it cannot."""
     for file, old, new in answer.changes:
@@ -277,78 +322,76 @@ def put_in(place, answer):
     return None if answer.changes else 'nothing is changed'
 
 
-# A round is tried in a room, a folder of its own, so that several, and `rt ci`, can be at work at a time.
+# A round is tried in a room, a folder of its own outside the checkout, where rt would refuse sources.
 
 
-def rt(room, *words):
-    ran = subprocess.run(['rt', *words], cwd=room, capture_output=True, text=True)
+@contextmanager
+def room_of(crate):
+    with tempfile.TemporaryDirectory(prefix='wrong-answers-') as room:
+        for part in ['src', 'specs', 'proofs']:
+            if os.path.exists(f'crates/{crate}/{part}'):
+                shutil.copytree(f'crates/{crate}/{part}', f'{room}/{part}')
+        yield room
+
+
+def check_in(room, crate, *flags):
+    """What the prover says of the crate in the room. It gets no more memory than rt gives it by itself."""
+    words = [*rattle.words('check', crate), '--jobs', '1', *flags]
+    ran = subprocess.run(words, cwd=room, capture_output=True, text=True, errors='replace', stdin=subprocess.DEVNULL)
     return ran.stdout + ran.stderr
 
 
-def make_room(room, crate):
-    """A repository that lists one crate, over the libraries of this one: rt takes what the crate uses as it stands in
-    target/rlib, and neither sums nor proves any other crate."""
-    shutil.rmtree(room, ignore_errors=True)
-    os.makedirs(f'{room}/target')
-    for part in ['src', 'specs', 'proofs']:
-        if os.path.exists(f'crates/{crate}/{part}'):
-            shutil.copytree(f'crates/{crate}/{part}', f'{room}/crates/{crate}/{part}')
-    for used in uses()[crate]:
-        if os.path.exists(f'crates/{used}'):
-            os.symlink(os.path.abspath(f'crates/{used}'), f'{room}/crates/{used}')
-    os.symlink(os.path.abspath('target/rlib'), f'{room}/target/rlib')
-    with open(f'{room}/crates.txt', 'w') as out:
-        out.write(f'{crate}: {" ".join(uses()[crate])}\n')
+def linked(one, other):
+    """Gives a checked module a second name: a check replaces such a file, and writes into none."""
+    try:
+        if one.endswith('.oantt'):
+            return os.link(one, other)
+    except OSError:
+        pass
+    return shutil.copy2(one, other)
 
 
-@lru_cache(maxsize=None)
-def build_name():
-    """What this toolchain calls the folder of checked modules in a crate's incremental folder."""
-    with tempfile.TemporaryDirectory() as room:
-        os.makedirs(f'{room}/crates/empty/src')
-        for path, text in [('crates.txt', 'empty:\n'), ('crates/empty/src/lib.rt', '')]:
-            with open(f'{room}/{path}', 'w') as out:
-                out.write(text)
-        said = rt(room, 'dev', 'empty')
-        made = glob.glob(f'{room}/target/inc/empty/*')
-        return os.path.basename(made[0]) if made else sys.exit('no incremental folder: ' + said)
-
-
-def warm(room, crate):
-    """Lets `rt dev` begin with what was checked of the crate as it stands. A crate's library keeps of each module the
-    file that an incremental folder has of it, and the check takes a module from there only while it is up to date:
-    those of an edited function, and what rests on them, are checked anew. So a refusal is one of the edited text, by
-    this very run, over modules that rt's own check has admitted; only a 'proved' would rest on the folder, and none is
-    asked for but of what was not edited. Should a toolchain not take the files, the check is slower and no other."""
-    kept = f'target/rlib/{crate}.rlib/toolchain/checked'
-    shutil.copytree(kept, f'{room}/target/inc/{crate}/{build_name()}')
+def over_kept(room, crate):
+    """The flag by which a check begins with what `rt check` kept of the crate as it stands. It takes a module from
+    there only while that is up to date: those of an edited function, and what rests on them, are checked anew. So a
+    refusal is one of the edited text, by this very run; only a 'proved' would rest on the folder, and none is asked for
+    but of what was not edited."""
+    shutil.copytree(f'crates/{crate}/out/incremental', f'{room}/kept', copy_function=linked)
+    return ['--incremental', f'{room}/kept']
 
 
 def has_proof(crate, function):
     return os.path.exists(f'crates/{crate}/proofs/{function.replace("::", "/")}/Proof.antt')
 
 
-# What makes a thing to prove: a call, a branch and its arms, a loop, a return, an index, arithmetic that may not fit.
-# Which function is called, what is compared and which values go in does not.
-STEPS = re.compile(
-    r'\((call|if|switch|arm|loop|block|exit)\b|\b(return)\b|op2 \(?(offset|add|sub|mul|div|rem)\b|op1 \((cast)\b')
+def kind_of(name):
+    """What kind of thing to prove, or of step, a name stands for: a call's requires, an index, a sum that may not fit,
+    a branch, a loop, a return. Which function is called, what is compared and which values go in does not count."""
+    kind = 'requires' if '-requires' in name else re.split('[-_]', name or 'none')[0]
+    return 'quotient' if kind in ('div', 'rem') else kind
 
 
 def shapes(room, crate):
-    """The steps of each function of the room's crate, in order, from its MIR."""
+    """The things to prove of each function of the room's crate and its steps, in order, by their kinds."""
+    with tempfile.TemporaryDirectory() as place:
+        check_in(room, crate, '--generated', place, '--old-names')
+        if not os.path.exists(f'{place}/names.json'):
+            return {}
+        with open(f'{place}/names.json') as text:
+            named = json.load(text)
     found = {}
-    for part in rt(room, 'mir', crate).split('(fn-def "')[1:]:
-        name, body = part.split('"', 1)
-        steps = [next(word for word in step.groups() if word) for step in STEPS.finditer(body)]
-        found[name] = ' '.join('quotient' if step in ('div', 'rem') else step for step in steps)
+    for place, said in named.items():
+        function = re.match(rf'Rattle-{crate}-proofs\.(.*)\.Lts$', place)
+        if function:
+            kinds = [kind_of(old or new) for old, new in said['needs']] + [kind_of(step[0]) for step in said['places']]
+            found[f'{crate}::' + function.group(1).replace('.', '::')] = ' '.join(kinds)
     return found
 
 
 @lru_cache(maxsize=None)
 def whole_shapes(crate):
     """The steps of the functions as they stand."""
-    with tempfile.TemporaryDirectory(dir=f'{ROOMS}/{crate}') as room:
-        make_room(room, crate)
+    with room_of(crate) as room:
         return shapes(room, crate)
 
 
@@ -365,19 +408,24 @@ def other_steps(room, crate, functions):
     return found
 
 
-def tried(one, shape_alone):
+def tried(one, gate, shape_alone):
     """What comes of a round."""
-    crate, room = one.crate, f'{ROOMS}/{one.crate}/{one.number}'
-    make_room(room, crate)
-    why = {answer.function: put_in(f'{room}/crates/{crate}', answer) for answer in one.answers}
-    steps, said = other_steps(room, crate, why), ''
-    if not shape_alone:
-        warm(room, crate)
-        said = rt(room, 'dev', crate)
-        with open(f'{room}.txt', 'w') as log:
-            log.write(said)
-    shutil.rmtree(room)
-    others = harmed(said, crate, why)
+    crate, said = one.crate, ''
+    with room_of(crate) as room:
+        alone = gate and all(within(room, answer) for answer in one.answers)
+        why = {answer.function: put_in(room, answer) for answer in one.answers}
+        steps = other_steps(room, crate, why)
+        if not shape_alone:
+            flags = [] if gate else over_kept(room, crate)
+            for function in why if alone else []:
+                flags += ['--only', function]
+            said = check_in(room, crate, *flags)
+            os.makedirs(f'{ROOMS}/{crate}', exist_ok=True)
+            with open(f'{ROOMS}/{crate}/{one.number}.txt', 'w') as log:
+                log.write(said)
+        unsure = [] if gate or shape_alone else [function for function in why if at_bound(said, crate, function)]
+        searched = searched_again(room, crate, unsure, said)
+    others = [] if alone else harmed(said, crate, why)
     for function in why:
         why[function] = why[function] or steps.get(function)
         if not shape_alone:
@@ -385,8 +433,25 @@ def tried(one, shape_alone):
         if others:
             why[function] = why[function] or f'refused too, and not edited: {" ".join(others)}'
     wrong = [(answer, why[answer.function]) for answer in one.answers if why[answer.function]]
-    bounds = [a for a in one.answers if not why[a.function] and at_bound(said, crate, a.function)]
+    bounds = [a for a in one.answers if not why[a.function] and a.function in unsure
+              and not (faults(searched, crate, a.function) and not at_bound(searched, crate, a.function))]
     return Ended(one, wrong, bounds)
+
+
+def searched_again(room, crate, functions, said):
+    """What the check says of functions whose proof it looks for by itself once the goals that it leaves open are given
+    to a `search` in writing, of which it then says whether every way was tried."""
+    written = []
+    for function in functions:
+        file = f'proofs/{function.replace("::", "/")}/Answers.antt'
+        lines = re.search(rf'^help: write \./{re.escape(file)} with these lines.*\n((?:    .*\n)+)', said, re.MULTILINE)
+        if lines and not os.path.exists(f'{room}/{file}'):
+            os.makedirs(os.path.dirname(f'{room}/{file}'), exist_ok=True)
+            text = re.sub('^    ', '', lines.group(1), flags=re.MULTILINE)
+            with open(f'{room}/{file}', 'w') as out:
+                out.write(re.sub(r' = \?$', ' = search rules', text, flags=re.MULTILINE))
+            written += ['--only', function]
+    return check_in(room, crate, '--incremental', f'{room}/kept', *written) if written else ''
 
 
 def harmed(said, crate, edited):
@@ -396,44 +461,34 @@ def harmed(said, crate, edited):
     return [function for function, name in others if name not in names and not reached.get(name, set()) & names]
 
 
-def next_round(left, lock, waits):
-    """Takes the first round whose crate is proved. Where another process sees to that, rt keeps a stamp of the crate
-    once it is."""
-    while True:
-        with lock:
-            for one in left:
-                if not waits or os.path.exists(f'target/stamp/{one.crate}'):
-                    left.remove(one)
-                    return one
-            if not left:
-                return None
-        time.sleep(1)
-
-
 def tell(ended, what):
     crate, number, several = ended.round
     lines = [f'{crate}, round {number}: {len(several) - len(ended.wrong)} of {len(several)} {what}']
     lines += [f'  {answer.function}: {answer.words}: {why}' for answer, why in ended.wrong]
-    lines += [f'  {answer.function}: {answer.words}: refused, but not decided: the prover met a bound of its own'
-              for answer in ended.bounds]
+    bound = 'refused, but not decided: the prover met a bound of its own, or names no values at which the goal is false'
+    lines += [f'  {answer.function}: {answer.words}: {bound}' for answer in ended.bounds]
     print('\n'.join(lines), flush=True)
 
 
-def try_rounds(left, waits, shape_alone):
-    """What came of each round. Two workers, for two processors."""
-    lock, every = threading.Lock(), []
+def try_rounds(left, gate, shape_alone):
+    """What came of each round, as many at a time as there are processors and memory for them."""
+    def work(one):
+        ended = tried(one, gate, shape_alone)
+        if ended.wrong or not gate:
+            tell(ended, 'keep the shape' if shape_alone else 'refused')
+        return ended
 
-    def work():
-        while one := next_round(left, lock, waits):
-            ended = tried(one, shape_alone)
-            every.append(ended)
-            if ended.wrong or not waits:
-                tell(ended, 'keep the shape' if shape_alone else 'refused')
+    for crate in {one.crate for one in left}:
+        rattle.words('check', crate)
+    with ThreadPoolExecutor(workers()) as pool:
+        return list(pool.map(work, left))
 
-    with ThreadPoolExecutor(2) as workers:
-        for worker in [workers.submit(work) for _ in range(2)]:
-            worker.result()
-    return every
+
+def workers():
+    """A check takes up to three gigabytes."""
+    with open('/proc/meminfo') as text:
+        free = int(re.search(r'MemAvailable: +(\d+)', text.read()).group(1)) >> 20
+    return max(1, min(len(os.sched_getaffinity(0)), free // 3))
 
 
 def tell_undecided(crates, every):
@@ -469,9 +524,10 @@ def main():
     elif word == ['--check']:
         check(names or list(uses()), not names)
     elif word in (['--try'], ['--shape']):
-        proved = subprocess.run(['rt', 'check', *crates], capture_output=True, text=True)
-        if proved.returncode:
-            sys.exit(proved.stdout[-2000:] + proved.stderr)
+        for crate in crates:
+            proved = subprocess.run(['rt', 'check'], cwd=f'crates/{crate}', capture_output=True, text=True)
+            if proved.returncode:
+                sys.exit(proved.stdout[-2000:] + proved.stderr)
         try_answers(crates, False, word == ['--shape'])
     elif word == ['--gate']:
         try_answers(crates, True, False)

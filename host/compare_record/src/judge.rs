@@ -100,7 +100,7 @@ fn halved(test: &impl Fn(u64) -> bool, low: u64, high: u64) -> u64 {
     }
 }
 
-/// `halvedPlace`
+/// `halved_place`
 fn halved_place(list: &[u64], now: u64, width: u64) -> PlaceWords {
     let since = since(now, width);
     let first = halved(&|k| end(list, k) <= since, 0, count(list));
@@ -108,7 +108,7 @@ fn halved_place(list: &[u64], now: u64, width: u64) -> PlaceWords {
     [first, behind - first]
 }
 
-/// `searchFromLeft`: the rest is judged, and the place found by halving, whatever the runs before are.
+/// `search_from_left`: the rest is judged, and the place found by halving, whatever the runs before are.
 pub fn lift_from(list: &[u64], ordered: u64, now: u64, width: u64) -> Answer<PlaceWords> {
     if in_order_since(list, ordered) {
         (0, halved_place(list, now, width))
