@@ -1,4 +1,4 @@
--- Rotations, balancing and rebuilding keep the in_order_lem list.
+-- Rotations, balancing and rebuilding keep the in-order list.
 use Rattle.std.specs.Prelude.{◌≡◌, refl, ℕ, Bool, true, false, List, [], ◌∷◌, ◌++◌, ltb}
 use Rattle.std.proofs.Common.{sym, ap, ◌∙◌, append_assoc, append-nil}
 use Rattle.refusal.specs.Cases.{choose}
@@ -44,7 +44,7 @@ balance_by_in_order Right l i r =
     rotate_left_in_order l i (outward_right r) ∙ ap (λ x. in_order l ++ i ∷ x) (outward_right_in_order r)
 balance_by_in_order Even l i r = refl
 
--- Balancing a node keeps the in_order_lem list.
+-- Balancing a node keeps the in-order list.
 pub balance_in_order : (l : Tree) (i : ℕ) (r : Tree) → in_order (balance l i r) ≡ in_order l ++ i ∷ in_order r
 unfolding balance
 balance_in_order l i r = balance_by_in_order (lean_of (height l) (height r)) l i r

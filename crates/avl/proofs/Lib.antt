@@ -1,5 +1,5 @@
 -- The theorems on balancing and on the operations, which rest on the rotations (`outward_left`).
--- Rotations, balancing and rebuilding keep the in_order_lem list.
+-- Rotations, balancing and rebuilding keep the in-order list.
 pub mod InOrder
 -- Balancing a node whose sides differ by at most two gives a balanced tree.
 pub mod Balance

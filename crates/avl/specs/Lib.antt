@@ -1,4 +1,4 @@
--- What a tree is: its height, its in_order_lem list, its size, and when it is balanced.
+-- What a tree is: its height, its in-order list, its size, and when it is balanced.
 pub mod Tree
 -- Rotations, and the balancing of one node.
 pub mod Rotation

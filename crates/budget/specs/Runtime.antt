@@ -1,4 +1,4 @@
--- `BudgetRuntime`: lazy fixed_window budgets. After scheduler/algorithms/budget.rs.
+-- `BudgetRuntime`: lazy fixed-window budgets. After scheduler/algorithms/budget.rs.
 use Rattle.std.specs.Prelude.{ℕ, ◌-◌, ◌/◌, min, Bool}
 use Rattle.std.proofs.Math.Option.{Option, none, some}
 use Rattle.refusal.specs.Answer.{Answer, value, refused, bad_budget, back_in_time}

@@ -14,7 +14,7 @@ membership_encodes tag first second =
     (if_equal tag 3 (eqb second 0)
     (if_less tag 5 (zeros first second 0) false)))
 
--- So many words of a row, from the k_th on.
+-- So many words of a row, from the k-th on.
 abbrev pub words_from : List ℕ → ℕ → ℕ → List ℕ
 words_from w k zero = []
 words_from w k (suc n) = word w k ∷ words_from w (suc k) n

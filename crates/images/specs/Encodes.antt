@@ -90,7 +90,7 @@ unfoldable pub queue_row_encodes : ℕ → List ℕ → Bool
 queue_row_encodes k w =
     if_less k queue.root_rows (list_encodes w) (if_less k queue.marks_row (root_encodes w) (marks_encode w))
 
--- Whether each row from the k_th on passes the test of its place.
+-- Whether each row from the k-th on passes the test of its place.
 unfoldable pub all_from : (ℕ → List ℕ → Bool) → ℕ → List (List ℕ) → Bool
 all_from test k [] = true
 all_from test k (row ∷ rest) = both (test k row) (all_from test (suc k) rest)

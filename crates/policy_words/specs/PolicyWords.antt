@@ -19,7 +19,7 @@ use Rattle.policy.specs.declared.SchedulingParameters.{SchedulingParameters}
 use Rattle.algorithms.specs.declared.PolicyRuntime.{PolicyRuntime}
 use Rattle.algorithms.specs.declared.PolicyRuntime.TheVariants as runtime
 
--- The k_th word.
+-- The k-th word.
 abbrev pub word : List ℕ → ℕ → ℕ
 word w k = get_or w k 0
 

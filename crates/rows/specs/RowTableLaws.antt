@@ -14,7 +14,8 @@ use Rattle.thread.specs.declared.Links.{Links}
 use Rattle.thread.specs.declared.QueueLinks.{QueueLinks}
 use Rattle.thread.specs.declared.ThreadRecord.{ThreadRecord}
 use Rattle.thread.specs.declared.TreeKey.{TreeKey}
-use Rattle.thread.specs.Records.{with_runtime, with_turn, with_links, with_left, with_right, with_height, with_queue_links}
+use Rattle.thread.specs.Records.{with_runtime, with_turn, with_links, with_left, with_right, with_height}
+use Rattle.thread.specs.Records.{with_queue_links}
 use Rattle.thread.specs.TreeKey.{ready_index_key}
 use Rattle.codec.specs.Codec.{decoded, links_of, queue_links_of}
 use Rattle.rows.specs.declared.LinksRead.TheVariants as links
@@ -71,7 +72,8 @@ module _ (rows : List (List ℕ)) (i : ℕ) where
   unfolding storing if_less choose
   storing_none f h = rw (table_length rows, le-ltb i (length rows) h)
 
-  pub links_inside : {l : Links} → i < length rows → l ≡ links_of (get_or rows i []) → links.Got l ≡ links_at (table rows) i
+  pub links_inside : {l : Links} → i < length rows → l ≡ links_of (get_or rows i [])
+      → links.Got l ≡ links_at (table rows) i
   unfolding links_at decoded
   links_inside h e = rw e (reading_row (λ (r : ThreadRecord). links.Got r.ready_tree) links.Damaged h)
 
@@ -96,7 +98,8 @@ module _ (rows : List (List ℕ)) (i : ℕ) where
 
   pub queue_links_outside : length rows ≤ i → queue_links_read.Damaged ≡ queue_links_at (table rows) i
   unfolding queue_links_at
-  queue_links_outside h = reading_none (λ (r : ThreadRecord). queue_links_read.Got r.queue_links) queue_links_read.Damaged h
+  queue_links_outside h = reading_none (λ
+      (r : ThreadRecord). queue_links_read.Got r.queue_links) queue_links_read.Damaged h
 
   pub record_inside : {r : ThreadRecord} → i < length rows → r ≡ decoded (get_or rows i [])
       → read.Got r ≡ record_at (table rows) i
@@ -107,7 +110,8 @@ module _ (rows : List (List ℕ)) (i : ℕ) where
   unfolding record_at
   record_outside h = reading_none (λ (r : ThreadRecord). read.Got r) read.Damaged h
 
-  pub set_links_inside : (l : Links) (w : List ℕ) → i < length rows → decoded w ≡ with_links l (decoded (get_or rows i []))
+  pub set_links_inside : (l : Links) (w : List ℕ) → i < length rows
+      → decoded w ≡ with_links l (decoded (get_or rows i []))
       → out change.Made (table (set rows i w)) ≡ set_links (table rows) i l
   unfolding set_links
   set_links_inside l = storing_row (with_links l)
@@ -125,7 +129,8 @@ module _ (rows : List (List ℕ)) (i : ℕ) where
   unfolding set_left
   set_left_outside l = storing_none (with_left l)
 
-  pub set_right_inside : (l : Link) (w : List ℕ) → i < length rows → decoded w ≡ with_right l (decoded (get_or rows i []))
+  pub set_right_inside : (l : Link) (w : List ℕ) → i < length rows
+      → decoded w ≡ with_right l (decoded (get_or rows i []))
       → out change.Made (table (set rows i w)) ≡ set_right (table rows) i l
   unfolding set_right
   set_right_inside l = storing_row (with_right l)
@@ -134,7 +139,8 @@ module _ (rows : List (List ℕ)) (i : ℕ) where
   unfolding set_right
   set_right_outside l = storing_none (with_right l)
 
-  pub set_height_inside : (n : ℕ) (w : List ℕ) → i < length rows → decoded w ≡ with_height n (decoded (get_or rows i []))
+  pub set_height_inside : (n : ℕ) (w : List ℕ) → i < length rows
+      → decoded w ≡ with_height n (decoded (get_or rows i []))
       → out change.Made (table (set rows i w)) ≡ set_height (table rows) i n
   unfolding set_height
   set_height_inside n = storing_row (with_height n)

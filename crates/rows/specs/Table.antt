@@ -7,7 +7,8 @@ use Rattle.thread.specs.declared.Link.{Link}
 use Rattle.thread.specs.declared.Links.{Links}
 use Rattle.thread.specs.declared.QueueLinks.{QueueLinks}
 use Rattle.thread.specs.declared.ThreadRecord.{ThreadRecord}
-use Rattle.thread.specs.Records.{with_runtime, with_turn, with_links, with_left, with_right, with_height, with_queue_links}
+use Rattle.thread.specs.Records.{with_runtime, with_turn, with_links, with_left, with_right, with_height}
+use Rattle.thread.specs.Records.{with_queue_links}
 use Rattle.thread.specs.TreeKey.{ready_index_key}
 use Rattle.codec.specs.Codec.{decoded}
 use Rattle.rows.specs.declared.LinksRead.{LinksRead}

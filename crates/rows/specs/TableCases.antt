@@ -80,7 +80,8 @@ module _ {A : Type 0} {y : A} (a : A) where
   unfolding on_record
   record_got f e m h = rw (sym e ∙ m) h
 
-  pub record_damaged : {r x : RecordRead} (f : ThreadRecord → A) → r ≡ x → r ≡ read.Damaged → y ≡ a → y ≡ on_record x a f
+  pub record_damaged : {r x : RecordRead} (f : ThreadRecord → A) → r ≡ x → r ≡ read.Damaged → y ≡ a
+      → y ≡ on_record x a f
   unfolding on_record
   record_damaged f e m h = rw (sym e ∙ m) h
 

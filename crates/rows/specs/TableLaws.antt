@@ -87,7 +87,8 @@ module _ {A : Type 0} (t : List ThreadRecord) (i : ℕ) (f : ThreadRecord → Th
   reading_other j h = rw (length_changed t i f, record_other t i f j h)
 
   -- What f leaves as it was at the changed record is so at every record.
-  pub reading_kept : (j : ℕ) → g (f (record_of t i)) ≡ g (record_of t i) → reading (changed t i f) j g d ≡ reading t j g d
+  pub reading_kept : (j : ℕ) → g (f (record_of t i)) ≡ g (record_of t i)
+      → reading (changed t i f) j g d ≡ reading t j g d
   reading_kept j h = go (eqb j i) refl (ltb i (length t)) refl
     where
       go : (b : Bool) → eqb j i ≡ b → (c : Bool) → ltb i (length t) ≡ c
@@ -147,7 +148,8 @@ module _ (t : List ThreadRecord) (i : ℕ) where
       go : (b : Bool) → ltb i (length t) ≡ b → i < length t
       go true k = ltb-true i (length t) k
       go false k =
-          let f : queue_links_at t i ≡ queue_links_read.Damaged = queue_links_beyond (ltb-false i (length t) k) in never cc
+          let f : queue_links_at t i ≡ queue_links_read.Damaged =
+          queue_links_beyond (ltb-false i (length t) k) in never cc
 
   pub record_within : i < length t → record_at t i ≡ read.Got (record_of t i)
   unfolding record_at
@@ -181,7 +183,8 @@ module _ (t : List ThreadRecord) (i : ℕ) (l : Links) where
   pub length_set_links : length (after (set_links t i l)) ≡ length t
   length_set_links = ap (length {A = ThreadRecord}) after_set_links ∙ length_changed t i (with_links l)
 
-  pub record_set_links_same : i < length t → record_at (after (set_links t i l)) i ≡ read.Got (with_links l (record_of t i))
+  pub record_set_links_same : i < length t
+      → record_at (after (set_links t i l)) i ≡ read.Got (with_links l (record_of t i))
   unfolding record_at
   record_set_links_same h =
       rw after_set_links (reading_same t i (with_links l) (λ (r : ThreadRecord). read.Got r) read.Damaged h)
@@ -206,7 +209,8 @@ module _ (t : List ThreadRecord) (i : ℕ) (l : Links) where
   pub key_set_links : (j : ℕ) → key_at (after (set_links t i l)) j ≡ key_at t j
   unfolding key_at ready_index_key
   key_set_links j =
-      rw after_set_links (reading_kept t i (with_links l) (λ (r : ThreadRecord). key.Got (ready_index_key r j)) key.Damaged
+      rw after_set_links (reading_kept t i (with_links l)
+      (λ (r : ThreadRecord). key.Got (ready_index_key r j)) key.Damaged
       j refl)
 
   pub queue_links_set_links : (j : ℕ) → queue_links_at (after (set_links t i l)) j ≡ queue_links_at t j
@@ -270,7 +274,8 @@ module _ (t : List ThreadRecord) (i : ℕ) (l : QueueLinks) where
   set_queue_links_beyond h = storing_beyond t i (with_queue_links l) h
 
   pub length_set_queue_links : length (after (set_queue_links t i l)) ≡ length t
-  length_set_queue_links = ap (length {A = ThreadRecord}) after_set_queue_links ∙ length_changed t i (with_queue_links l)
+  length_set_queue_links = ap (length {A = ThreadRecord}) after_set_queue_links
+      ∙ length_changed t i (with_queue_links l)
 
   pub record_set_queue_links_same : i < length t
       → record_at (after (set_queue_links t i l)) i ≡ read.Got (with_queue_links l (record_of t i))
@@ -284,7 +289,8 @@ module _ (t : List ThreadRecord) (i : ℕ) (l : QueueLinks) where
       rw after_set_queue_links (reading_other t i (with_queue_links l)
       (λ (r : ThreadRecord). read.Got r) read.Damaged j h)
 
-  pub queue_links_set_queue_links_same : i < length t → queue_links_at (after (set_queue_links t i l)) i ≡ queue_links_read.Got l
+  pub queue_links_set_queue_links_same : i < length t
+      → queue_links_at (after (set_queue_links t i l)) i ≡ queue_links_read.Got l
   unfolding queue_links_at
   queue_links_set_queue_links_same h =
       rw after_set_queue_links (reading_same t i (with_queue_links l)
@@ -306,7 +312,8 @@ module _ (t : List ThreadRecord) (i : ℕ) (l : QueueLinks) where
   pub key_set_queue_links : (j : ℕ) → key_at (after (set_queue_links t i l)) j ≡ key_at t j
   unfolding key_at ready_index_key
   key_set_queue_links j =
-      rw after_set_queue_links (reading_kept t i (with_queue_links l) (λ (r : ThreadRecord). key.Got (ready_index_key r j))
+      rw after_set_queue_links (reading_kept t i (with_queue_links l)
+      (λ (r : ThreadRecord). key.Got (ready_index_key r j))
       key.Damaged j refl)
 
 -- `set_runtime` changes the runtime of its record and nothing else; the key where it is the pass.
@@ -381,7 +388,8 @@ module _ (t : List ThreadRecord) (i : ℕ) (n : ℕ) where
   pub length_set_turn : length (after (set_turn t i n)) ≡ length t
   length_set_turn = ap (length {A = ThreadRecord}) after_set_turn ∙ length_changed t i (with_turn n)
 
-  pub record_set_turn_same : i < length t → record_at (after (set_turn t i n)) i ≡ read.Got (with_turn n (record_of t i))
+  pub record_set_turn_same : i < length t
+      → record_at (after (set_turn t i n)) i ≡ read.Got (with_turn n (record_of t i))
   unfolding record_at
   record_set_turn_same h =
       rw after_set_turn (reading_same t i (with_turn n) (λ (r : ThreadRecord). read.Got r) read.Damaged h)

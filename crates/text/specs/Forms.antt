@@ -122,7 +122,7 @@ on_step (step.Over c) f a g = g c
 unfoldable pub last_of : List ℕ → Cause
 last_of word = choose (is_empty word) cause.Goes cause.TooMany
 
--- The words of a form from the k_th on, on what is left of a line: each gives the k_th value. A value behind the last
+-- The words of a form from the k-th on, on what is left of a line: each gives the k-th value. A value behind the last
 -- is left out.
 unfoldable pub fit_from : List ℕ → ℕ → ℕ → List (List ℕ) → List ℕ → ℕ → List ℕ → Fitted
 fit_from names count room [] line k values = fitted (last_of (next_word line)) k (length line) values
