@@ -110,7 +110,7 @@ fn limit(form: &[u8]) -> u64
 
 // A number up to a limit; what is none is told by its cause.
 #[tactic(auto,
-// The laws of the test, and what each case gives.
+// The laws of choosing, and what each case gives.
 using(refusal::specs::Cases::cases), unfolding(crate::specs::Forms::limited, crate::specs::Reading::on_decimal))]
 fn up_to(limit: u64, none: Cause, found: Decimal) -> Step
     ensures { result ≡ limited limit none found }
@@ -150,7 +150,7 @@ fn known(names: &[u8], count: u64, word: &[u8]) -> Step
 }
 
 #[tactic(auto,
-// The laws of the tests, and what each case gives.
+// The laws of choosing, and what each case gives.
 using(refusal::specs::Cases::cases), unfolding(crate::specs::Forms::is_name, crate::specs::Reading::on_decimal))]
 fn is_name(word: &[u8]) -> bool
     ensures { result ≡ is_name word.now }
