@@ -42,7 +42,7 @@ fn put_fraction(out: &mut [u8], at: usize, fraction: u64) -> usize
 
 // A point and the digits behind it; nothing where there are none.
 #[tactic(auto,
-// The laws of what is written by a test, and of a byte before the rest.
+// The laws of what is written by a choice, and of a byte before the rest.
 using(crate::specs::WritingLaws::choices, crate::specs::TimesLaws::byte_then), unfolding(crate::specs::Times::pointed))]
 fn put_pointed(out: &mut [u8], at: usize, fraction: u64) -> usize
     ensures { page out.new result ≡ written (page out.old at) (pointed fraction) }
