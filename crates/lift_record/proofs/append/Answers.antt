@@ -6,7 +6,7 @@ pub returns-then-list-k : goal.returns-then-list-k
 returns-then-list-k c = search no_room
 
 pub returns-then-end-start : goal.returns-then-end-start
-returns-then-end-start c = ends_early _ _ _ _ _ c.if-list-k.false c.if-end-start.true
+returns-then-end-start c = search ends_early depth 8
 
 pub returns-then-start-end_before : goal.returns-then-start-end_before
 returns-then-start-end_before c =
