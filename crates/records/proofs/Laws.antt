@@ -1,4 +1,5 @@
--- Laws of the copying: one more row or record copied, what a call on the rows leaves of the records and of the rows.
+-- Laws of the copying: one more row or record copied, all copied, what a call on the rows leaves of the records and of
+-- the rows.
 use Rattle.std.proofs.Common.{◌≡◌, ℕ, ◌+◌, ◌-◌, ◌<◌, ◌≤◌, List, [], ◌∷◌, ◌++◌, length, get_or, set, take, drop}
 use Rattle.std.proofs.Common.{refl, sym, ap, ◌∙◌, zero-le, add-one, arith, take_all, take-suc, take-suc-set}
 use Rattle.std.proofs.Common.{take_at, drop_at}
@@ -9,6 +10,9 @@ use Rattle.thread.specs.declared.ThreadRecord.{ThreadRecord}
 use Rattle.codec.specs.Codec.{decoded}
 use Rattle.rows.specs.Table.{Out, out, table}
 use Rattle.rows.specs.RowTableLaws.{table_length}
+use Rattle.arbitration.specs.declared.CpuWindow.{CpuWindow}
+use Rattle.queue.specs.RunQueue.{CpuRunQueue}
+use Rattle.lent_selection.specs.Early.{Early, early_rows}
 use Rattle.records.specs.Lent.{within, used}
 
 module _ (t : List ThreadRecord) (rows : List (List ℕ)) (i : ℕ) where
@@ -40,6 +44,9 @@ module _ (t : List ThreadRecord) (rows : List (List ℕ)) (i : ℕ) where
         p,
       ) refl
 
+  pub all_copied : length rows ≤ i → length t ≤ i → table (take i rows) ≡ take i t → table rows ≡ t
+  all_copied h k e = ap table (sym (take_all i rows h)) ∙ e ∙ take_all i t k
+
 -- The rows that a call works on, and those that it leaves.
 module _ (rows : List (List ℕ)) (t : List ThreadRecord) where
   none_used : length rows < length t → 0 ≡ used rows t
@@ -66,6 +73,15 @@ module _ (rows : List (List ℕ)) (t : List ThreadRecord) where
         let fits : length s ≤ length t = omega (arith, ap length e, table_length part, m) in
         rw (sym (all_used h), take_at part (post_of 0 (length t - 0) rows) (length t) m)
         (sym e ∙ sym (take_all (length t) s fits))
+
+-- What a call leaves of records and rows, and with it what it leaves of the queue's words.
+pub and_of_queue : {A B C D : Type 0} → A × (B × C) → D → A × (B × (C × D))
+and_of_queue (a, (b, c)) d = (a, (b, (c, d)))
+
+-- A selection that is refused before it looks at anything, of the rows that hold the records.
+pub early_kept : {B : Type 0} {b c : B} {t : List ThreadRecord} {s : List (List ℕ)} {w : CpuWindow} {q : CpuRunQueue}
+    → length s ≡ length t → (Early s w q → c ≡ b) → Early t w q → c ≡ b
+early_kept e f x = f (early_rows e x)
 
 -- The two ways through a call: refused for want of rows, with records and rows as they were; and the records copied to
 -- the first rows, the core's call made on these, and the records copied back.
