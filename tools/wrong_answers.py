@@ -454,10 +454,16 @@ def searched_again(room, crate, functions, said):
     return check_in(room, crate, '--incremental', f'{room}/kept', *written) if written else ''
 
 
+def last_name(function):
+    """The last name of a function; of a closure, `..::fn::NAME::..`, that of the function that it stands in."""
+    *_, last = function.split('::fn::')
+    return last.split('::')[0] if '::fn::' in function else last.split('::')[-1]
+
+
 def harmed(said, crate, edited):
     """The functions that are refused by themselves though neither they nor what they reach is edited."""
     names, reached = {function.split('::')[-1] for function in edited}, calls_within(crate)
-    others = [(function, function.split('::')[-1]) for function in sorted(unproved(said))]
+    others = [(function, last_name(function)) for function in sorted(unproved(said))]
     return [function for function, name in others if name not in names and not reached.get(name, set()) & names]
 
 

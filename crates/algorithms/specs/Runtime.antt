@@ -1,9 +1,7 @@
 -- `PolicyRuntime`: a thread's algorithm state. After scheduler/algorithms/mod.rs.
-use Rattle.std.specs.Prelude.{ℕ, Bool, eqb}
+use Rattle.std.specs.Prelude.{ℕ, Bool, eqb, Option, None}
 use Rattle.refusal.specs.Answer.{Answer, value, refused, back_in_time, bad_record}
 use Rattle.refusal.specs.Cases.{choose, given, if_less}
-use Rattle.time.specs.declared.Deadline.{Deadline}
-use Rattle.time.specs.declared.Deadline.TheVariants as deadline
 use Rattle.time.specs.Time.{checked_add}
 use Rattle.policy.specs.declared.SchedulingParameters.{SchedulingParameters}
 use Rattle.policy.specs.declared.SchedulingPolicy.{SchedulingPolicy}
@@ -29,7 +27,7 @@ unfoldable pub of_budget : Answer BudgetRuntime → Answer PolicyRuntime
 of_budget (value r) = value (runtime.Budget r)
 of_budget (refused n) = refused n
 
-unfoldable pub of_budget_deadline : Answer (BudgetRuntime × Deadline) → Answer (PolicyRuntime × Deadline)
+unfoldable pub of_budget_deadline : Answer (BudgetRuntime × Option ℕ) → Answer (PolicyRuntime × Option ℕ)
 of_budget_deadline (value r) = value (runtime.Budget r.0, r.1)
 of_budget_deadline (refused n) = refused n
 
@@ -97,16 +95,16 @@ candidate_key r p turn =
 
 -- The algorithm's own deadline: a fair slice's end, or a budget's, which is refreshed; none without competition.
 unfoldable pub next_deadline : PolicyRuntime → ℕ → SchedulingParameters → Bool → Bool
-    → Answer (PolicyRuntime × Deadline)
+    → Answer (PolicyRuntime × Option ℕ)
 next_deadline r now p competition borrow =
     choose competition
     (on_runtime r
-    (value (r, deadline.None))
+    (value (r, None))
     (λ fair. given (checked_add now fair.remaining_ns) (λ due. value (runtime.Fair fair, due)))
-    (λ b. on_budget p.budget (value (runtime.Budget b, deadline.None))
+    (λ b. on_budget p.budget (value (runtime.Budget b, None))
     (λ q. of_budget_deadline (budget.deadline_judged b now q borrow)))
-    (value (r, deadline.None)))
-    (value (r, deadline.None))
+    (value (r, None)))
+    (value (r, None))
 
 -- A turn that ends opens a budget's burst again; every other runtime is as it was (SPECIFICATION 2.7).
 unfoldable pub turn_finished : PolicyRuntime → SchedulingParameters → Answer PolicyRuntime

@@ -1,8 +1,7 @@
 -- Laws for going by a runtime's kind, and by what a `BudgetRuntime` call answered.
-use Rattle.std.specs.Prelude.{ℕ, ◌≡◌, eqb}
+use Rattle.std.specs.Prelude.{ℕ, ◌≡◌, eqb, Option}
 use Rattle.std.proofs.Common.{sym}
 use Rattle.refusal.specs.Answer.{Answer}
-use Rattle.time.specs.declared.Deadline.{Deadline}
 use Rattle.policy.specs.declared.SchedulingPolicy.{SchedulingPolicy}
 use Rattle.budget.specs.declared.BudgetRuntime.{BudgetRuntime}
 use Rattle.algorithms.specs.declared.FairRuntime.{FairRuntime}
@@ -35,7 +34,7 @@ kinds_compared x p e f = rw (e, f)
 pub by_answer : {y : Answer PolicyRuntime} {r x : Answer BudgetRuntime} → r ≡ x → y ≡ of_budget r → y ≡ of_budget x
 by_answer e h = rw (sym e) h
 
-pub by_deadline : {y : Answer (PolicyRuntime × Deadline)} {r x : Answer (BudgetRuntime × Deadline)} → r ≡ x
+pub by_deadline : {y : Answer (PolicyRuntime × Option ℕ)} {r x : Answer (BudgetRuntime × Option ℕ)} → r ≡ x
     → y ≡ of_budget_deadline r → y ≡ of_budget_deadline x
 by_deadline e h = rw (sym e) h
 

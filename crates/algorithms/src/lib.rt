@@ -2,19 +2,18 @@
 #![tactic(auto)]
 
 ghost use Rattle.std.specs.Prelude.{◌≡◌};
-ghost use Rattle.budget.specs.Answers.{budget_answer, budget_deadline};
+ghost use Rattle.refusal.specs.Answer.{by_number};
 ghost use Rattle.algorithms.specs.Runtime.{of_budget, of_budget_deadline, made, accounted, epoch_refreshed};
 ghost use Rattle.algorithms.specs.Runtime.{candidate_key, next_deadline, turn_finished, runtime_kind, policy_kind};
 ghost use Rattle.algorithms.specs.Runtime.{same_kind, unless_back};
-ghost use Rattle.algorithms.specs.Answers.{runtime_answer, runtime_deadline};
 
-use budget::{BudgetAnswer, BudgetDeadline, BudgetRuntime};
-use policy::{BudgetOption, FairBackend, SchedulingParameters, SchedulingPolicy};
+use budget::BudgetRuntime;
+use policy::{FairBackend, SchedulingParameters, SchedulingPolicy};
 use refusal::Refusal;
-use time::{Deadline, checked_add};
+use time::checked_add;
 
 // A 128-bit number by its halves; the high one is compared first.
-#[derive(Clone, Copy)]
+#[derive(Clone, Copy, PartialEq, Eq, PartialOrd, Ord)]
 pub struct Wide {
     pub high: u64,
     pub low: u64,
@@ -42,92 +41,87 @@ pub struct RuntimeKey {
     pub turn: u64,
 }
 
-#[derive(Clone, Copy)]
-pub enum RuntimeAnswer {
-    Runtime(PolicyRuntime),
-    Refused(Refusal),
-}
-
-// The runtime afterwards with its deadline.
-#[derive(Clone, Copy)]
-pub enum RuntimeDeadline {
-    Deadline(PolicyRuntime, Deadline),
-    Refused(Refusal),
-}
-
-fn of_budget(answer: BudgetAnswer) -> RuntimeAnswer
-    ensures { runtime_answer result ≡ of_budget (budget_answer answer) }
+#[tactic(auto, unfolding(crate::specs::Runtime::of_budget))]
+fn of_budget(answer: Result<BudgetRuntime, Refusal>) -> Result<PolicyRuntime, Refusal>
+    ensures { by_number result ≡ of_budget (by_number answer) }
 {
-    match answer {
-        BudgetAnswer::Runtime(runtime) => RuntimeAnswer::Runtime(PolicyRuntime::Budget(runtime)),
-        BudgetAnswer::Refused(refusal) => RuntimeAnswer::Refused(refusal),
-    }
+    Ok(PolicyRuntime::Budget(answer?))
 }
 
-fn of_budget_deadline(answer: BudgetDeadline) -> RuntimeDeadline
-    ensures { runtime_deadline result ≡ of_budget_deadline (budget_deadline answer) }
+#[tactic(auto, unfolding(crate::specs::Runtime::of_budget_deadline))]
+fn of_budget_deadline(
+    answer: Result<(BudgetRuntime, Option<u64>), Refusal>,
+) -> Result<(PolicyRuntime, Option<u64>), Refusal>
+    ensures { by_number result ≡ of_budget_deadline (by_number answer) }
 {
-    match answer {
-        BudgetDeadline::Deadline(runtime, due) => RuntimeDeadline::Deadline(
-            PolicyRuntime::Budget(runtime),
-            due,
-        ),
-        BudgetDeadline::Refused(refusal) => RuntimeDeadline::Refused(refusal),
-    }
+    let (runtime, due) = answer?;
+    Ok((PolicyRuntime::Budget(runtime), due))
 }
 
 impl PolicyRuntime {
     // The runtime of a policy's kind; `fair` is what a fair thread starts with.
-    pub fn new(parameters: SchedulingParameters, fair: FairRuntime) -> RuntimeAnswer
-        ensures { runtime_answer result ≡ made parameters fair }
+    pub fn new(
+        parameters: SchedulingParameters,
+        fair: FairRuntime,
+    ) -> Result<PolicyRuntime, Refusal>
+        ensures { by_number result ≡ made parameters fair }
     {
         let policy = parameters.policy;
         let budget = parameters.budget;
         match policy {
-            SchedulingPolicy::Fifo { priority: _ } => RuntimeAnswer::Runtime(PolicyRuntime::Fifo),
-            SchedulingPolicy::Fair => RuntimeAnswer::Runtime(PolicyRuntime::Fair(fair)),
+            SchedulingPolicy::Fifo { priority: _ } => Ok(PolicyRuntime::Fifo),
+            SchedulingPolicy::Fair => Ok(PolicyRuntime::Fair(fair)),
             SchedulingPolicy::Budget => match budget {
-                BudgetOption::None => RuntimeAnswer::Refused(Refusal::BadRecord),
-                BudgetOption::Some(b) => of_budget(BudgetRuntime::new(b)),
+                None => Err(Refusal::BadRecord),
+                Some(b) => of_budget(BudgetRuntime::new(b)),
             },
-            SchedulingPolicy::Idle => RuntimeAnswer::Runtime(PolicyRuntime::Idle),
+            SchedulingPolicy::Idle => Ok(PolicyRuntime::Idle),
         }
     }
 
     // Closes one execution interval. A mismatch of policy and runtime is a BadRecord, before BackInTime.
-    pub fn account(self, parameters: SchedulingParameters, start: u64, end: u64) -> RuntimeAnswer
-        ensures { runtime_answer result ≡ accounted self parameters start end }
+    pub fn account(
+        self,
+        parameters: SchedulingParameters,
+        start: u64,
+        end: u64,
+    ) -> Result<PolicyRuntime, Refusal>
+        ensures { by_number result ≡ accounted self parameters start end }
     {
         let runtime = self;
         let policy = parameters.policy;
         let budget = parameters.budget;
         if !same_kind(runtime, policy) {
-            return RuntimeAnswer::Refused(Refusal::BadRecord);
+            return Err(Refusal::BadRecord);
         }
         match runtime {
             PolicyRuntime::Fifo => unless_back(runtime, start, end),
             PolicyRuntime::Fair(_) => unless_back(runtime, start, end),
             PolicyRuntime::Budget(b) => match budget {
-                BudgetOption::None => RuntimeAnswer::Refused(Refusal::BadRecord),
-                BudgetOption::Some(p) => of_budget(b.account_interval(start, end, p)),
+                None => Err(Refusal::BadRecord),
+                Some(p) => of_budget(b.account_interval(start, end, p)),
             },
             PolicyRuntime::Idle => unless_back(runtime, start, end),
         }
     }
 
-    pub fn epoch_refresh(self, now: u64, parameters: SchedulingParameters) -> RuntimeAnswer
-        ensures { runtime_answer result ≡ epoch_refreshed self now parameters }
+    pub fn epoch_refresh(
+        self,
+        now: u64,
+        parameters: SchedulingParameters,
+    ) -> Result<PolicyRuntime, Refusal>
+        ensures { by_number result ≡ epoch_refreshed self now parameters }
     {
         let runtime = self;
         let budget = parameters.budget;
         match runtime {
-            PolicyRuntime::Fifo => RuntimeAnswer::Runtime(runtime),
-            PolicyRuntime::Fair(_) => RuntimeAnswer::Runtime(runtime),
+            PolicyRuntime::Fifo => Ok(runtime),
+            PolicyRuntime::Fair(_) => Ok(runtime),
             PolicyRuntime::Budget(b) => match budget {
-                BudgetOption::None => RuntimeAnswer::Runtime(runtime),
-                BudgetOption::Some(p) => of_budget(b.refresh(now, p)),
+                None => Ok(runtime),
+                Some(p) => of_budget(b.refresh(now, p)),
             },
-            PolicyRuntime::Idle => RuntimeAnswer::Runtime(runtime),
+            PolicyRuntime::Idle => Ok(runtime),
         }
     }
 
@@ -159,82 +153,65 @@ impl PolicyRuntime {
         parameters: SchedulingParameters,
         competition: bool,
         borrow: bool,
-    ) -> RuntimeDeadline
-        ensures { runtime_deadline result ≡ next_deadline self now parameters competition borrow }
+    ) -> Result<(PolicyRuntime, Option<u64>), Refusal>
+        ensures { by_number result ≡ next_deadline self now parameters competition borrow }
     {
         let runtime = self;
         let budget = parameters.budget;
         if !competition {
-            return RuntimeDeadline::Deadline(runtime, Deadline::None);
+            return Ok((runtime, None));
         }
         match runtime {
-            PolicyRuntime::Fifo => RuntimeDeadline::Deadline(runtime, Deadline::None),
-            PolicyRuntime::Fair(fair) => RuntimeDeadline::Deadline(
-                runtime,
-                checked_add(now, fair.remaining_ns),
-            ),
+            PolicyRuntime::Fifo => Ok((runtime, None)),
+            PolicyRuntime::Fair(fair) => Ok((runtime, checked_add(now, fair.remaining_ns))),
             PolicyRuntime::Budget(b) => match budget {
-                BudgetOption::None => RuntimeDeadline::Deadline(runtime, Deadline::None),
-                BudgetOption::Some(p) => of_budget_deadline(b.deadline(now, p, borrow)),
+                None => Ok((runtime, None)),
+                Some(p) => of_budget_deadline(b.deadline(now, p, borrow)),
             },
-            PolicyRuntime::Idle => RuntimeDeadline::Deadline(runtime, Deadline::None),
+            PolicyRuntime::Idle => Ok((runtime, None)),
         }
     }
 
     // A turn ends: a budget's burst is whole again, a fair thread's values stay as they are given.
-    pub fn finish_turn(self, parameters: SchedulingParameters) -> RuntimeAnswer
-        ensures { runtime_answer result ≡ turn_finished self parameters }
+    pub fn finish_turn(self, parameters: SchedulingParameters) -> Result<PolicyRuntime, Refusal>
+        ensures { by_number result ≡ turn_finished self parameters }
     {
         let runtime = self;
         let budget = parameters.budget;
         match runtime {
-            PolicyRuntime::Fifo => RuntimeAnswer::Runtime(runtime),
-            PolicyRuntime::Fair(_) => RuntimeAnswer::Runtime(runtime),
+            PolicyRuntime::Fifo => Ok(runtime),
+            PolicyRuntime::Fair(_) => Ok(runtime),
             PolicyRuntime::Budget(b) => match budget {
-                BudgetOption::None => RuntimeAnswer::Runtime(runtime),
-                BudgetOption::Some(p) => of_budget(b.finish_turn(p)),
+                None => Ok(runtime),
+                Some(p) => of_budget(b.finish_turn(p)),
             },
-            PolicyRuntime::Idle => RuntimeAnswer::Runtime(runtime),
+            PolicyRuntime::Idle => Ok(runtime),
         }
     }
 }
 
 // Accounting that leaves the runtime as it is.
-fn unless_back(runtime: PolicyRuntime, start: u64, end: u64) -> RuntimeAnswer
-    ensures { runtime_answer result ≡ unless_back runtime start end }
+fn unless_back(runtime: PolicyRuntime, start: u64, end: u64) -> Result<PolicyRuntime, Refusal>
+    ensures { by_number result ≡ unless_back runtime start end }
 {
     if end < start {
-        return RuntimeAnswer::Refused(Refusal::BackInTime);
+        return Err(Refusal::BackInTime);
     }
-    RuntimeAnswer::Runtime(runtime)
-}
-
-// FIFO, Fair, Budget and Idle as 0 to 3.
-fn kind_of_runtime(runtime: PolicyRuntime) -> u8
-    ensures { result ≡ runtime_kind runtime }
-{
-    match runtime {
-        PolicyRuntime::Fifo => 0,
-        PolicyRuntime::Fair(_) => 1,
-        PolicyRuntime::Budget(_) => 2,
-        PolicyRuntime::Idle => 3,
-    }
-}
-
-fn kind_of_policy(policy: SchedulingPolicy) -> u8
-    ensures { result ≡ policy_kind policy }
-{
-    match policy {
-        SchedulingPolicy::Fifo { priority: _ } => 0,
-        SchedulingPolicy::Fair => 1,
-        SchedulingPolicy::Budget => 2,
-        SchedulingPolicy::Idle => 3,
-    }
+    Ok(runtime)
 }
 
 // Whether the runtime is of the policy's kind.
+#[tactic(auto,
+// The definitions that are opened.
+unfolding(crate::specs::Runtime::same_kind, crate::specs::Runtime::runtime_kind, crate::specs::Runtime::policy_kind))]
 pub fn same_kind(runtime: PolicyRuntime, policy: SchedulingPolicy) -> bool
     ensures { result ≡ same_kind runtime policy }
 {
-    kind_of_runtime(runtime) == kind_of_policy(policy)
+    match (runtime, policy) {
+        (PolicyRuntime::Fifo, SchedulingPolicy::Fifo { .. }) => true,
+        (PolicyRuntime::Fair(_), SchedulingPolicy::Fair) => true,
+        (PolicyRuntime::Budget(_), SchedulingPolicy::Budget) => true,
+        (PolicyRuntime::Idle, SchedulingPolicy::Idle) => true,
+        _ => false,
+    }
 }

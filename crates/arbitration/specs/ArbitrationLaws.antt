@@ -1,15 +1,12 @@
 -- Laws for going by a mode and by a candidate's algorithm, of a refresh, and of what is charged.
-use Rattle.std.specs.Prelude.{ℕ, ◌-◌, ◌/◌, ◌≡◌, refl, Bool, true, false}
+use Rattle.std.specs.Prelude.{ℕ, ◌-◌, ◌/◌, ◌≡◌, refl, Bool, true, false, Option, Some, None}
 use Rattle.std.proofs.Common.{sym, ◌∙◌}
 use Rattle.refusal.specs.Cases.{choose, given}
-use Rattle.time.specs.declared.Epoch.TheVariants as epoch
 use Rattle.time.specs.Time.{rises, charge_of}
 use Rattle.policy.specs.declared.SchedulingParameters.{SchedulingParameters}
 use Rattle.arbitration.specs.declared.CpuWindow.{CpuWindow}
 use Rattle.arbitration.specs.declared.DispatchMode.{DispatchMode}
 use Rattle.arbitration.specs.declared.DispatchMode.TheVariants as mode
-use Rattle.arbitration.specs.declared.AlgorithmOption.{AlgorithmOption}
-use Rattle.arbitration.specs.declared.AlgorithmOption.TheVariants as algorithm
 use Rattle.arbitration.specs.declared.Algorithm.{Algorithm}
 use Rattle.arbitration.specs.Window.{on_mode, refreshed, uses_allowance, is_protected, charged}
 use Rattle.arbitration.specs.Key.{on_algorithm}
@@ -44,7 +41,7 @@ refreshed_config w now = go (rises w.epoch (now / w.config.period_ns))
         → (choose x
         (record {
           config = w.config;
-          epoch = epoch.Some (now / w.config.period_ns);
+          epoch = Some (now / w.config.period_ns);
           priority_remaining_ns = w.config.priority_allowance_ns;
           protected_remaining_ns = w.config.protected_floor_ns;
         })
@@ -69,12 +66,12 @@ pub charged_parts : (w : CpuWindow) (start end : ℕ) (p : SchedulingParameters)
 unfolding charged
 charged_parts w start end p m e f g h i j k l = rw (k, l, i, j, f, g, h, e)
 
-module _ {A : Type 0} {y : A} {r x : AlgorithmOption} (a : A) (f : Algorithm → A) where
-  pub no_algorithm : r ≡ x → r ≡ algorithm.None → y ≡ a → y ≡ on_algorithm x a f
+module _ {A : Type 0} {y : A} {r x : Option Algorithm} (a : A) (f : Algorithm → A) where
+  pub no_algorithm : r ≡ x → r ≡ None → y ≡ a → y ≡ on_algorithm x a f
   unfolding on_algorithm
   no_algorithm e m h = rw (sym e ∙ m) h
 
-  pub some_algorithm : {v : Algorithm} → r ≡ x → r ≡ algorithm.Some v → y ≡ f v → y ≡ on_algorithm x a f
+  pub some_algorithm : {v : Algorithm} → r ≡ x → r ≡ Some v → y ≡ f v → y ≡ on_algorithm x a f
   unfolding on_algorithm
   some_algorithm e m h = rw (sym e ∙ m) h
 

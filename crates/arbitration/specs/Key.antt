@@ -1,5 +1,5 @@
 -- Dispatch keys: the key that a refreshed window gives a candidate. After arbitration.rs.
-use Rattle.std.specs.Prelude.{ℕ, Bool, true, false, not}
+use Rattle.std.specs.Prelude.{ℕ, Bool, true, false, not, Option, Some, None}
 use Rattle.refusal.specs.Cases.{choose, given, if_equal}
 use Rattle.policy.specs.PolicyCases.{on_policy, on_role, on_backend}
 use Rattle.policy.specs.declared.SchedulingPolicy.{SchedulingPolicy}
@@ -13,13 +13,11 @@ pub use Rattle.dispatch_keys.specs.Keys.{key_parts}
 unfoldable pub use Rattle.dispatch_keys.specs.Keys.{compare_keys}
 use Rattle.arbitration.specs.declared.DispatchMode.TheVariants as mode
 use Rattle.arbitration.specs.declared.Tier.{Tier}
-use Rattle.arbitration.specs.declared.AlgorithmOption.{AlgorithmOption}
-use Rattle.arbitration.specs.declared.AlgorithmOption.TheVariants as algorithm
 use Rattle.arbitration.specs.declared.Algorithm.{Algorithm}
-use Rattle.arbitration.specs.declared.KeyOption.{KeyOption}
-use Rattle.arbitration.specs.declared.KeyOption.TheVariants as key
 use Rattle.window_config.specs.Config.{accepts_budget}
 use Rattle.arbitration.specs.Window.{is_priority, is_protected, due_at}
+use Rattle.dispatch_keys.specs.declared.DispatchKey.{DispatchKey}
+use Rattle.arbitration.specs.declared.DispatchMode.{DispatchMode}
 
 -- A Budget thread with no time left.
 unfoldable pub exhausted_of : Candidate → Bool
@@ -46,20 +44,20 @@ favoured w p =
 
 -- The algorithm's rank, and its key: the priority for FIFO, the pass for Stride, otherwise the turn. None for Idle.
 -- (SPECIFICATION 4.4).
-unfoldable pub algorithm_of : Candidate → AlgorithmOption
+unfoldable pub algorithm_of : Candidate → Option Algorithm
 algorithm_of c =
     on_policy c.parameters.policy
     (λ priority. given priority.0
-    (λ number. algorithm.Some (record { rank = 0; key = record { high = 0; low = number } })))
+    (λ number. Some (record { rank = 0; key = record { high = 0; low = number } })))
     (on_backend c.parameters.fair_backend
-    (algorithm.Some (record { rank = 1; key = c.fair_pass }))
-    (algorithm.Some (record { rank = 1; key = record { high = 0; low = c.turn } })))
-    (algorithm.Some (record { rank = 2; key = record { high = 0; low = c.turn } }))
-    algorithm.None
+    (Some (record { rank = 1; key = c.fair_pass }))
+    (Some (record { rank = 1; key = record { high = 0; low = c.turn } })))
+    (Some (record { rank = 2; key = record { high = 0; low = c.turn } }))
+    None
 
-unfoldable pub on_algorithm : {A : Type 0} → AlgorithmOption → A → (Algorithm → A) → A
-on_algorithm algorithm.None a f = a
-on_algorithm (algorithm.Some x) a f = f x
+unfoldable pub on_algorithm : {A : Type 0} → Option Algorithm → A → (Algorithm → A) → A
+on_algorithm None a f = a
+on_algorithm (Some x) a f = f x
 
 -- The rank of a thread that nothing hurries, favours or shuts out: a Budget thread's, or that of the others.
 unfoldable pub ordinary_rank : SchedulingPolicy → ArbitrationOrder → ℕ
@@ -78,21 +76,22 @@ tier_of w now p exhausted d =
 
 -- The key and mode of a candidate, of a window that is refreshed to now; none for Idle, for a budget of another period,
 -- and for an exhausted thread that is shut out (SPECIFICATION 4.2).
-unfoldable pub key_of : CpuWindow → ℕ → Candidate → Demand → KeyOption
+unfoldable pub key_of : CpuWindow → ℕ → Candidate → Demand → Option (DispatchKey × DispatchMode)
 key_of w now c d =
     choose (accepts_budget w.config c.parameters)
     (given (exhausted_of c)
-    (λ exhausted. choose (shut_out exhausted d) key.None
-    (on_algorithm (algorithm_of c) key.None
+    (λ exhausted. choose (shut_out exhausted d) None
+    (on_algorithm (algorithm_of c) None
     (λ a. given (tier_of w now c.parameters exhausted d)
-    (λ t. key.Some
-    (record {
-      urgency = t.urgency;
-      rank = t.rank;
-      algorithm_rank = a.rank;
-      algorithm = a.key;
-      band = c.parameters.band.0;
-      turn = c.turn;
-    })
-    t.mode)))))
-    key.None
+    (λ t. Some (
+      (record {
+        urgency = t.urgency;
+        rank = t.rank;
+        algorithm_rank = a.rank;
+        algorithm = a.key;
+        band = c.parameters.band.0;
+        turn = c.turn;
+      }),
+      t.mode,
+    ))))))
+    None

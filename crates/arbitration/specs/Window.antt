@@ -1,10 +1,7 @@
 -- What a CPU window does with time: refresh, charge, deadlines. After arbitration.rs.
-use Rattle.std.specs.Prelude.{ℕ, ◌-◌, ◌/◌, max, Bool, true, false, eqb}
+use Rattle.std.specs.Prelude.{ℕ, ◌-◌, ◌/◌, max, Bool, true, false, eqb, Option, Some, None}
 use Rattle.refusal.specs.Answer.{Answer, value, refused, bad_config}
 use Rattle.refusal.specs.Cases.{choose, given, if_equal}
-use Rattle.time.specs.declared.Epoch.TheVariants as epoch
-use Rattle.time.specs.declared.Deadline.{Deadline}
-use Rattle.time.specs.declared.Deadline.TheVariants as deadline
 use Rattle.time.specs.Time.{rises, charge_of, checked_add, period_end, earliest_of, on_deadline}
 use Rattle.policy.specs.PolicyCases.{on_role}
 use Rattle.policy.specs.declared.SchedulingRole.{SchedulingRole}
@@ -22,7 +19,7 @@ new_window c =
     choose (sound_config c)
     (value (record {
       config = c;
-      epoch = epoch.None;
+      epoch = None;
       priority_remaining_ns = c.priority_allowance_ns;
       protected_remaining_ns = c.protected_floor_ns;
     }))
@@ -35,7 +32,7 @@ refreshed w now =
     (λ now_epoch. choose (rises w.epoch now_epoch)
     (record {
       config = w.config;
-      epoch = epoch.Some now_epoch;
+      epoch = Some now_epoch;
       priority_remaining_ns = w.config.priority_allowance_ns;
       protected_remaining_ns = w.config.protected_floor_ns;
     })
@@ -76,31 +73,31 @@ charged w start end p m =
 
 -- Of a refreshed window: the latest start that still gives waiting protected threads their floor, or now where that is
 -- past (SPECIFICATION 3.4).
-unfoldable pub protection_deadline : CpuWindow → ℕ → Bool → Deadline
+unfoldable pub protection_deadline : CpuWindow → ℕ → Bool → Option ℕ
 protection_deadline w now waiting =
     choose waiting
-    (if_equal w.protected_remaining_ns 0 deadline.None
-    (on_deadline (period_end now w.config.period_ns) deadline.None
-    (λ end. given (end - w.protected_remaining_ns) (λ latest. given (max latest now) deadline.Some))))
-    deadline.None
+    (if_equal w.protected_remaining_ns 0 None
+    (on_deadline (period_end now w.config.period_ns) None
+    (λ end. given (end - w.protected_remaining_ns) (λ latest. given (max latest now) Some))))
+    None
 
 -- Due: the protection deadline is now (SPECIFICATION 3.4).
 unfoldable pub due_at : CpuWindow → ℕ → Bool → Bool
 due_at w now waiting = on_deadline (protection_deadline w now waiting) false (λ t. eqb t now)
 
 -- The period's end bears on demand whose eligibility a new window can change.
-unfoldable pub at_renewal : Demand → Deadline → Deadline
-at_renewal d end = choose d.any_budget end (choose d.window_sensitive end deadline.None)
+unfoldable pub at_renewal : Demand → Option ℕ → Option ℕ
+at_renewal d end = choose d.any_budget end (choose d.window_sensitive end None)
 
 -- Of a refreshed window with competition: the earliest of the period's end, what the mode has left, and the protection
 -- deadline (SPECIFICATION 10.6).
-unfoldable pub next_deadline : CpuWindow → ℕ → DispatchMode → Demand → Deadline
+unfoldable pub next_deadline : CpuWindow → ℕ → DispatchMode → Demand → Option ℕ
 next_deadline w now m d =
     given (period_end now w.config.period_ns)
     (λ end. given (at_renewal d end)
     (λ period. given (protection_deadline w now d.protected)
     (λ protection. on_mode m
-    deadline.None
+    None
     (given (checked_add now w.priority_remaining_ns)
     (λ spent. given (earliest_of period spent) (λ first. earliest_of first protection)))
     (given (checked_add now w.protected_remaining_ns) (λ spent. earliest_of period spent))

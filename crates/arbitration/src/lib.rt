@@ -5,15 +5,15 @@
 mod tests;
 
 ghost use Rattle.std.specs.Prelude.{◌≡◌};
+ghost use Rattle.refusal.specs.Answer.{by_number};
 ghost use Rattle.arbitration.specs.Window.{new_window, refreshed, charged, protection_deadline, due_at};
 ghost use Rattle.arbitration.specs.Window.{next_deadline};
 ghost use Rattle.arbitration.specs.Key.{tier_of, key_of};
 ghost use Rattle.arbitration.specs.Calls.{refresh_call, account_call, period_deadline_call, protection_call, key_call};
 ghost use Rattle.arbitration.specs.Calls.{next_deadline_call};
-ghost use Rattle.arbitration.specs.Answers.{window_made, window_step, window_deadline, window_key};
+ghost use Rattle.arbitration.specs.Answers.{window_step, window_deadline, window_key};
 
 use algorithms::Wide;
-use budget::DeadlineAnswer;
 use dispatch_keys::DispatchKey;
 use policy::SchedulingParameters;
 use refusal::Refusal;
@@ -22,10 +22,7 @@ use tests::{
     algorithm_of, at_renewal, charge_if, is_exhausted, is_favoured, is_hurried, is_shut_out,
     is_strict_fifo, ordinary_rank, uses_allowance,
 };
-use time::{
-    Deadline, Epoch, charge_of, checked_add, earliest, epoch_of, epoch_rises, max_of, period_end,
-    saturating_sub,
-};
+use time::{charge_of, checked_add, earliest, epoch_of, epoch_rises, period_end};
 use window_config::ArbitrationConfig;
 
 // What the runnable threads ask for, the running one included.
@@ -72,72 +69,41 @@ struct Algorithm {
 }
 
 #[derive(Clone, Copy)]
-enum AlgorithmOption {
-    None,
-    Some(Algorithm),
-}
-
-#[derive(Clone, Copy)]
-pub enum KeyOption {
-    None,
-    Some(DispatchKey, DispatchMode),
-}
-
-#[derive(Clone, Copy)]
 pub struct CpuWindow {
     pub config: ArbitrationConfig,
-    pub epoch: Epoch,
+    pub epoch: Option<u64>,
     pub priority_remaining_ns: u64,
     pub protected_remaining_ns: u64,
 }
 
-// Whether a call was taken.
-#[derive(Clone, Copy)]
-pub enum Verdict {
-    Accepted,
-    Refused(Refusal),
-}
-
-#[derive(Clone, Copy)]
-pub enum WindowMade {
-    Made(CpuWindow),
-    Refused(Refusal),
-}
-
 #[derive(Clone, Copy)]
 pub struct WindowStep {
-    pub answer: Verdict,
+    pub answer: Result<(), Refusal>,
     pub window: CpuWindow,
 }
 
 #[derive(Clone, Copy)]
 pub struct WindowDeadline {
-    pub answer: DeadlineAnswer,
+    pub answer: Result<Option<u64>, Refusal>,
     pub window: CpuWindow,
-}
-
-#[derive(Clone, Copy)]
-pub enum KeyAnswer {
-    Key(KeyOption),
-    Refused(Refusal),
 }
 
 #[derive(Clone, Copy)]
 pub struct WindowKey {
-    pub answer: KeyAnswer,
+    pub answer: Result<Option<(DispatchKey, DispatchMode)>, Refusal>,
     pub window: CpuWindow,
 }
 
 impl CpuWindow {
-    pub fn new(config: ArbitrationConfig) -> WindowMade
-        ensures { window_made result ≡ new_window config }
+    pub fn new(config: ArbitrationConfig) -> Result<CpuWindow, Refusal>
+        ensures { by_number result ≡ new_window config }
     {
         if !config.is_sound() {
-            return WindowMade::Refused(Refusal::BadConfig);
+            return Err(Refusal::BadConfig);
         }
-        WindowMade::Made(Self {
+        Ok(Self {
             config,
-            epoch: Epoch::None,
+            epoch: None,
             priority_remaining_ns: config.priority_allowance_ns,
             protected_remaining_ns: config.protected_floor_ns,
         })
@@ -162,7 +128,7 @@ impl CpuWindow {
         }
         Self {
             config,
-            epoch: Epoch::Some(epoch),
+            epoch: Some(epoch),
             priority_remaining_ns: config.priority_allowance_ns,
             protected_remaining_ns: config.protected_floor_ns,
         }
@@ -174,12 +140,12 @@ impl CpuWindow {
     {
         if !self.config.is_sound() {
             return WindowStep {
-                answer: Verdict::Refused(Refusal::BadConfig),
+                answer: Err(Refusal::BadConfig),
                 window: self,
             };
         }
         WindowStep {
-            answer: Verdict::Accepted,
+            answer: Ok(()),
             window: self.refreshed(now),
         }
     }
@@ -203,8 +169,10 @@ impl CpuWindow {
         Self {
             config,
             epoch,
-            priority_remaining_ns: saturating_sub(fresh.priority_remaining_ns, priority_charge),
-            protected_remaining_ns: saturating_sub(fresh.protected_remaining_ns, protected_charge),
+            priority_remaining_ns: fresh.priority_remaining_ns.saturating_sub(priority_charge),
+            protected_remaining_ns: fresh
+                .protected_remaining_ns
+                .saturating_sub(protected_charge),
         }
     }
 
@@ -220,18 +188,18 @@ impl CpuWindow {
     {
         if !self.config.is_sound() {
             return WindowStep {
-                answer: Verdict::Refused(Refusal::BadConfig),
+                answer: Err(Refusal::BadConfig),
                 window: self,
             };
         }
         if end < start {
             return WindowStep {
-                answer: Verdict::Refused(Refusal::BackInTime),
+                answer: Err(Refusal::BackInTime),
                 window: self,
             };
         }
         WindowStep {
-            answer: Verdict::Accepted,
+            answer: Ok(()),
             window: self.charged(start, end, parameters, mode),
         }
     }
@@ -242,32 +210,32 @@ impl CpuWindow {
         let config = self.config;
         if !config.is_sound() {
             return WindowDeadline {
-                answer: DeadlineAnswer::Refused(Refusal::BadConfig),
+                answer: Err(Refusal::BadConfig),
                 window: self,
             };
         }
         WindowDeadline {
-            answer: DeadlineAnswer::Deadline(period_end(now, config.period_ns)),
+            answer: Ok(period_end(now, config.period_ns)),
             window: self,
         }
     }
 
     // Of a window that is refreshed to now: when the waiting protected threads must run to get their floor.
-    fn protection(self, now: u64, protected_waiting: bool) -> Deadline
+    fn protection(self, now: u64, protected_waiting: bool) -> Option<u64>
         ensures { result ≡ protection_deadline self now protected_waiting }
     {
         let config = self.config;
         if !protected_waiting {
-            return Deadline::None;
+            return None;
         }
         if self.protected_remaining_ns == 0 {
-            return Deadline::None;
+            return None;
         }
-        let Deadline::Some(end) = period_end(now, config.period_ns) else {
-            return Deadline::None;
+        let Some(end) = period_end(now, config.period_ns) else {
+            return None;
         };
-        let latest = saturating_sub(end, self.protected_remaining_ns);
-        Deadline::Some(max_of(latest, now))
+        let latest = end.saturating_sub(self.protected_remaining_ns);
+        Some(latest.max(now))
     }
 
     pub fn protection_deadline(self, now: u64, protected_waiting: bool) -> WindowDeadline
@@ -275,13 +243,13 @@ impl CpuWindow {
     {
         if !self.config.is_sound() {
             return WindowDeadline {
-                answer: DeadlineAnswer::Refused(Refusal::BadConfig),
+                answer: Err(Refusal::BadConfig),
                 window: self,
             };
         }
         let fresh = self.refreshed(now);
         WindowDeadline {
-            answer: DeadlineAnswer::Deadline(fresh.protection(now, protected_waiting)),
+            answer: Ok(fresh.protection(now, protected_waiting)),
             window: fresh,
         }
     }
@@ -289,7 +257,7 @@ impl CpuWindow {
     fn is_due(self, now: u64, protected_waiting: bool) -> bool
         ensures { result ≡ due_at self now protected_waiting }
     {
-        let Deadline::Some(deadline) = self.protection(now, protected_waiting) else {
+        let Some(deadline) = self.protection(now, protected_waiting) else {
             return false;
         };
         deadline == now
@@ -345,25 +313,29 @@ impl CpuWindow {
     }
 
     // `candidate_key` of a window that is refreshed to now.
-    pub fn key(self, now: u64, candidate: Candidate, demand: Demand) -> KeyOption
+    pub fn key(
+        self,
+        now: u64,
+        candidate: Candidate,
+        demand: Demand,
+    ) -> Option<(DispatchKey, DispatchMode)>
         ensures { result ≡ key_of self now candidate demand }
     {
         let config = self.config;
         let parameters = candidate.parameters;
         let band = parameters.band;
         if !config.accepts(parameters) {
-            return KeyOption::None;
+            return None;
         }
         let policy = parameters.policy;
         let exhausted = is_exhausted(policy, candidate.budget_available);
         if is_shut_out(exhausted, demand) {
-            return KeyOption::None;
+            return None;
         }
         let backend = parameters.fair_backend;
         let pass = candidate.fair_pass;
-        let AlgorithmOption::Some(algorithm) = algorithm_of(policy, backend, pass, candidate.turn)
-        else {
-            return KeyOption::None;
+        let Some(algorithm) = algorithm_of(policy, backend, pass, candidate.turn) else {
+            return None;
         };
         let tier = self.tier(now, parameters, exhausted, demand);
         let local = algorithm.key;
@@ -376,7 +348,7 @@ impl CpuWindow {
             band: band.0,
             turn: candidate.turn,
         };
-        KeyOption::Some(key, mode)
+        Some((key, mode))
     }
 
     pub fn candidate_key(self, now: u64, candidate: Candidate, demand: Demand) -> WindowKey
@@ -384,26 +356,26 @@ impl CpuWindow {
     {
         if !self.config.is_sound() {
             return WindowKey {
-                answer: KeyAnswer::Refused(Refusal::BadConfig),
+                answer: Err(Refusal::BadConfig),
                 window: self,
             };
         }
         let fresh = self.refreshed(now);
         WindowKey {
-            answer: KeyAnswer::Key(fresh.key(now, candidate, demand)),
+            answer: Ok(fresh.key(now, candidate, demand)),
             window: fresh,
         }
     }
 
     // Of a window that is refreshed to now, with competition.
-    fn next(self, now: u64, mode: DispatchMode, demand: Demand) -> Deadline
+    fn next(self, now: u64, mode: DispatchMode, demand: Demand) -> Option<u64>
         ensures { result ≡ next_deadline self now mode demand }
     {
         let config = self.config;
         let period = at_renewal(demand, period_end(now, config.period_ns));
         let protection = self.protection(now, demand.protected);
         match mode {
-            DispatchMode::StrictFifo => Deadline::None,
+            DispatchMode::StrictFifo => None,
             DispatchMode::Priority => earliest(
                 earliest(period, checked_add(now, self.priority_remaining_ns)),
                 protection,
@@ -429,19 +401,19 @@ impl CpuWindow {
     {
         if !self.config.is_sound() {
             return WindowDeadline {
-                answer: DeadlineAnswer::Refused(Refusal::BadConfig),
+                answer: Err(Refusal::BadConfig),
                 window: self,
             };
         }
         let fresh = self.refreshed(now);
         if !competition {
             return WindowDeadline {
-                answer: DeadlineAnswer::Deadline(Deadline::None),
+                answer: Ok(None),
                 window: fresh,
             };
         }
         WindowDeadline {
-            answer: DeadlineAnswer::Deadline(fresh.next(now, mode, demand)),
+            answer: Ok(fresh.next(now, mode, demand)),
             window: fresh,
         }
     }

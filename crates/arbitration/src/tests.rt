@@ -1,15 +1,14 @@
 // The tests of a thread's role, policy and demand that keys, charges and deadlines go by. They take the parts that they
 // look at, not whole parameters or candidates: a struct with many fields is dear at each step of a function's proof.
-ghost use Rattle.std.specs.Prelude.{◌≡◌, true, false, not};
+ghost use Rattle.std.specs.Prelude.{◌≡◌, true, false, not, Some, None};
 ghost use Rattle.refusal.specs.Cases.{choose, given, if_equal};
 ghost use Rattle.policy.specs.PolicyCases.{on_policy, on_role, on_backend};
 ghost use Rattle.arbitration.specs.Window.{is_priority, is_protected, uses_allowance, at_renewal};
 ghost use Rattle.arbitration.specs.Key.{shut_out, hurried, ordinary_rank};
 
-use crate::{Algorithm, AlgorithmOption, Demand, DispatchMode};
+use crate::{Algorithm, Demand, DispatchMode};
 use algorithms::Wide;
 use policy::{FairBackend, SchedulingPolicy, SchedulingRole};
-use time::Deadline;
 use window_config::ArbitrationOrder;
 
 // An exhausted thread runs only where nobody else can.
@@ -81,7 +80,7 @@ pub fn charge_if(charged: bool, charge: u64) -> u64
 }
 
 // The period's end bears on demand whose eligibility a new window can change.
-pub fn at_renewal(demand: Demand, period_end: Deadline) -> Deadline
+pub fn at_renewal(demand: Demand, period_end: Option<u64>) -> Option<u64>
     ensures { result ≡ at_renewal demand period_end }
 {
     if demand.any_budget {
@@ -90,7 +89,7 @@ pub fn at_renewal(demand: Demand, period_end: Deadline) -> Deadline
     if demand.window_sensitive {
         return period_end;
     }
-    Deadline::None
+    None
 }
 
 // A protected thread that is due, unless it has spent its own budget.
@@ -153,10 +152,10 @@ pub fn is_favoured(
     }
 }
 
-fn algorithm(rank: u8, high: u64, low: u64) -> AlgorithmOption
-    ensures { result ≡ AlgorithmOption.Some (record { rank = rank; key = record { high = high; low = low } }) }
+fn algorithm(rank: u8, high: u64, low: u64) -> Option<Algorithm>
+    ensures { result ≡ Some (record { rank = rank; key = record { high = high; low = low } }) }
 {
-    AlgorithmOption::Some(Algorithm {
+    Some(Algorithm {
         rank,
         key: Wide { high, low },
     })
@@ -169,13 +168,13 @@ pub fn algorithm_of(
     backend: FairBackend,
     pass: Wide,
     turn: u64,
-) -> AlgorithmOption
+) -> Option<Algorithm>
     ensures { result ≡ on_policy policy
         (λ priority. given priority.0
-        (λ number. AlgorithmOption.Some (record { rank = 0; key = record { high = 0; low = number } })))
-        (on_backend backend (AlgorithmOption.Some (record { rank = 1; key = pass }))
-        (AlgorithmOption.Some (record { rank = 1; key = record { high = 0; low = turn } })))
-        (AlgorithmOption.Some (record { rank = 2; key = record { high = 0; low = turn } })) AlgorithmOption.None }
+        (λ number. Some (record { rank = 0; key = record { high = 0; low = number } })))
+        (on_backend backend (Some (record { rank = 1; key = pass }))
+        (Some (record { rank = 1; key = record { high = 0; low = turn } })))
+        (Some (record { rank = 2; key = record { high = 0; low = turn } })) None }
 {
     match policy {
         SchedulingPolicy::Fifo { priority } => algorithm(0, 0, of_byte(priority.0)),
@@ -184,7 +183,7 @@ pub fn algorithm_of(
             FairBackend::RoundRobin => algorithm(1, 0, turn),
         },
         SchedulingPolicy::Budget => algorithm(2, 0, turn),
-        SchedulingPolicy::Idle => AlgorithmOption::None,
+        SchedulingPolicy::Idle => None,
     }
 }
 

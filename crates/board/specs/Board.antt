@@ -1,14 +1,11 @@
 -- What a call on lent words leaves: document 01's number, 0 where it was made, and what the lent words stand for. A
 -- refusal leaves an answer's words standing for what they stood for.
-use Rattle.std.specs.Prelude.{ℕ, ◌≡◌, Bool, ◌≢◌, List}
-use Rattle.std.proofs.Math.Option.{Option, none, some}
+use Rattle.std.specs.Prelude.{ℕ, ◌≡◌, Bool, ◌≢◌, List, Option, Some, None}
 use Rattle.refusal.specs.Answer.{Answer, value, refused, queue_halted}
-use Rattle.time.specs.declared.Deadline.{Deadline}
 use Rattle.thread.specs.declared.CpuIndex.{CpuIndex}
 use Rattle.thread.specs.declared.ThreadRecord.{ThreadRecord}
 use Rattle.arbitration.specs.declared.Candidate.{Candidate}
 use Rattle.arbitration.specs.declared.CpuWindow.{CpuWindow}
-use Rattle.arbitration.specs.declared.KeyOption.{KeyOption}
 use Rattle.arbitration.specs.Calls.{With, with}
 use Rattle.codec.specs.Codec.{word}
 use Rattle.rows.specs.Table.{Out, out, table}
@@ -21,6 +18,8 @@ use Rattle.board_words.specs.BoardWords.{selection_from, current_of}
 use Rattle.decisions.specs.declared.Turns.{Turns}
 use Rattle.runtime.specs.Prepare.{Counted, counted}
 use Rattle.window_words.specs.WindowWords.{flag_from, window_of}
+use Rattle.dispatch_keys.specs.declared.DispatchKey.{DispatchKey}
+use Rattle.arbitration.specs.declared.DispatchMode.{DispatchMode}
 
 pub data Left (A : Type 0) : Type 0 where
   left : ℕ → A → Left A
@@ -100,7 +99,8 @@ Selects q t cpu now window running current answer n q₁ t₁ window₁ answer�
     (peek_next (table t) (queue_of q) (processor cpu) now (window_of window) (current_of (flag_from running) current))
 
 -- The key and the window.
-unfoldable pub key_left : KeyOption → With KeyOption → Left (KeyOption × CpuWindow)
+unfoldable pub key_left : Option (DispatchKey × DispatchMode) → With (Option (DispatchKey × DispatchMode))
+    → Left ((Option (DispatchKey × DispatchMode)) × CpuWindow)
 key_left before (with a w) = beside (answered before a) w
 
 -- The counters and the table.
@@ -116,8 +116,8 @@ finish_left (out a t) = left (numbered a) t
 
 -- Where the thread is not running there is no candidate, and its words stay.
 unfoldable pub candidate_over : Candidate → Answer (Option Candidate) → Left Candidate
-candidate_over before (value (some c)) = left 0 c
-candidate_over before (value none) = left 0 before
+candidate_over before (value (Some c)) = left 0 c
+candidate_over before (value None) = left 0 before
 candidate_over before (refused n) = left n before
 
 -- The candidate and the table.
@@ -132,5 +132,5 @@ unfoldable pub flag_of : List ℕ → Bool
 flag_of w = flag_from (word w flag_word)
 
 -- The deadline, the window and the table.
-unfoldable pub deadline_left : Deadline → Out (With Deadline) → Left (Deadline × (CpuWindow × List ThreadRecord))
+unfoldable pub deadline_left : Option ℕ → Out (With (Option ℕ)) → Left ((Option ℕ) × (CpuWindow × List ThreadRecord))
 deadline_left before (out (with a w) t) = beside (answered before a) (w, t)

@@ -1,15 +1,10 @@
 -- The laws by which the entries meet their contracts: the call was made with what the words stand for, and what it left
 -- went back into words.
-use Rattle.std.specs.Prelude.{ℕ, ◌≡◌, refl, Bool, true, false, List, [], ◌∷◌}
+use Rattle.std.specs.Prelude.{ℕ, ◌≡◌, refl, Bool, true, false, List, [], ◌∷◌, Option, Some, None, Result, Ok, Err}
 use Rattle.std.proofs.Math.Path.{sym}
 use Rattle.std.proofs.Common.{ap, ◌∙◌}
-use Rattle.std.proofs.Math.Option.{Option, none, some}
 use Rattle.refusal.specs.declared.Refusal.{Refusal}
-use Rattle.refusal.specs.Answer.{Answer, value, refused, number_of}
-use Rattle.time.specs.declared.Deadline.{Deadline}
-use Rattle.budget.specs.declared.DeadlineAnswer.{DeadlineAnswer}
-use Rattle.budget.specs.declared.DeadlineAnswer.TheVariants as deadline
-use Rattle.budget.specs.Answers.{deadline_answer}
+use Rattle.refusal.specs.Answer.{Answer, value, refused, number_of, by_number}
 use Rattle.policy.specs.declared.SchedulingParameters.{SchedulingParameters}
 use Rattle.thread.specs.declared.CpuIndex.{CpuIndex}
 use Rattle.thread.specs.declared.ThreadRecord.{ThreadRecord}
@@ -18,31 +13,16 @@ use Rattle.arbitration.specs.declared.Candidate.{Candidate}
 use Rattle.arbitration.specs.declared.CpuWindow.{CpuWindow}
 use Rattle.arbitration.specs.declared.Demand.{Demand}
 use Rattle.arbitration.specs.declared.DispatchMode.{DispatchMode}
-use Rattle.arbitration.specs.declared.KeyOption.{KeyOption}
-use Rattle.arbitration.specs.declared.Verdict.{Verdict}
-use Rattle.arbitration.specs.declared.Verdict.TheVariants as verdict
-use Rattle.arbitration.specs.declared.WindowMade.{WindowMade}
-use Rattle.arbitration.specs.declared.WindowMade.TheVariants as window
-use Rattle.arbitration.specs.Answers.{verdict_of, window_made}
 use Rattle.arbitration.specs.Calls.{With, with, key_call}
 use Rattle.rows.specs.Table.{Out, out}
 use Rattle.queue.specs.RunQueue.{CpuRunQueue}
 use Rattle.queue.specs.Queue.{Step, step}
-use Rattle.selection.specs.declared.PeekAnswer.{PeekAnswer}
-use Rattle.selection.specs.declared.PeekAnswer.TheVariants as answer
 use Rattle.selection.specs.declared.Selection.{Selection}
-use Rattle.demands.specs.declared.CandidateOption.{CandidateOption}
 use Rattle.selection.specs.Peek.{peeked, peek_next}
-use Rattle.selection.specs.Answers.{peek_answer}
 use Rattle.decisions.specs.declared.Choice.{Choice}
 use Rattle.decisions.specs.declared.Contention.{Contention}
-use Rattle.decisions.specs.declared.ModeOption.{ModeOption}
-use Rattle.decisions.specs.declared.ReadyKey.{ReadyKey}
 use Rattle.decisions.specs.declared.Turns.{Turns}
 use Rattle.decisions.specs.Switch.{choose_ready, mode_of}
-use Rattle.runtime.specs.declared.ExpiredAnswer.{ExpiredAnswer}
-use Rattle.runtime.specs.declared.ExpiredAnswer.TheVariants as expired
-use Rattle.runtime.specs.Answers.{expired_answer}
 use Rattle.runtime.specs.Prepare.{counted, prepare_enqueue}
 use Rattle.runtime.specs.Account.{account_current, candidate_stored, current_candidate}
 use Rattle.runtime.specs.Deadline.{refresh_deadline}
@@ -59,46 +39,47 @@ use Rattle.board.specs.Board.{prepare_left, account_left, finish_left, candidate
 use Rattle.board.specs.Board.{deadline_left}
 use Rattle.board.specs.Progress.{window_left, progress}
 use Rattle.board.specs.Kept.{turns_kept, account_kept, deadline_kept, left_so, left_as_was}
+use Rattle.dispatch_keys.specs.declared.DispatchKey.{DispatchKey}
 
 -- An answer was stored, or a refusal's number told.
-module _ (before : Selection) {a : PeekAnswer} where
-  pub selection_stored : {s v : Selection} → a ≡ answer.Selected s → v ≡ s → left 0 v ≡ answered before (peek_answer a)
+module _ (before : Selection) {a : Result Selection Refusal} where
+  pub selection_stored : {s v : Selection} → a ≡ Ok s → v ≡ s → left 0 v ≡ answered before (by_number a)
   unfolding answered
   selection_stored m e = rw (m, e)
 
-  pub selection_refused : {n : Refusal} {k : ℕ} → a ≡ answer.Refused n → k ≡ number_of n
-      → left k before ≡ answered before (peek_answer a)
+  pub selection_refused : {n : Refusal} {k : ℕ} → a ≡ Err n → k ≡ number_of n
+      → left k before ≡ answered before (by_number a)
   unfolding answered
   selection_refused m e = rw (m, e)
 
 -- So was a selection's window.
-module _ (w fresh : CpuWindow) {a : PeekAnswer} where
-  pub progress_stored : {s : Selection} {v : CpuWindow} → a ≡ answer.Selected s
+module _ (w fresh : CpuWindow) {a : Result Selection Refusal} where
+  pub progress_stored : {s : Selection} {v : CpuWindow} → a ≡ Ok s
       → v ≡ progressed w fresh.epoch fresh.priority_remaining_ns fresh.protected_remaining_ns
-      → v ≡ window_left w fresh (peek_answer a)
+      → v ≡ window_left w fresh (by_number a)
   progress_stored m e = rw m e
 
-  pub progress_refused : {n : Refusal} → a ≡ answer.Refused n → w ≡ window_left w fresh (peek_answer a)
+  pub progress_refused : {n : Refusal} → a ≡ Err n → w ≡ window_left w fresh (by_number a)
   progress_refused m = rw m refl
 
-module _ (before : CpuWindow) {a : WindowMade} where
-  pub window_stored : {u v : CpuWindow} → a ≡ window.Made u → v ≡ u → left 0 v ≡ answered before (window_made a)
+module _ (before : CpuWindow) {a : Result CpuWindow Refusal} where
+  pub window_stored : {u v : CpuWindow} → a ≡ Ok u → v ≡ u → left 0 v ≡ answered before (by_number a)
   unfolding answered
   window_stored m e = rw (m, e)
 
-  pub window_refused : {n : Refusal} {k : ℕ} → a ≡ window.Refused n → k ≡ number_of n
-      → left k before ≡ answered before (window_made a)
+  pub window_refused : {n : Refusal} {k : ℕ} → a ≡ Err n → k ≡ number_of n
+      → left k before ≡ answered before (by_number a)
   unfolding answered
   window_refused m e = rw (m, e)
 
-module _ (before : Bool) {a : ExpiredAnswer} where
+module _ (before : Bool) {a : Result Bool Refusal} where
   pub expired_stored : {b : Bool} (n : ℕ)
-      → a ≡ expired.Expired b → flag_from n ≡ b → left 0 (flag_of (n ∷ [])) ≡ answered before (expired_answer a)
+      → a ≡ Ok b → flag_from n ≡ b → left 0 (flag_of (n ∷ [])) ≡ answered before (by_number a)
   unfolding answered flag_of
   expired_stored n m e = rw (m, e)
 
-  pub expired_refused : {n : Refusal} {k : ℕ} → a ≡ expired.Refused n → k ≡ number_of n
-      → left k before ≡ answered before (expired_answer a)
+  pub expired_refused : {n : Refusal} {k : ℕ} → a ≡ Err n → k ≡ number_of n
+      → left k before ≡ answered before (by_number a)
   unfolding answered
   expired_refused m e = rw (m, e)
 
@@ -150,10 +131,10 @@ pub lengths_stored : {a b c x y z : ℕ}
 unfolding lengths_of
 lengths_stored f g h = rw (f, g, h)
 
-pub selected : {k : ℕ} {s : Selection} {a : Answer Selection} {u v w₁ : CpuWindow} {cur : CandidateOption}
+pub selected : {k : ℕ} {s : Selection} {a : Answer Selection} {u v w₁ : CpuWindow} {cur : Option Candidate}
     {q₁ : CpuRunQueue} {t₁ : List ThreadRecord}
     (before : Selection) (t : List ThreadRecord) (q : CpuRunQueue) (c : CpuIndex) (now : ℕ) (w : CpuWindow)
-    (current : CandidateOption)
+    (current : Option Candidate)
     → u ≡ w → cur ≡ current → out (peeked a w₁ q₁) t₁ ≡ peek_next t q c now u cur
     → v ≡ window_left w w₁ a → left k s ≡ answered before a
     → left k (s, (v, q₁, t₁)) ≡ selection_left before (peek_next t q c now w current)
@@ -178,17 +159,18 @@ pub window_made_lem : (before : CpuWindow) {y : Left CpuWindow} {v : Answer CpuW
     → y ≡ answered before v → v ≡ made_window c → c ≡ x → y ≡ answered before (made_window x)
 window_made_lem before h e f = rw (sym f, sym e) h
 
-pub key_left_lem : {r : ℕ} {k : KeyOption} {w : CpuWindow} (before : KeyOption) (x : With KeyOption)
+pub key_left_lem : {r : ℕ} {k : Option (DispatchKey × DispatchMode)} {w : CpuWindow} (before :
+    Option (DispatchKey × DispatchMode)) (x : With (Option (DispatchKey × DispatchMode)))
     → window_entries.left r k w ≡ window_entries.left_of before x → left r (k, w) ≡ key_left before x
 unfolding window_entries.left_of key_left beside answered
 key_left_lem before (with (value a) v) h = cc
 key_left_lem before (with (refused n) v) h = cc
 
 -- The calls on the table: what was given back is stored where the call was made, and only then.
-module _ (t : List ThreadRecord) (id : ℕ) {s : List ThreadRecord} {v : Verdict} where
+module _ (t : List ThreadRecord) (id : ℕ) {s : List ThreadRecord} {v : Result (Unit {0}) Refusal} where
   pub prepared : (now : ℕ) {f front : Bool} {c b d e : Turns}
-      → out (counted (verdict_of v) d) s ≡ prepare_enqueue t id f now c
-      → v ≡ verdict.Accepted
+      → out (counted (by_number v) d) s ≡ prepare_enqueue t id f now c
+      → v ≡ (Ok tt)
       → f ≡ front
       → c ≡ b
       → e ≡ d
@@ -197,8 +179,8 @@ module _ (t : List ThreadRecord) (id : ℕ) {s : List ThreadRecord} {v : Verdict
   prepared now h a g e k = rw (sym g, sym e, sym h, a, k)
 
   pub not_prepared : (now : ℕ) {f front : Bool} {c b d : Turns} {n : Refusal} {r : ℕ}
-      → out (counted (verdict_of v) d) s ≡ prepare_enqueue t id f now c
-      → v ≡ verdict.Refused n
+      → out (counted (by_number v) d) s ≡ prepare_enqueue t id f now c
+      → v ≡ Err n
       → f ≡ front
       → c ≡ b
       → r ≡ number_of n
@@ -211,8 +193,8 @@ module _ (t : List ThreadRecord) (id : ℕ) {s : List ThreadRecord} {v : Verdict
       go h = rw (k, sym e, sym g, sym h, turns_kept t id f now c h)
 
   pub accounted : (start end : ℕ) {m n : DispatchMode} {c b d e : CpuWindow}
-      → out (with (verdict_of v) d) s ≡ account_current t id c m start end
-      → v ≡ verdict.Accepted
+      → out (with (by_number v) d) s ≡ account_current t id c m start end
+      → v ≡ (Ok tt)
       → c ≡ b
       → m ≡ n
       → e ≡ progressed b d.epoch d.priority_remaining_ns d.protected_remaining_ns
@@ -227,8 +209,8 @@ module _ (t : List ThreadRecord) (id : ℕ) {s : List ThreadRecord} {v : Verdict
       whole q = rw (sym made, q)
 
   pub not_accounted : (start end : ℕ) {m n : DispatchMode} {c b d : CpuWindow} {x : Refusal} {r : ℕ}
-      → out (with (verdict_of v) d) s ≡ account_current t id c m start end
-      → v ≡ verdict.Refused x
+      → out (with (by_number v) d) s ≡ account_current t id c m start end
+      → v ≡ Err x
       → c ≡ b
       → m ≡ n
       → r ≡ number_of x
@@ -251,8 +233,8 @@ finished h n = rw (sym h, n)
 candidate_told : (before : Candidate) (x : Out (Answer (Option Candidate)))
     → told (candidate_stored before x) ≡ candidate_left before x
 unfolding candidate_stored candidate_left candidate_over beside
-candidate_told before (out (value (some c)) t) = refl
-candidate_told before (out (value none) t) = refl
+candidate_told before (out (value (Some c)) t) = refl
+candidate_told before (out (value None) t) = refl
 candidate_told before (out (refused n) t) = refl
 
 pub candidate_given : (t : List ThreadRecord) (id now : ℕ) {f running : Bool} {s : List ThreadRecord}
@@ -264,16 +246,18 @@ pub candidate_given : (t : List ThreadRecord) (id now : ℕ) {f running : Bool} 
 candidate_given t id now {f} before h e k =
     rw (sym e, k) (ap told h ∙ candidate_told before (current_candidate t id f now))
 
-pub chosen : {a b : ReadyKey} {k l : KeyOption} {p q : SchedulingParameters} {e y t e₁ y₁ t₁ : Bool} {c x : Choice}
+pub chosen : {a b : Option DispatchKey} {k l : Option (DispatchKey × DispatchMode)} {p q : SchedulingParameters} {e y t
+    e₁ y₁ t₁ : Bool} {c x : Choice}
     → x ≡ c → c ≡ choose_ready a k p e y t → a ≡ b → k ≡ l → p ≡ q → e ≡ e₁ → y ≡ y₁ → t ≡ t₁
     → left 0 x ≡ left 0 (choose_ready b l q e₁ y₁ t₁)
 chosen o h f g i j m n = rw (sym f, sym g, sym i, sym j, sym m, sym n, sym h, o)
 
-module _ (t : List ThreadRecord) (id now : ℕ) (before : Deadline) where
-  pub deadline_given : {s : List ThreadRecord} {a : DeadlineAnswer} (m : ModeOption) (x : Contention)
-      {w v u z : CpuWindow} {d y : Deadline}
-      → out (with (deadline_answer a) u) s ≡ refresh_deadline t id now m w x
-      → a ≡ deadline.Deadline d
+module _ (t : List ThreadRecord) (id now : ℕ) (before : Option ℕ) where
+  pub deadline_given : {s : List ThreadRecord} {a : Result (Option ℕ) Refusal} (m : Option DispatchMode) (x :
+      Contention)
+      {w v u z : CpuWindow} {d y : Option ℕ}
+      → out (with (by_number a) u) s ≡ refresh_deadline t id now m w x
+      → a ≡ Ok d
       → w ≡ v
       → z ≡ progressed v u.epoch u.priority_remaining_ns u.protected_remaining_ns
       → y ≡ d
@@ -288,10 +272,11 @@ module _ (t : List ThreadRecord) (id now : ℕ) (before : Deadline) where
       whole : z ≡ u → left 0 (y, (z, s)) ≡ deadline_left before (refresh_deadline t id now m v x)
       whole q = rw (sym made, q, g)
 
-  pub no_deadline_given : {s : List ThreadRecord} {a : DeadlineAnswer} (m : ModeOption) (x : Contention)
+  pub no_deadline_given : {s : List ThreadRecord} {a : Result (Option ℕ) Refusal} (m : Option DispatchMode) (x :
+      Contention)
       {w v u : CpuWindow} {n : Refusal} {r : ℕ}
-      → out (with (deadline_answer a) u) s ≡ refresh_deadline t id now m w x
-      → a ≡ deadline.Refused n
+      → out (with (by_number a) u) s ≡ refresh_deadline t id now m w x
+      → a ≡ Err n
       → w ≡ v
       → r ≡ number_of n
       → left r (before, (v, s)) ≡ deadline_left before (refresh_deadline t id now m v x)
@@ -305,8 +290,8 @@ module _ (t : List ThreadRecord) (id now : ℕ) (before : Deadline) where
       whole : u ≡ v → left r (before, (v, s)) ≡ deadline_left before (refresh_deadline t id now m v x)
       whole q = rw (sym made, k, q)
 
-  pub deadline_armed : (w : CpuWindow) {y : Left (Deadline × (CpuWindow × List ThreadRecord))}
-      {m : ModeOption} {k l : KeyOption} {x z : Contention}
+  pub deadline_armed : (w : CpuWindow) {y : Left ((Option ℕ) × (CpuWindow × List ThreadRecord))}
+      {m : Option DispatchMode} {k l : Option (DispatchKey × DispatchMode)} {x z : Contention}
       → y ≡ deadline_left before (refresh_deadline t id now m w x)
       → m ≡ mode_of k
       → k ≡ l

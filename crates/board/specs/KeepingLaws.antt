@@ -1,14 +1,8 @@
 -- Laws by which a refused call leaves every word, from what the call below says of its answer to the number.
-use Rattle.std.specs.Prelude.{ℕ, ◌≡◌, refl, Bool, false, ◌≢◌, List}
+use Rattle.std.specs.Prelude.{ℕ, ◌≡◌, refl, Bool, false, ◌≢◌, List, Option, Result, Err}
 use Rattle.std.proofs.Common.{sym, ◌∙◌, subst}
 use Rattle.refusal.specs.declared.Refusal.{Refusal}
-use Rattle.refusal.specs.Answer.{Answer, value, refused, queue_halted}
-use Rattle.budget.specs.declared.DeadlineAnswer.{DeadlineAnswer}
-use Rattle.budget.specs.declared.DeadlineAnswer.TheVariants as deadline
-use Rattle.budget.specs.Answers.{deadline_answer}
-use Rattle.arbitration.specs.declared.Verdict.{Verdict}
-use Rattle.arbitration.specs.declared.Verdict.TheVariants as verdict
-use Rattle.arbitration.specs.Answers.{verdict_of}
+use Rattle.refusal.specs.Answer.{Answer, value, refused, queue_halted, by_number}
 use Rattle.arbitration.specs.declared.CpuWindow.{CpuWindow}
 use Rattle.rows.specs.Unmoved.{Unmoved, Spared}
 use Rattle.queue.specs.RunQueue.{CpuRunQueue}
@@ -27,13 +21,13 @@ pub answer_spares : {A B : Type 0} (b c : B) (a : Answer A) {n : ℕ} → n ≡ 
 answer_spares b c (value x) e u = λ h k. absurd (h e)
 answer_spares b c (refused m) e u = λ h k. u (λ z. k (e ∙ z))
 
-pub verdict_keeps : {B : Type 0} {b c : B} {v : Verdict} {n : Refusal} → v ≡ verdict.Refused n
-    → Unmoved (verdict_of v) b c → c ≡ b
-verdict_keeps {B} {b} {c} e u = subst (λ (x : Verdict). Unmoved (verdict_of x) b c) e u
+pub verdict_keeps : {B : Type 0} {b c : B} {v : Result (Unit {0}) Refusal} {n : Refusal} → v ≡ Err n
+    → Unmoved (by_number v) b c → c ≡ b
+verdict_keeps {B} {b} {c} e u = subst (λ (x : Result (Unit {0}) Refusal). Unmoved (by_number x) b c) e u
 
-pub deadline_keeps : {B : Type 0} {b c : B} {v : DeadlineAnswer} {n : Refusal} → v ≡ deadline.Refused n
-    → Unmoved (deadline_answer v) b c → c ≡ b
-deadline_keeps {B} {b} {c} e u = subst (λ (x : DeadlineAnswer). Unmoved (deadline_answer x) b c) e u
+pub deadline_keeps : {B : Type 0} {b c : B} {v : Result (Option ℕ) Refusal} {n : Refusal} → v ≡ Err n
+    → Unmoved (by_number v) b c → c ≡ b
+deadline_keeps {B} {b} {c} e u = subst (λ (x : Result (Option ℕ) Refusal). Unmoved (by_number x) b c) e u
 
 -- A flag's word stands for the flag.
 pub flag_keeps : {B : Type 0} {b c : B} {x y : Bool} → (x ≡ false → c ≡ b) → x ≡ y → y ≡ false → c ≡ b

@@ -1,13 +1,11 @@
 -- What the calls leave of counters and window: at a refusal all of it, else of the window its configuration, so that
 -- storing the epoch and what remains of allowance and floor stores the whole window.
-use Rattle.std.specs.Prelude.{ℕ, ◌≡◌, Bool, List, ltb}
+use Rattle.std.specs.Prelude.{ℕ, ◌≡◌, Bool, List, ltb, Option, Some, None}
 use Rattle.std.proofs.Math.Path.{refl}
 use Rattle.std.proofs.Common.{sym, ap, subst, ◌∙◌}
 use Rattle.std.proofs.Math.Bool.{true, false}
 use Rattle.refusal.specs.Answer.{Answer, value, refused, bad_config, back_in_time}
 use Rattle.refusal.specs.Cases.{never, choose, given, if_less, and_then}
-use Rattle.time.specs.declared.Deadline.{Deadline}
-use Rattle.time.specs.declared.Deadline.TheVariants as deadline
 use Rattle.algorithms.specs.declared.PolicyRuntime.{PolicyRuntime}
 use Rattle.algorithms.specs.Runtime.{accounted}
 use Rattle.policy.specs.declared.SchedulingParameters.{SchedulingParameters}
@@ -21,8 +19,6 @@ use Rattle.arbitration.specs.Calls.{With, with, judged, account_call, next_deadl
 use Rattle.thread.specs.declared.ThreadRecord.{ThreadRecord}
 use Rattle.rows.specs.Table.{Out, out}
 use Rattle.decisions.specs.declared.Contention.{Contention}
-use Rattle.decisions.specs.declared.ModeOption.{ModeOption}
-use Rattle.decisions.specs.declared.ModeOption.TheVariants as mode
 use Rattle.decisions.specs.declared.Turns.{Turns}
 use Rattle.decisions.specs.OwnDeadline.{on_key_mode, own_deadline}
 use Rattle.runtime.specs.declared.Accounting.{Accounting}
@@ -112,10 +108,10 @@ module _ (t : List ThreadRecord) (id now : ℕ) (w : CpuWindow) (x : Contention)
   next_like m = go (sound_config w.config) x.competition
     where
       go : (sound competition : Bool)
-          → LikeStep {A = Deadline} w (choose sound
+          → LikeStep {A = (Option ℕ)} w (choose sound
           (choose competition
           (with (value (next_deadline (refreshed w now) now m x.demand)) (refreshed w now))
-          (with (value deadline.None) (refreshed w now)))
+          (with (value None) (refreshed w now)))
           (with (refused bad_config) w))
       go false competition = tt
       go true true = refreshed_config w now
@@ -128,24 +124,24 @@ module _ (t : List ThreadRecord) (id now : ℕ) (w : CpuWindow) (x : Contention)
       (λ own. step_like w (λ d. d.window) (next_deadline_call w now m x.competition x.demand) _ (λ end v h. h)
       (next_like m))
 
-  due_like : (m : ModeOption) (r : ThreadRecord) → Like w (λ d. d.window) (due_at now r m w x)
+  due_like : (m : Option DispatchMode) (r : ThreadRecord) → Like w (λ d. d.window) (due_at now r m w x)
   unfolding due_at on_key_mode given due_without choose
-  due_like mode.None r = go x.competition
+  due_like None r = go x.competition
     where
       go : (c : Bool)
           → Like {A = Due} w (λ d. d.window) (value (choose c
-          (record { runtime = r.runtime; window = w; deadline = deadline.Some now })
-          (record { runtime = r.runtime; window = w; deadline = deadline.None })))
+          (record { runtime = r.runtime; window = w; deadline = Some now })
+          (record { runtime = r.runtime; window = w; deadline = None })))
       go true = refl
       go false = refl
-  due_like (mode.Some m) r = keyed_like m r
+  due_like (Some m) r = keyed_like m r
 
   armed_kept : (y : Answer Due) → Like w (λ d. d.window) y → Kept w (armed t id w y)
   unfolding armed
   armed_kept (value d) h = h
   armed_kept (refused n) h = refl
 
-  pub deadline_kept : (m : ModeOption) → Kept w (refresh_deadline t id now m w x)
+  pub deadline_kept : (m : Option DispatchMode) → Kept w (refresh_deadline t id now m w x)
   unfolding refresh_deadline due_of
   deadline_kept m =
       armed_kept (due_of t id now m w x) (then_like w (λ d. d.window) (judged_with t id w) _ (due_like m))

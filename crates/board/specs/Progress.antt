@@ -1,13 +1,12 @@
 -- What selection leaves of a window: at a refusal all of it, else its configuration, so that storing the epoch and what
 -- remains of allowance and floor stores the whole window.
 use Prim.Native.Nat.{ℕ, zero, suc, ◌-◌, ◌/◌}
-use Rattle.std.specs.Prelude.{◌≡◌, Bool, List, ltb, length, get_or}
+use Rattle.std.specs.Prelude.{◌≡◌, Bool, List, ltb, length, get_or, Option, Some, None}
 use Rattle.std.proofs.Math.Path.{refl, sym, ap}
 use Rattle.std.proofs.Common.{subst, ◌∙◌}
 use Rattle.std.proofs.Math.Bool.{true, false}
 use Rattle.refusal.specs.Answer.{Answer, value, refused, bad_config, queue_halted, bad_table}
 use Rattle.refusal.specs.Cases.{choose, given, if_less}
-use Rattle.time.specs.declared.Epoch.TheVariants as epoch
 use Rattle.window_config.specs.declared.ArbitrationConfig.{ArbitrationConfig}
 use Rattle.arbitration.specs.declared.CpuWindow.{CpuWindow}
 use Rattle.arbitration.specs.declared.Demand.{Demand}
@@ -15,39 +14,37 @@ use Rattle.window_config.specs.Config.{sound_config}
 use Rattle.arbitration.specs.Window.{refreshed}
 use Rattle.arbitration.specs.ArbitrationLaws.{refreshed_config}
 use Rattle.thread.specs.declared.CpuIndex.{CpuIndex}
-use Rattle.thread.specs.declared.Link.{Link}
-use Rattle.thread.specs.declared.Link.TheVariants as link
 use Rattle.thread.specs.declared.ThreadRecord.{ThreadRecord}
 use Rattle.thread.specs.Membership.{on_link}
 use Rattle.rows.specs.Table.{Out, out}
 use Rattle.lists.specs.Lists.{on_answer, on_out}
 use Rattle.queue.specs.RunQueue.{CpuRunQueue, tree_count, last_tree}
 use Rattle.queue.specs.Queue.{max_records}
-use Rattle.demands.specs.declared.CandidateOption.{CandidateOption}
 use Rattle.demands.specs.Demands.{of_current}
 use Rattle.renewal.specs.Parts.{SelectionParts}
 use Rattle.renewal.specs.Leaves.{Leaves, leaves, on_leaves}
 use Rattle.renewal.specs.Renewal.{renew}
-use Rattle.selection.specs.declared.ReadyOption.{ReadyOption}
-use Rattle.selection.specs.declared.ReadyOption.TheVariants as ready
 use Rattle.selection.specs.declared.Selection.{Selection}
 use Rattle.selection.specs.Heads.{Heads, no_heads, gather_heads, ready_with, Chosen, least_of}
 use Rattle.selection.specs.Peek.{Peeked, peeked, chosen, peek_running, peek_parts, selection_parts, restored, peek_next}
 use Rattle.window_words.specs.WindowWords.{progressed}
+use Rattle.arbitration.specs.declared.Candidate.{Candidate}
+use Rattle.selection.specs.declared.ReadyThread.{ReadyThread}
 
-module _ (t : List ThreadRecord) (heads : List Link) (now : ℕ) (d : Demand) where
+module _ (t : List ThreadRecord) (heads : List (Option ℕ)) (now : ℕ) (d : Demand) where
   abbrev Least-keeps : ℕ → Type 0
-  Least-keeps n = (w : CpuWindow) (best : ReadyOption) → (least_of n t heads now d w best).window.config ≡ w.config
+  Least-keeps n = (w : CpuWindow) (best : Option ReadyThread)
+      → (least_of n t heads now d w best).window.config ≡ w.config
 
   next_keeps : (n : ℕ) → Least-keeps n → Least-keeps (suc n)
   unfolding least_of given on_link
-  next_keeps n rest w best = go (get_or heads (last_tree - n) link.None)
+  next_keeps n rest w best = go (get_or heads (last_tree - n) None)
     where
-      go : (x : Link) → (on_link {A = Chosen} x (least_of n t heads now d w best)
+      go : (x : Option ℕ) → (on_link {A = Chosen} x (least_of n t heads now d w best)
           (λ id. least_of n t heads now d (refreshed w now)
           (ready_with t id (refreshed w now) now d best))).window.config ≡ w.config
-      go link.None = rest w best
-      go (link.Some id) = rest (refreshed w now) (ready_with t id (refreshed w now) now d best) ∙ refreshed_config w now
+      go None = rest w best
+      go (Some id) = rest (refreshed w now) (ready_with t id (refreshed w now) now d best) ∙ refreshed_config w now
 
   least_keeps : (n : ℕ) → Least-keeps n
   unfolding least_of
@@ -65,12 +62,12 @@ window_left before fresh (value s) =
 window_left before fresh (refused n) = before
 
 module _ (t : List ThreadRecord) (q : CpuRunQueue) (c : CpuIndex) (now : ℕ) (w : CpuWindow)
-    (current : CandidateOption) where
+    (current : Option Candidate) where
   heads_keep : (p : SelectionParts) (x : Out (Answer Heads))
       → Keeps w (on_out x (λ a t₂. on_answer a (λ n. out (peeked (refused n) w p) t₂) (λ h. chosen t₂ p now w h)))
   unfolding Keeps on_out on_answer chosen given
   heads_keep p (out (refused n) t₂) = refl
-  heads_keep p (out (value h) t₂) = least_keeps t₂ h.heads now h.found.demand tree_count w ready.None
+  heads_keep p (out (value h) t₂) = least_keeps t₂ h.heads now h.found.demand tree_count w None
 
   running_keeps : (p : SelectionParts) → Keeps w (peek_running t p c now w current)
   unfolding Keeps peek_running given on_out on_leaves

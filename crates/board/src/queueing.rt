@@ -1,6 +1,6 @@
 // Calls on the queue's words and the table's rows.
 ghost use Rattle.std.specs.Prelude.{true, false, ◌≡◌};
-ghost use Rattle.queue.specs.Answers.{verdict_answer};
+ghost use Rattle.refusal.specs.Answer.{by_number};
 ghost use Rattle.lent_queue.specs.LentQueue.{queue_of};
 ghost use Rattle.lent_queue.specs.Frame.{QueueFramed};
 ghost use Rattle.board.specs.Board.{left, numbered, Spares, Makes, Enqueues, Removes, lengths_of, lengths};
@@ -9,16 +9,16 @@ ghost use Rattle.rows.specs.Frame.{Framed};
 use board_words::LengthWords;
 use codec::Row;
 use lent_queue::{QueueRows, enqueue_lent, new_lent, remove_lent};
-use queue::Verdict;
 use ready_index::Path;
+use refusal::Refusal;
 use thread::{CpuIndex, ThreadId};
 
-fn number_of(verdict: Verdict) -> u64
-    ensures { result ≡ numbered (verdict_answer verdict) }
+fn number_of(verdict: Result<(), Refusal>) -> u64
+    ensures { result ≡ numbered (by_number verdict) }
 {
     match verdict {
-        Verdict::Accepted => 0,
-        Verdict::Refused(refusal) => refusal.number(),
+        Ok(()) => 0,
+        Err(refusal) => refusal.number(),
     }
 }
 

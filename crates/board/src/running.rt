@@ -1,33 +1,31 @@
 // Calls of scheduler/state/runtime.rs on the table's rows and the words of window, counters, keys and answers.
 ghost use Rattle.std.specs.Prelude.{◌≡◌, false};
+ghost use Rattle.refusal.specs.Answer.{by_number};
 ghost use Rattle.codec.specs.Codec.{parameters_of};
 ghost use Rattle.rows.specs.Table.{table};
 ghost use Rattle.rows.specs.Frame.{Framed};
-ghost use Rattle.arbitration.specs.Answers.{verdict_of};
 ghost use Rattle.policy_words.specs.PolicyWords.{deadline_of};
 ghost use Rattle.window_words.specs.WindowWords.{flag_from, mode_from, window_of, demand_of, candidate_of};
 ghost use Rattle.window_words.specs.WindowWords.{key_option_of};
 ghost use Rattle.decisions.specs.Switch.{choose_ready, mode_of};
 ghost use Rattle.runtime.specs.Prepare.{prepare_enqueue};
 ghost use Rattle.runtime.specs.Account.{account_current, finish_turn, current_candidate, expired};
-ghost use Rattle.runtime.specs.Answers.{expired_answer};
 ghost use Rattle.runtime.specs.Deadline.{refresh_deadline};
 ghost use Rattle.board_words.specs.BoardWords.{turns_of, ready_key_of, choice_of, contention};
 ghost use Rattle.board.specs.Board.{left, numbered, Stays, answered, prepare_left, account_left};
 ghost use Rattle.board.specs.Board.{candidate_left, finish_left, flag_of, deadline_left};
 
-use arbitration::Verdict;
+use arbitration::DispatchMode;
 use board_words::{
     ChoiceWords, FlagWord, ReadyWords, TurnWords, contention_of, key_option_of, ready_key_of,
     turns_of, words_of_choice, words_of_turns,
 };
-use budget::DeadlineAnswer;
 use codec::{Row, parameters_of};
-use decisions::{Contention, ModeOption, choose_ready, mode_of};
+use decisions::{Contention, choose_ready, mode_of};
 use policy_words::{DeadlineWords, words_of_deadline};
+use refusal::Refusal;
 use runtime::{
-    ExpiredAnswer, account_current, current_candidate, expired, finish_turn, prepare_enqueue,
-    refresh_deadline,
+    account_current, current_candidate, expired, finish_turn, prepare_enqueue, refresh_deadline,
 };
 use thread::ThreadId;
 use window_words::{
@@ -35,12 +33,12 @@ use window_words::{
     word_of_flag,
 };
 
-fn number_of(verdict: Verdict) -> u64
-    ensures { result ≡ numbered (verdict_of verdict) }
+fn number_of(verdict: Result<(), Refusal>) -> u64
+    ensures { result ≡ numbered (by_number verdict) }
 {
     match verdict {
-        Verdict::Accepted => 0,
-        Verdict::Refused(refusal) => refusal.number(),
+        Ok(()) => 0,
+        Err(refusal) => refusal.number(),
     }
 }
 
@@ -65,11 +63,11 @@ pub extern "C" fn board_prepare(
     let after = prepared.turns;
     let answer = prepared.answer;
     match answer {
-        Verdict::Accepted => {
+        Ok(()) => {
             *turns = words_of_turns(after);
             0
         }
-        Verdict::Refused(refusal) => refusal.number(),
+        Err(refusal) => refusal.number(),
     }
 }
 
@@ -96,11 +94,11 @@ pub extern "C" fn board_account(
     let after = step.window;
     let answer = step.answer;
     match answer {
-        Verdict::Accepted => {
+        Ok(()) => {
             store_progress(window, after);
             0
         }
-        Verdict::Refused(refusal) => refusal.number(),
+        Err(refusal) => refusal.number(),
     }
 }
 
@@ -124,17 +122,17 @@ pub extern "C" fn board_candidate(
     number_of(current_candidate(t, ThreadId(id), flag_from(running), now_ns, current))
 }
 
-fn store_expired(answer: &mut FlagWord, given: ExpiredAnswer) -> u64
+fn store_expired(answer: &mut FlagWord, given: Result<bool, Refusal>) -> u64
     ensures answer_after { left result (flag_of answer.new)
-        ≡ answered (flag_of answer.old) (expired_answer given) }
+        ≡ answered (flag_of answer.old) (by_number given) }
     ensures stays { Stays result answer.old answer.new }
 {
     match given {
-        ExpiredAnswer::Expired(flag) => {
+        Ok(flag) => {
             *answer = [word_of_flag(flag)];
             0
         }
-        ExpiredAnswer::Refused(refusal) => refusal.number(),
+        Err(refusal) => refusal.number(),
     }
 }
 
@@ -195,7 +193,7 @@ fn arm(
     t: &mut [Row],
     id: u64,
     now_ns: u64,
-    mode: ModeOption,
+    mode: Option<DispatchMode>,
     window: &mut WindowWords,
     others: Contention,
     answer: &mut DeadlineWords,
@@ -213,12 +211,12 @@ fn arm(
     let after = step.window;
     let given = step.answer;
     match given {
-        DeadlineAnswer::Deadline(deadline) => {
+        Ok(deadline) => {
             store_progress(window, after);
             *answer = words_of_deadline(deadline);
             0
         }
-        DeadlineAnswer::Refused(refusal) => refusal.number(),
+        Err(refusal) => refusal.number(),
     }
 }
 

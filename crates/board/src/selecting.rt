@@ -1,6 +1,6 @@
 // Selection on the queue's words, the table's rows and the words of window, running thread and answer.
 ghost use Rattle.std.specs.Prelude.{◌≡◌};
-ghost use Rattle.selection.specs.Answers.{peek_answer};
+ghost use Rattle.refusal.specs.Answer.{by_number};
 ghost use Rattle.window_words.specs.WindowWords.{window_of};
 ghost use Rattle.lent_queue.specs.LentQueue.{queue_of};
 ghost use Rattle.lent_queue.specs.Frame.{QueueFramed};
@@ -16,7 +16,8 @@ use codec::Row;
 use lent_queue::QueueRows;
 use lent_selection::peek_lent;
 use ready_index::Path;
-use selection::PeekAnswer;
+use refusal::Refusal;
+use selection::Selection;
 use thread::CpuIndex;
 use window_words::{WindowWords, store_progress, window_of};
 
@@ -24,23 +25,23 @@ use window_words::{WindowWords, store_progress, window_of};
 fn store_answer(
     answer: &mut SelectionWords,
     window: &mut WindowWords,
-    peeked: PeekAnswer,
+    peeked: Result<Selection, Refusal>,
     fresh: CpuWindow,
 ) -> u64
     ensures answer_after { left result (selection_from answer.new)
-        ≡ answered (selection_from answer.old) (peek_answer peeked) }
+        ≡ answered (selection_from answer.old) (by_number peeked) }
     ensures window_after { window_of window.new
-        ≡ window_left (window_of window.old) fresh (peek_answer peeked) }
+        ≡ window_left (window_of window.old) fresh (by_number peeked) }
     ensures stays { Stays result answer.old answer.new }
     ensures stays_2 { Stays result window.old window.new }
 {
     match peeked {
-        PeekAnswer::Selected(selection) => {
+        Ok(selection) => {
             *answer = words_of_selection(selection);
             store_progress(window, fresh);
             0
         }
-        PeekAnswer::Refused(refusal) => refusal.number(),
+        Err(refusal) => refusal.number(),
     }
 }
 

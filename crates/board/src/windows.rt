@@ -1,14 +1,15 @@
 // Calls on a window's words: a new window, and the running thread's key.
 ghost use Rattle.std.specs.Prelude.{◌≡◌};
-ghost use Rattle.arbitration.specs.Answers.{window_made};
+ghost use Rattle.refusal.specs.Answer.{by_number};
 ghost use Rattle.arbitration.specs.Calls.{key_call};
 ghost use Rattle.window_words.specs.WindowWords.{config_of, window_of, demand_of, candidate_of, key_option_of};
 ghost use Rattle.board_words.specs.BoardWords.{made_window};
 ghost use Rattle.board.specs.Board.{left, Stays, answered, key_left};
 
-use arbitration::WindowMade;
+use arbitration::CpuWindow;
 use board_words::made_window;
 use codec::Row;
+use refusal::Refusal;
 use window_config::ArbitrationConfig;
 use window_entries::window_candidate_key;
 use window_words::{
@@ -37,17 +38,17 @@ fn config_in(w: ConfigWords) -> ArbitrationConfig
     ])
 }
 
-fn store_made(window: &mut WindowWords, made: WindowMade) -> u64
+fn store_made(window: &mut WindowWords, made: Result<CpuWindow, Refusal>) -> u64
     ensures window_after { left result (window_of window.new)
-        ≡ answered (window_of window.old) (window_made made) }
+        ≡ answered (window_of window.old) (by_number made) }
     ensures stays { Stays result window.old window.new }
 {
     match made {
-        WindowMade::Made(fresh) => {
+        Ok(fresh) => {
             *window = with_window(*window, fresh);
             0
         }
-        WindowMade::Refused(refusal) => refusal.number(),
+        Err(refusal) => refusal.number(),
     }
 }
 

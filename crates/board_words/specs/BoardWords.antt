@@ -1,6 +1,6 @@
 -- What the words of a selection, of counters, keys and choices stand for, and the window that a configuration makes. A
 -- flag is set where its word is not 0, a byte is its word's remainder by 256.
-use Rattle.std.specs.Prelude.{ℕ, Bool, List}
+use Rattle.std.specs.Prelude.{ℕ, Bool, List, Option, Some, None}
 use Rattle.refusal.specs.Answer.{Answer}
 use Rattle.refusal.specs.Cases.{choose, if_equal, and_then}
 use Rattle.window_config.specs.declared.ArbitrationConfig.{ArbitrationConfig}
@@ -11,17 +11,13 @@ use Rattle.arbitration.specs.Window.{new_window}
 use Rattle.codec.specs.Codec.{word, policy_from}
 use Rattle.decisions.specs.declared.Choice.{Choice}
 use Rattle.decisions.specs.declared.Contention.{Contention}
-use Rattle.decisions.specs.declared.ReadyKey.{ReadyKey}
-use Rattle.decisions.specs.declared.ReadyKey.TheVariants as key
 use Rattle.decisions.specs.declared.Turns.{Turns}
-use Rattle.demands.specs.declared.CandidateOption.{CandidateOption}
-use Rattle.demands.specs.declared.CandidateOption.TheVariants as candidate
-use Rattle.demands.specs.declared.PassOption.{PassOption}
-use Rattle.demands.specs.declared.PassOption.TheVariants as pass
-use Rattle.selection.specs.declared.ReadyOption.{ReadyOption}
-use Rattle.selection.specs.declared.ReadyOption.TheVariants as ready
 use Rattle.selection.specs.declared.Selection.{Selection}
 use Rattle.window_words.specs.WindowWords.{key_tag, flag_from, candidate_of, dispatch_key_of}
+use Rattle.dispatch_keys.specs.declared.DispatchKey.{DispatchKey}
+use Rattle.algorithms.specs.declared.Wide.{Wide}
+use Rattle.arbitration.specs.declared.Candidate.{Candidate}
+use Rattle.selection.specs.declared.ReadyThread.{ReadyThread}
 
 -- Where a selection's words stand; a thread's key stands as a key's does.
 abbrev pub selected_tag : ℕ
@@ -74,10 +70,10 @@ abbrev pub front_word : ℕ
 front_word = 1
 
 -- 0 none, else the thread with its number, its policy and its key.
-unfoldable pub ready_of : List ℕ → ReadyOption
+unfoldable pub ready_of : List ℕ → Option ReadyThread
 ready_of w =
-    if_equal (word w selected_tag) 0 ready.None
-    (ready.Some
+    if_equal (word w selected_tag) 0 None
+    (Some
     (record {
       id = record { 0 = word w selected_id };
       policy = policy_from (word w selected_policy) (word w selected_priority);
@@ -96,8 +92,8 @@ demand_from w =
     }
 
 -- 0 none, else the pass, its high half first.
-unfoldable pub pass_from : ℕ → ℕ → ℕ → PassOption
-pass_from tag high low = if_equal tag 0 pass.None (pass.Some (record { high = high; low = low }))
+unfoldable pub pass_from : ℕ → ℕ → ℕ → Option Wide
+pass_from tag high low = if_equal tag 0 None (Some (record { high = high; low = low }))
 
 -- A selection of 19 words: the thread, the demand, and the lowest fair pass.
 unfoldable pub selection_from : List ℕ → Selection
@@ -109,16 +105,16 @@ selection_from w =
     }
 
 -- The running thread, where there is one, by a candidate's row.
-unfoldable pub current_of : Bool → List ℕ → CandidateOption
-current_of running w = choose running (candidate.Some (candidate_of w)) candidate.None
+unfoldable pub current_of : Bool → List ℕ → Option Candidate
+current_of running w = choose running (Some (candidate_of w)) None
 
 -- The counters at the back and at the front.
 unfoldable pub turns_of : List ℕ → Turns
 turns_of w = record { back = word w back_turn; front = word w front_turn }
 
 -- A ready key of nine words: 0 none, else the key, whose mode is not looked at.
-unfoldable pub ready_key_of : List ℕ → ReadyKey
-ready_key_of w = if_equal (word w key_tag) 0 key.None (key.Some (dispatch_key_of w))
+unfoldable pub ready_key_of : List ℕ → Option DispatchKey
+ready_key_of w = if_equal (word w key_tag) 0 None (Some (dispatch_key_of w))
 
 -- Whether to switch, and whether the current thread then goes to the front.
 unfoldable pub choice_of : List ℕ → Choice

@@ -2,21 +2,22 @@
 // value.
 #![tactic(auto)]
 
-ghost use Rattle.std.specs.Prelude.{◌≡◌};
+ghost use Rattle.std.specs.Prelude.{◌≡◌, Some};
+ghost use Rattle.refusal.specs.Answer.{by_number};
 ghost use Rattle.codec.specs.Codec.{word};
-ghost use Rattle.arbitration.specs.Answers.{window_made};
-ghost use Rattle.selection.specs.declared.ReadyOption.TheVariants as ready;
 ghost use Rattle.window_words.specs.WindowWords.{flag_from, demand_of, key_option_of};
 ghost use Rattle.board_words.specs.BoardWords.{ready_of, pass_from, selection_from, current_of, turns_of, ready_key_of};
 ghost use Rattle.board_words.specs.BoardWords.{choice_of, contention, made_window};
 
-use arbitration::{CpuWindow, KeyOption, WindowMade};
+use algorithms::Wide;
+use arbitration::{Candidate, CpuWindow, DispatchMode};
 use codec::word_of_byte;
-use decisions::{Choice, Contention, ReadyKey, Turns};
-use demands::{CandidateOption, PassOption};
+use decisions::{Choice, Contention, Turns};
+use dispatch_keys::DispatchKey;
 use policy_words::{Row, words_of_policy};
-use selection::{ReadyOption, ReadyThread, Selection};
-use window_config::{ArbitrationConfig, ConfigMade};
+use refusal::Refusal;
+use selection::{ReadyThread, Selection};
+use window_config::ArbitrationConfig;
 use window_words::{
     DemandWords, KEY_MODE, KEY_TAG, KEY_WORDS, KeyWords, candidate_of, demand_of, dispatch_key_of,
     flag_from, mode_from, word_of_flag,
@@ -84,7 +85,7 @@ pub const FLAG_WORDS: usize = 1;
 pub type FlagWord = [u64; FLAG_WORDS];
 
 fn words_of_thread(thread: ReadyThread) -> ThreadWords
-    ensures { ready_of result ≡ ready.Some thread }
+    ensures { ready_of result ≡ Some thread }
 {
     let id = thread.id;
     let key = thread.key;
@@ -110,21 +111,21 @@ fn words_of_thread(thread: ReadyThread) -> ThreadWords
     ]
 }
 
-fn words_of_ready(thread: ReadyOption) -> ThreadWords
+fn words_of_ready(thread: Option<ReadyThread>) -> ThreadWords
     ensures { ready_of result ≡ thread }
 {
     match thread {
-        ReadyOption::None => [0, 0, 0, 0, 0, 0, 0, 0, 0, 0, 0],
-        ReadyOption::Some(its) => words_of_thread(its),
+        None => [0, 0, 0, 0, 0, 0, 0, 0, 0, 0, 0],
+        Some(its) => words_of_thread(its),
     }
 }
 
-fn words_of_pass(pass: PassOption) -> PassWords
+fn words_of_pass(pass: Option<Wide>) -> PassWords
     ensures { pass_from (word result 0) (word result 1) (word result 2) ≡ pass }
 {
     match pass {
-        PassOption::None => [0, 0, 0],
-        PassOption::Some(its) => [1, its.high, its.low],
+        None => [0, 0, 0],
+        Some(its) => [1, its.high, its.low],
     }
 }
 
@@ -147,13 +148,13 @@ pub fn words_of_selection(selection: Selection) -> SelectionWords
     ]
 }
 
-pub fn current_of(running: u64, row: Row) -> CandidateOption
+pub fn current_of(running: u64, row: Row) -> Option<Candidate>
     ensures { result ≡ current_of (flag_from running) row }
 {
     if flag_from(running) {
-        return CandidateOption::Some(candidate_of(row));
+        return Some(candidate_of(row));
     }
-    CandidateOption::None
+    None
 }
 
 pub fn turns_of(w: TurnWords) -> Turns
@@ -171,22 +172,22 @@ pub fn words_of_turns(turns: Turns) -> TurnWords
     [turns.back, turns.front]
 }
 
-pub fn ready_key_of(w: ReadyWords) -> ReadyKey
+pub fn ready_key_of(w: ReadyWords) -> Option<DispatchKey>
     ensures { result ≡ ready_key_of w }
 {
     if w[KEY_TAG] == 0 {
-        return ReadyKey::None;
+        return None;
     }
-    ReadyKey::Some(dispatch_key_of(w))
+    Some(dispatch_key_of(w))
 }
 
-pub fn key_option_of(w: KeyWords) -> KeyOption
+pub fn key_option_of(w: KeyWords) -> Option<(DispatchKey, DispatchMode)>
     ensures { result ≡ key_option_of w }
 {
     if w[KEY_TAG] == 0 {
-        return KeyOption::None;
+        return None;
     }
-    KeyOption::Some(dispatch_key_of(w), mode_from(w[KEY_MODE]))
+    Some((dispatch_key_of(w), mode_from(w[KEY_MODE])))
 }
 
 pub fn words_of_choice(choice: Choice) -> ChoiceWords
@@ -213,8 +214,8 @@ pub fn contention_of(competition: u64, budget_peer: u64, ready: u64, w: DemandWo
 }
 
 // ArbitrationConfig::new with the flag for fair threads, then CpuWindow::new.
-pub fn made_window(config: ArbitrationConfig) -> WindowMade
-    ensures { window_made result ≡ made_window config }
+pub fn made_window(config: ArbitrationConfig) -> Result<CpuWindow, Refusal>
+    ensures { by_number result ≡ made_window config }
 {
     let order = config.order;
     let made = ArbitrationConfig::new(
@@ -224,7 +225,7 @@ pub fn made_window(config: ArbitrationConfig) -> WindowMade
         order,
     );
     match made {
-        ConfigMade::Made(fresh) => CpuWindow::new(fresh.with_prefer_fair(config.prefer_fair)),
-        ConfigMade::Refused(refusal) => WindowMade::Refused(refusal),
+        Ok(fresh) => CpuWindow::new(fresh.with_prefer_fair(config.prefer_fair)),
+        Err(refusal) => Err(refusal),
     }
 }

@@ -1,11 +1,7 @@
 -- `BudgetRuntime`: lazy fixed-window budgets. After scheduler/algorithms/budget.rs.
-use Rattle.std.specs.Prelude.{ℕ, ◌-◌, ◌/◌, min, Bool}
-use Rattle.std.proofs.Math.Option.{Option, none, some}
+use Rattle.std.specs.Prelude.{ℕ, ◌-◌, ◌/◌, min, Bool, Option, Some, None}
 use Rattle.refusal.specs.Answer.{Answer, value, refused, bad_budget, back_in_time}
 use Rattle.refusal.specs.Cases.{choose, given, if_less, if_equal}
-use Rattle.time.specs.declared.Epoch.TheVariants as epoch
-use Rattle.time.specs.declared.Deadline.{Deadline}
-use Rattle.time.specs.declared.Deadline.TheVariants as deadline
 use Rattle.time.specs.Time.{rises, charge_of, checked_add, period_end, on_deadline}
 use Rattle.policy.specs.declared.BudgetParameters.{BudgetParameters}
 use Rattle.policy.specs.Budget.{sound_budget}
@@ -20,7 +16,7 @@ unfoldable pub made : BudgetParameters → Answer BudgetRuntime
 unfolding judged
 made p =
     judged p (value (record {
-      epoch = epoch.None;
+      epoch = None;
       remaining_ns = p.budget_ns;
       burst_remaining_ns = p.burst_ns;
     }))
@@ -31,7 +27,7 @@ refreshed r now p =
     given (now / p.period_ns)
     (λ now_epoch. choose (rises r.epoch now_epoch)
     (record {
-      epoch = epoch.Some now_epoch;
+      epoch = Some now_epoch;
       remaining_ns = p.budget_ns;
       burst_remaining_ns = r.burst_remaining_ns;
     })
@@ -58,26 +54,26 @@ unfolding judged
 accounted_interval r start end p = judged p
     (if_less end start (refused back_in_time) (given (charged r start end p) value))
 
-unfoldable pub period_deadline : ℕ → BudgetParameters → Answer Deadline
+unfoldable pub period_deadline : ℕ → BudgetParameters → Answer (Option ℕ)
 unfolding judged
 period_deadline now p = judged p (given (period_end now p.period_ns) value)
 
 -- The earlier of the execution's end and the period's; none where either does not fit.
-unfoldable pub expiry_within : ℕ → ℕ → BudgetParameters → Deadline
+unfoldable pub expiry_within : ℕ → ℕ → BudgetParameters → Option ℕ
 expiry_within now execution p =
-    on_deadline (checked_add now execution) deadline.None
-    (λ expiry. on_deadline (period_end now p.period_ns) deadline.None
-    (λ end. given (min expiry end) deadline.Some))
+    on_deadline (checked_add now execution) None
+    (λ expiry. on_deadline (period_end now p.period_ns) None
+    (λ end. given (min expiry end) Some))
 
 -- The deadline of a runtime that is refreshed to now: an exhausted one waits for the period's end, or borrows its
 -- burst.
-unfoldable pub deadline_after : BudgetRuntime → ℕ → BudgetParameters → Bool → Deadline
+unfoldable pub deadline_after : BudgetRuntime → ℕ → BudgetParameters → Bool → Option ℕ
 deadline_after r now p borrow =
     if_equal r.remaining_ns 0
     (choose borrow (expiry_within now r.burst_remaining_ns p) (period_end now p.period_ns))
     (given (min r.remaining_ns r.burst_remaining_ns) (λ execution. expiry_within now execution p))
 
-unfoldable pub deadline_judged : BudgetRuntime → ℕ → BudgetParameters → Bool → Answer (BudgetRuntime × Deadline)
+unfoldable pub deadline_judged : BudgetRuntime → ℕ → BudgetParameters → Bool → Answer (BudgetRuntime × Option ℕ)
 unfolding judged
 deadline_judged r now p borrow =
     judged p (given (refreshed r now p) (λ fresh. given (deadline_after fresh now p borrow)
@@ -108,5 +104,5 @@ unfoldable pub reconfigured_judged : BudgetRuntime → BudgetParameters → Budg
 unfolding judged
 reconfigured_judged r old new =
     judged old (judged new
-    (if_equal old.period_ns new.period_ns (given (reconfigured r old new) (λ changed. value (some changed)))
-    (value none)))
+    (if_equal old.period_ns new.period_ns (given (reconfigured r old new) (λ changed. value (Some changed)))
+    (value None)))

@@ -1,41 +1,46 @@
-// Calls on one list, that of the fair threads of processor 0, with the answer as one number.
-use crate::answers::{NONE, refused};
-use crate::letters::{PUSH, PUSH_FRONT};
+// Calls on one list, that of the fair threads of processor 0, with the length afterwards for an answer.
+use crate::answers::Answer;
+use crate::letters::ListCall;
+use crate::places::{Case, records};
 use crate::reading::Numbers;
 use codec::Row;
-use lists::{Listed, push, push_front, remove};
-use thread::{CpuIndex, Link, QueueMembership, ThreadQueue};
+use lists::{push, push_front, remove};
+use refusal::Refusal;
+use thread::{CpuIndex, QueueMembership, ThreadQueue};
 
-fn end(n: u64) -> Link {
-    if n == NONE {
-        return Link::None;
+fn end(n: u64) -> Option<u64> {
+    if n == u64::from(Answer::Nothing) {
+        return None;
     }
-    Link::Some(n)
+    Some(n)
 }
 
 // The length afterwards.
-fn length(answer: Listed) -> u64 {
+fn length(answer: Result<ThreadQueue, Refusal>) -> Answer {
     match answer {
-        Listed::List(list) => list.len,
-        Listed::Refused(refusal) => refused(refusal.number()),
+        Ok(list) => Answer::Number(list.len),
+        Err(refusal) => Answer::Refused(refusal.number()),
     }
 }
 
-fn called(t: &mut [Row], letter: u64, list: ThreadQueue, id: u64) -> Listed {
-    let fair = QueueMembership::ReadyFair { cpu: CpuIndex(0) };
-    match letter {
-        PUSH => push(t, list, id, fair),
-        PUSH_FRONT => push_front(t, list, id, fair),
-        _ => remove(t, list, id, fair),
+impl ListCall {
+    fn called(self, t: &mut [Row], list: ThreadQueue, id: u64) -> Result<ThreadQueue, Refusal> {
+        let fair = QueueMembership::ReadyFair { cpu: CpuIndex(0) };
+        match self {
+            Self::Push => push(t, list, id, fair),
+            Self::PushFront => push_front(t, list, id, fair),
+            Self::Remove => remove(t, list, id, fair),
+        }
     }
 }
 
-pub fn list(t: &mut [Row], n: usize, letter: u64, a: Numbers) -> u64 {
-    if t.len() < n {
-        return NONE;
+impl Case<'_> {
+    pub fn list(&mut self, call: ListCall, a: Numbers) -> Answer {
+        let list = ThreadQueue {
+            head: end(a[0]),
+            tail: end(a[1]),
+            len: a[2],
+        };
+        length(call.called(records(self.rows), list, a[3]))
     }
-    let head = end(a[0]);
-    let tail = end(a[1]);
-    let len = a[2];
-    length(called(&mut t[0..n], letter, ThreadQueue { head, tail, len }, a[3]))
 }

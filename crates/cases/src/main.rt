@@ -14,16 +14,16 @@ mod queues;
 mod reading;
 mod runtimes;
 mod sums;
-mod system;
 mod trees;
 mod values;
 mod windows;
 mod words;
 
+use files::{fail, opened};
 use machine::{ANSWERS, Counts};
+use std::env::FillError;
 use std::os::fd::AsRawFd;
 use std::rt::Env;
-use system::{arg_count, fail, opened};
 
 const STDIN: i32 = 0;
 
@@ -53,7 +53,7 @@ fn worked() -> u64 {
         &[worked_cases::count()],
         b"",
     );
-    let mut counts = [0u64; ANSWERS];
+    let mut counts = [0; ANSWERS];
     machine::run(&words[..n], true, &mut counts)
 }
 
@@ -66,10 +66,8 @@ fn block(fd: i32, counts: &mut Counts) -> u64 {
 
 fn blocks(fd: i32, counts: &mut Counts) -> u64 {
     let mut differs: u64 = 0;
-    let mut left: u64 = BLOCKS;
-    while 0 < left {
-        differs = text::saturating_add(differs, block(fd, counts));
-        left -= 1;
+    for _ in 0..BLOCKS {
+        differs = differs.saturating_add(block(fd, counts));
     }
     differs
 }
@@ -78,7 +76,7 @@ fn blocks(fd: i32, counts: &mut Counts) -> u64 {
 fn recorded(rt: &HostRuntime, name: &[u8]) -> u64 {
     match opened(rt, name) {
         Ok(file) => {
-            let mut counts = [0u64; ANSWERS];
+            let mut counts = [0; ANSWERS];
             let differs = blocks(file.as_raw_fd(), &mut counts);
             answered(&counts);
             differs
@@ -90,12 +88,14 @@ fn recorded(rt: &HostRuntime, name: &[u8]) -> u64 {
     }
 }
 
-// One that there is no room for is a file that has no name.
-fn argument(rt: &HostRuntime, i: usize) -> u64 {
+// How many answers differ of the file that the i-th argument names, if there is such an argument. One that there is no
+// room for is a file that has no name.
+fn argument(rt: &HostRuntime, i: usize) -> Option<u64> {
     let mut name = io::buffer();
     match rt.arg(i, &mut name) {
-        Ok(n) => recorded(rt, &name[..n]),
-        Err(_) => recorded(rt, b""),
+        Ok(n) => Some(recorded(rt, &name[..n])),
+        Err(FillError::TooLong) => Some(recorded(rt, b"")),
+        Err(FillError::NotPresent) => None,
     }
 }
 
@@ -105,11 +105,11 @@ fn ended(differs: u64) {
 
 fn main(rt: HostRuntime) {
     let mut differs = worked();
-    let count = arg_count(&rt);
-    let mut i: usize = 1;
-    while i < count {
-        differs = text::saturating_add(differs, argument(&rt, i));
-        i += 1;
+    for i in 1..usize::MAX {
+        match argument(&rt, i) {
+            Some(more) => differs = differs.saturating_add(more),
+            None => break,
+        }
     }
     ended(differs);
 }

@@ -1,12 +1,8 @@
-// Where things stand in the one array of rows: the table, then the scratch, then the number of records. A place that
-// does not exist reads as zeros and takes nothing.
-ghost use Rattle.std.specs.Prelude.{◌≡◌, length};
-
-use board_words::SelectionWords;
+// A case: its queue, and one array of rows, in which stand the table, then the scratch, then the number of records. A
+// place that does not exist reads as zeros and takes nothing.
 use codec::Row;
+use lent_queue::QueueRows;
 use policy_words::ROW_WORDS;
-use time::min_of;
-use window_words::{DemandWords, KeyWords, WindowWords};
 
 // The table's rows are 0 to 4,096, one more than a call takes.
 const MOST: usize = 4097;
@@ -33,101 +29,90 @@ const COUNT: usize = 4105;
 // How many rows there are; none stands there.
 pub const ROWS: usize = 4106;
 
-pub fn row_at(t: &[Row], at: usize) -> Row {
-    if at < t.len() {
-        return t[at];
+#[derive(Drop)]
+pub struct Case<'a> {
+    pub queue: &'a mut QueueRows,
+    pub rows: &'a mut [Row],
+}
+
+// The first words of a row.
+pub fn first_words<const N: usize>(row: &Row) -> [u64; N] {
+    let mut words = [0; N];
+    for (word, &given) in words.iter_mut().zip(row) {
+        *word = given;
     }
-    [0; ROW_WORDS]
+    words
 }
 
-// What then stands there.
-pub fn store(t: &mut [Row], at: usize, k: usize, word: u64) -> u64 {
-    if t.len() <= at {
-        return 0;
-    }
-    if ROW_WORDS <= k {
-        return 0;
-    }
-    t[at][k] = word;
-    word
-}
-
-// The first words of a row. Each contract gives only the length, which lending the words needs.
-pub fn two(row: Row) -> [u64; 2]
-    ensures { 2 ≡ length result }
-{
-    [row[0], row[1]]
-}
-
-pub fn five(row: Row) -> DemandWords
-    ensures { 5 ≡ length result }
-{
-    [row[0], row[1], row[2], row[3], row[4]]
-}
-
-pub fn nine(row: Row) -> KeyWords
-    ensures { 9 ≡ length result }
-{
-    [
-        row[0], row[1], row[2], row[3], row[4], row[5], row[6], row[7], row[8],
-    ]
-}
-
-pub fn twelve(row: Row) -> WindowWords
-    ensures { 12 ≡ length result }
-{
-    [
-        row[0], row[1], row[2], row[3], row[4], row[5], row[6], row[7], row[8], row[9], row[10],
-        row[11],
-    ]
-}
-
-// These words become the first of a row.
-fn put(t: &mut [Row], at: usize, words: &[u64]) {
-    let mut k: usize = 0;
-    while k < words.len() {
-        store(t, at, k, words[k]);
-        k += 1;
+// How many records the rows have.
+pub fn count(rows: &[Row]) -> usize {
+    match rows.get(COUNT) {
+        Some(row) => row[0].min(MOST as u64) as usize,
+        None => 0,
     }
 }
 
-pub fn set_two(t: &mut [Row], at: usize, words: &[u64; 2]) {
-    put(t, at, words);
+// The records of a case.
+pub fn records(rows: &mut [Row]) -> &mut [Row] {
+    let n = count(rows).min(rows.len());
+    &mut rows[..n]
 }
 
-pub fn set_nine(t: &mut [Row], at: usize, words: &KeyWords) {
-    put(t, at, words);
+impl Case<'_> {
+    pub fn row(&self, at: usize) -> Row {
+        match self.rows.get(at) {
+            Some(row) => *row,
+            None => [0; ROW_WORDS],
+        }
+    }
+
+    // The first words of a row.
+    pub fn words<const N: usize>(&self, at: usize) -> [u64; N] {
+        first_words(&self.row(at))
+    }
+
+    // What then stands there.
+    pub fn store(&mut self, at: usize, k: usize, word: u64) -> u64 {
+        match self.rows.get_mut(at) {
+            Some(row) => overwritten(row, k, word),
+            None => 0,
+        }
+    }
+
+    // These words become those of a row from a place on.
+    pub fn put_from(&mut self, at: usize, k: usize, words: &[u64]) {
+        if let Some(row) = self.rows.get_mut(at) {
+            for (place, &word) in row.iter_mut().skip(k).zip(words) {
+                *place = word;
+            }
+        }
+    }
+
+    pub fn put(&mut self, at: usize, words: &[u64]) {
+        self.put_from(at, 0, words);
+    }
+
+    pub fn set_count(&mut self, n: u64) {
+        self.store(COUNT, 0, n);
+    }
 }
 
-pub fn set_window(t: &mut [Row], words: &WindowWords) {
-    put(t, WINDOW, words);
-}
-
-pub fn set_selection(t: &mut [Row], words: &SelectionWords) {
-    put(t, SELECTION, words);
+// What then stands at a place of some words.
+pub fn overwritten(words: &mut [u64], k: usize, word: u64) -> u64 {
+    match words.get_mut(k) {
+        Some(place) => {
+            *place = word;
+            word
+        }
+        None => 0,
+    }
 }
 
 pub fn record(i: u64) -> usize {
     let at = i as usize;
-    if at < MOST {
-        return at;
-    }
-    ROWS
+    if at < MOST { at } else { ROWS }
 }
 
 pub fn scratch(i: u64) -> usize {
-    if i < 8 {
-        return CURRENT + i as usize;
-    }
-    ROWS
-}
-
-pub fn set_records(t: &mut [Row], n: u64) {
-    store(t, COUNT, 0, n);
-}
-
-// How many records the case has.
-pub fn records(t: &[Row]) -> usize {
-    let row = row_at(t, COUNT);
-    min_of(row[0], MOST as u64) as usize
+    if i < 8 { CURRENT + i as usize } else { ROWS }
 }

@@ -1,81 +1,84 @@
-// Calls on the queue, with the answer as one number.
-use crate::answers::{NONE, refused};
-use crate::letters::{ENQUEUE, FRONT, PEEK, SELECT};
-use crate::places::{CURRENT, SELECTION, WINDOW, row_at, set_selection, set_window, twelve};
+// Calls on the queue.
+use crate::answers::Answer;
+use crate::letters::{QueueCall, Selection};
+use crate::places::{CURRENT, Case, SELECTION, WINDOW, records};
 use crate::reading::Numbers;
 use board::{board_enqueue, board_enqueue_front, board_remove, board_select};
 use board_words::{MIN_PASS_LOW, MIN_PASS_TAG, SELECTED_ID, SELECTED_TAG, SELECTION_WORDS};
 use codec::Row;
-use lent_queue::QueueRows;
 use ready_index::{MAX_PATH, PATH_STEP_WORDS};
 
-pub fn moved(q: &mut QueueRows, t: &mut [Row], letter: u64, id: u64, cpu: u8) -> u64 {
-    let mut path = [[0u64; PATH_STEP_WORDS]; MAX_PATH];
-    if letter == ENQUEUE {
-        return board_enqueue(q, t, &mut path, id, cpu);
+// Whom a selection names, if anybody.
+fn named(row: &Row) -> Option<u64> {
+    if row[SELECTED_TAG] == 0 {
+        return None;
     }
-    if letter == FRONT {
-        return board_enqueue_front(q, t, &mut path, id, cpu);
-    }
-    board_remove(q, t, &mut path, id, cpu)
+    Some(row[SELECTED_ID])
 }
 
-// A selection on the window; what it answers stays in the scratch.
-fn peeked(q: &mut QueueRows, t: &mut [Row], n: usize, a: Numbers, cpu: u8) -> u64 {
-    let mut path = [[0u64; PATH_STEP_WORDS]; MAX_PATH];
-    let mut answer = [0u64; SELECTION_WORDS];
-    let mut w = twelve(row_at(t, WINDOW));
-    let row = row_at(t, CURRENT);
-    if t.len() < n {
-        return NONE;
-    }
-    let number = board_select(
-        q,
-        &mut t[0..n],
-        &mut path,
-        cpu,
-        a[0],
-        &mut w,
-        a[1],
-        &row,
-        &mut answer,
-    );
-    set_window(t, &w);
-    if number == 0 {
-        set_selection(t, &answer);
-    }
-    number
-}
-
-// Whom a selection names, or the low word of the lowest fair pass: no pass here has a high one.
-fn seen(row: Row, letter: u64) -> u64 {
-    if letter == SELECT {
-        if row[SELECTED_TAG] == 0 {
-            return NONE;
-        }
-        return row[SELECTED_ID];
-    }
+// The low word of the lowest fair pass: no pass here has a high one.
+fn lowest(row: &Row) -> Option<u64> {
     if row[MIN_PASS_TAG] == 0 {
-        return NONE;
+        return None;
     }
-    row[MIN_PASS_LOW]
+    Some(row[MIN_PASS_LOW])
 }
 
-// The steps SELECT and LOWEST are for processor 0.
-fn processor(letter: u64, a: Numbers) -> u8 {
-    if letter == PEEK {
-        return (a[2] % 256) as u8;
+impl Case<'_> {
+    pub fn move_thread(&mut self, call: QueueCall, id: u64, cpu: u8) -> u64 {
+        let mut path = [[0; PATH_STEP_WORDS]; MAX_PATH];
+        let t = records(self.rows);
+        match call {
+            QueueCall::Enqueue => board_enqueue(self.queue, t, &mut path, id, cpu),
+            QueueCall::EnqueueFront => board_enqueue_front(self.queue, t, &mut path, id, cpu),
+            QueueCall::Remove => board_remove(self.queue, t, &mut path, id, cpu),
+        }
     }
-    0
-}
 
-pub fn selected(q: &mut QueueRows, t: &mut [Row], n: usize, letter: u64, a: Numbers) -> u64 {
-    let number = peeked(q, t, n, a, processor(letter, a));
-    if letter == PEEK {
-        return number;
+    // A selection on the window; what it answers stays in the scratch.
+    fn peek(&mut self, a: Numbers, cpu: u8) -> u64 {
+        let mut path = [[0; PATH_STEP_WORDS]; MAX_PATH];
+        let mut answer = [0; SELECTION_WORDS];
+        let mut w = self.words(WINDOW);
+        let row = self.row(CURRENT);
+        let t = records(self.rows);
+        let number = board_select(
+            self.queue,
+            t,
+            &mut path,
+            cpu,
+            a[0],
+            &mut w,
+            a[1],
+            &row,
+            &mut answer,
+        );
+        self.put(WINDOW, &w);
+        if number == 0 {
+            self.put(SELECTION, &answer);
+        }
+        number
     }
-    if number != 0 {
-        return refused(number);
+
+    // A selection for processor 0.
+    fn peeked(&mut self, a: Numbers) -> Result<Row, Answer> {
+        match self.peek(a, 0) {
+            0 => Ok(self.row(SELECTION)),
+            number => Err(Answer::Refused(number)),
+        }
     }
-    seen(row_at(t, SELECTION), letter)
+
+    fn told(&mut self, told: Selection, a: Numbers) -> Result<Answer, Answer> {
+        match told {
+            Selection::Number => Ok(Answer::Number(self.peek(a, (a[2] % 256) as u8))),
+            Selection::Named => Ok(Answer::from(named(&self.peeked(a)?))),
+            Selection::Lowest => Ok(Answer::from(lowest(&self.peeked(a)?))),
+        }
+    }
+
+    pub fn select(&mut self, told: Selection, a: Numbers) -> Answer {
+        match self.told(told, a) {
+            Ok(answer) | Err(answer) => answer,
+        }
+    }
 }

@@ -1,63 +1,54 @@
-// Calls on one tree of the ready index, with the answer as one number.
-use crate::answers::{NONE, refused};
-use crate::letters::{CONTAINS, INSERT, TAKE_OUT};
+// Calls on one tree of the ready index.
+use crate::answers::Answer;
+use crate::letters::TreeCall;
+use crate::places::{Case, records};
 use crate::reading::Numbers;
 use codec::Row;
-use ready_index::{
-    MAX_PATH, PATH_STEP_WORDS, TreeContains, TreeLeast, TreeRoot, contains, first, insert, remove,
-};
-use thread::Link;
+use ready_index::{MAX_PATH, PATH_STEP_WORDS, contains, first, insert, remove};
+use refusal::Refusal;
 
-fn number(link: Link) -> u64 {
+fn number(link: Option<u64>) -> Answer {
     match link {
-        Link::None => NONE,
-        Link::Some(n) => n,
+        None => Answer::Nothing,
+        Some(n) => Answer::Number(n),
     }
 }
 
-fn rooted(answer: TreeRoot) -> u64 {
+fn rooted(answer: Result<Option<u64>, Refusal>) -> Answer {
     match answer {
-        TreeRoot::Root(root) => number(root),
-        TreeRoot::Refused(refusal) => refused(refusal.number()),
+        Ok(root) => number(root),
+        Err(refusal) => Answer::Refused(refusal.number()),
     }
 }
 
-fn held(answer: TreeContains) -> u64 {
+fn held(answer: Result<bool, Refusal>) -> Answer {
     match answer {
-        TreeContains::Yes => 1,
-        TreeContains::No => 0,
-        TreeContains::Refused(refusal) => refused(refusal.number()),
+        Ok(holds) => Answer::Number(u64::from(holds)),
+        Err(refusal) => Answer::Refused(refusal.number()),
     }
 }
 
-fn least(answer: TreeLeast) -> u64 {
-    match answer {
-        TreeLeast::None => NONE,
-        TreeLeast::Some(n) => n,
-        TreeLeast::Refused(refusal) => refused(refusal.number()),
-    }
-}
-
-fn root(given: u64, n: u64) -> Link {
+fn root(given: u64, n: u64) -> Option<u64> {
     if given == 0 {
-        return Link::None;
+        return None;
     }
-    Link::Some(n)
+    Some(n)
 }
 
-fn called(t: &mut [Row], letter: u64, a: Numbers) -> u64 {
-    let mut path = [[0u64; PATH_STEP_WORDS]; MAX_PATH];
-    match letter {
-        INSERT => rooted(insert(t, &mut path, Link::Some(a[0]), a[1])),
-        TAKE_OUT => rooted(remove(t, &mut path, Link::Some(a[0]), a[1])),
-        CONTAINS => held(contains(t, Link::Some(a[0]), a[1])),
-        _ => least(first(t, root(a[0], a[1]))),
+impl TreeCall {
+    fn called(self, t: &mut [Row], a: Numbers) -> Answer {
+        let mut path = [[0; PATH_STEP_WORDS]; MAX_PATH];
+        match self {
+            Self::Insert => rooted(insert(t, &mut path, Some(a[0]), a[1])),
+            Self::Remove => rooted(remove(t, &mut path, Some(a[0]), a[1])),
+            Self::Contains => held(contains(t, Some(a[0]), a[1])),
+            Self::Least => rooted(first(t, root(a[0], a[1]))),
+        }
     }
 }
 
-pub fn tree(t: &mut [Row], n: usize, letter: u64, a: Numbers) -> u64 {
-    if t.len() < n {
-        return NONE;
+impl Case<'_> {
+    pub fn tree(&mut self, call: TreeCall, a: Numbers) -> Answer {
+        call.called(records(self.rows), a)
     }
-    called(&mut t[0..n], letter, a)
 }

@@ -1,10 +1,8 @@
 -- What a row of 32 words stands for: one record, whatever the words. A tag takes the first variant whose number it is
 -- and else the last variant; a byte is its word's remainder by 256. Parameters and runtime stand in words 0 to 15
 -- (crate policy_words). Words 30 and 31 are spare.
-use Rattle.std.specs.Prelude.{ℕ, ◌%◌, List}
+use Rattle.std.specs.Prelude.{ℕ, ◌%◌, List, Option, Some, None}
 use Rattle.refusal.specs.Cases.{if_equal}
-use Rattle.thread.specs.declared.Link.{Link}
-use Rattle.thread.specs.declared.Link.TheVariants as link
 use Rattle.thread.specs.declared.Links.{Links}
 use Rattle.thread.specs.declared.QueueMembership.{QueueMembership}
 use Rattle.thread.specs.declared.QueueMembership.TheVariants as membership
@@ -66,8 +64,8 @@ abbrev pub cpu_word : ℕ
 cpu_word = 29
 
 -- 0 none, else the number.
-unfoldable pub link_from : ℕ → ℕ → Link
-link_from tag n = if_equal tag 0 link.None (link.Some n)
+unfoldable pub link_from : ℕ → ℕ → Option ℕ
+link_from tag n = if_equal tag 0 None (Some n)
 
 -- 0 None; 1 ReadyRealTime with processor and priority; 2 ReadyFair with the processor; 3 Waiting with the list; else
 -- Terminated.

@@ -1,20 +1,18 @@
 -- Laws of links and memberships: the words that are stored for each variant stand for it.
-use Rattle.std.specs.Prelude.{ℕ, ◌%◌, ◌≡◌, refl}
+use Rattle.std.specs.Prelude.{ℕ, ◌%◌, ◌≡◌, refl, Option, Some, None}
 use Rattle.std.proofs.Math.Path.{sym}
 use Rattle.refusal.specs.Cases.{choose, if_equal}
 use Rattle.thread.specs.declared.CpuIndex.{CpuIndex}
-use Rattle.thread.specs.declared.Link.{Link}
-use Rattle.thread.specs.declared.Link.TheVariants as link
 use Rattle.thread.specs.declared.QueueMembership.{QueueMembership}
 use Rattle.thread.specs.declared.QueueMembership.TheVariants as membership
 use Rattle.codec.specs.Codec.{link_from, membership_from}
 
-module _ {x : Link} where
-  pub no_link_words : x ≡ link.None → link_from 0 0 ≡ x
+module _ {x : Option ℕ} where
+  pub no_link_words : x ≡ None → link_from 0 0 ≡ x
   unfolding link_from if_equal choose
   no_link_words h = sym h
 
-  pub some_link_words : {n : ℕ} → x ≡ link.Some n → link_from 1 n ≡ x
+  pub some_link_words : {n : ℕ} → x ≡ Some n → link_from 1 n ≡ x
   unfolding link_from if_equal choose
   some_link_words h = sym h
 

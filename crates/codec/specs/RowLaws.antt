@@ -1,11 +1,10 @@
 -- Laws of rows: a store of the words of one part changes that part of the record, and no other.
-use Rattle.std.specs.Prelude.{ℕ, ◌%◌, ◌≡◌, refl, List, length, set}
+use Rattle.std.specs.Prelude.{ℕ, ◌%◌, ◌≡◌, refl, List, length, set, Option}
 use Rattle.std.proofs.Common.{sym}
 use Rattle.policy.specs.declared.SchedulingParameters.{SchedulingParameters}
 use Rattle.algorithms.specs.declared.PolicyRuntime.{PolicyRuntime}
 use Rattle.algorithms.specs.declared.Wide.{Wide}
 use Rattle.thread.specs.declared.CpuIndex.{CpuIndex}
-use Rattle.thread.specs.declared.Link.{Link}
 use Rattle.thread.specs.declared.Links.{Links}
 use Rattle.thread.specs.declared.QueueLinks.{QueueLinks}
 use Rattle.thread.specs.declared.QueueMembership.{QueueMembership}
@@ -106,7 +105,7 @@ links_stored_lem r l a b height size e₁ e₂ e₃ =
     x31. rw (e₁, e₂, e₃))
     r size
 
-pub left_stored_lem : (r : List ℕ) (l : Link) (a : List ℕ)
+pub left_stored_lem : (r : List ℕ) (l : Option ℕ) (a : List ℕ)
     → length r ≡ row_words
     → link_from (word a 0) (word a 1) ≡ l
     → decoded (left_stored r a) ≡ with_left l (decoded r)
@@ -117,7 +116,7 @@ left_stored_lem r l a size e =
     x31. rw e)
     r size
 
-pub right_stored_lem : (r : List ℕ) (l : Link) (a : List ℕ)
+pub right_stored_lem : (r : List ℕ) (l : Option ℕ) (a : List ℕ)
     → length r ≡ row_words
     → link_from (word a 0) (word a 1) ≡ l
     → decoded (right_stored r a) ≡ with_right l (decoded r)
@@ -164,14 +163,14 @@ cpu_stored r c n size e =
     r size
 
 -- The parts that the words of a row stand for make the row's.
-pub links_read : (w : List ℕ) {left right : Link} {height : ℕ}
+pub links_read : (w : List ℕ) {left right : Option ℕ} {height : ℕ}
     → left ≡ link_from (word w left_tag) (word w left_word) → right ≡ link_from (word w right_tag) (word w right_word)
     → height ≡ word w height_word % 256
     → record { left = left; right = right; height = height } ≡ links_of w
 unfolding links_of
 links_read w e₁ e₂ e₃ = rw (e₁, e₂, e₃)
 
-pub queue_links_read_lem : (w : List ℕ) {previous next : Link} {membership : QueueMembership}
+pub queue_links_read_lem : (w : List ℕ) {previous next : Option ℕ} {membership : QueueMembership}
     → previous ≡ link_from (word w previous_tag) (word w previous_word)
     → next ≡ link_from (word w next_tag) (word w next_word)
     → membership ≡ membership_from (word w membership_tag) (word w membership_first) (word w membership_second)

@@ -18,7 +18,7 @@ pub use policy_words::{
     runtime_of, word_of_byte, words_of_epoch,
 };
 use policy_words::{words_of_parameters, words_of_runtime};
-use thread::{CpuIndex, Link, Links, QueueLinks, QueueMembership, ThreadRecord, TreeKey};
+use thread::{CpuIndex, Links, QueueLinks, QueueMembership, ThreadRecord, TreeKey};
 
 // Where the words of turn, tree links, list links, membership and processor stand in a thread's row; those of
 // parameters and runtime are policy_words'.
@@ -50,13 +50,13 @@ pub const MEMBERSHIP_SECOND: usize = 28;
 
 pub const CPU: usize = 29;
 
-pub fn link_from(tag: u64, number: u64) -> Link
+pub fn link_from(tag: u64, number: u64) -> Option<u64>
     ensures { result ≡ link_from tag number }
 {
     if tag == 0 {
-        return Link::None;
+        return None;
     }
-    Link::Some(number)
+    Some(number)
 }
 
 pub fn membership_from(tag: u64, first: u64, second: u64) -> QueueMembership
@@ -172,13 +172,13 @@ pub fn decode(w: Row) -> ThreadRecord
     }
 }
 
-pub fn words_of_link(link: Link) -> [u64; 2]
+pub fn words_of_link(link: Option<u64>) -> [u64; 2]
     ensures result_value { link_from (word result 0) (word result 1) ≡ link }
     ensures result_value_2 { option_encodes (word result 0) (word result 1) ≡ true }
 {
     match link {
-        Link::None => [0, 0],
-        Link::Some(n) => [1, n],
+        None => [0, 0],
+        Some(n) => [1, n],
     }
 }
 
@@ -259,7 +259,7 @@ pub fn with_links(w: Row, links: Links) -> Row
     row
 }
 
-pub fn with_left(w: Row, link: Link) -> Row
+pub fn with_left(w: Row, link: Option<u64>) -> Row
     ensures result_value { decoded result ≡ with_left link (decoded w) }
     ensures row_framed { RowFramed w result }
 {
@@ -270,7 +270,7 @@ pub fn with_left(w: Row, link: Link) -> Row
     row
 }
 
-pub fn with_right(w: Row, link: Link) -> Row
+pub fn with_right(w: Row, link: Option<u64>) -> Row
     ensures result_value { decoded result ≡ with_right link (decoded w) }
     ensures row_framed { RowFramed w result }
 {

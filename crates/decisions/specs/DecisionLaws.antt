@@ -1,40 +1,36 @@
 -- Laws for going by a key or a mode that may be none.
-use Rattle.std.specs.Prelude.{◌≡◌}
+use Rattle.std.specs.Prelude.{◌≡◌, Option, Some, None}
 use Rattle.dispatch_keys.specs.declared.DispatchKey.{DispatchKey}
 use Rattle.arbitration.specs.declared.DispatchMode.{DispatchMode}
-use Rattle.arbitration.specs.declared.KeyOption.{KeyOption}
-use Rattle.arbitration.specs.declared.KeyOption.TheVariants as key
-use Rattle.decisions.specs.declared.ReadyKey.{ReadyKey}
-use Rattle.decisions.specs.declared.ReadyKey.TheVariants as ready
-use Rattle.decisions.specs.declared.ModeOption.{ModeOption}
-use Rattle.decisions.specs.declared.ModeOption.TheVariants as mode
 use Rattle.decisions.specs.Switch.{on_ready, on_key}
 use Rattle.decisions.specs.OwnDeadline.{on_key_mode}
 
 module _ {A : Type 0} {y : A} (a : A) where
-  pub no_ready : {x : ReadyKey} (f : DispatchKey → A) → x ≡ ready.None → y ≡ a → y ≡ on_ready x a f
+  pub no_ready : {x : Option DispatchKey} (f : DispatchKey → A) → x ≡ None → y ≡ a → y ≡ on_ready x a f
   unfolding on_ready
   no_ready f e h = rw e h
 
-  pub some_ready : {x : ReadyKey} {k : DispatchKey} (f : DispatchKey → A) → x ≡ ready.Some k → y ≡ f k
+  pub some_ready : {x : Option DispatchKey} {k : DispatchKey} (f : DispatchKey → A) → x ≡ Some k → y ≡ f k
       → y ≡ on_ready x a f
   unfolding on_ready
   some_ready f e h = rw e h
 
-  pub no_key : {x : KeyOption} (f : DispatchKey → DispatchMode → A) → x ≡ key.None → y ≡ a → y ≡ on_key x a f
+  pub no_key : {x : Option (DispatchKey × DispatchMode)} (f : DispatchKey → DispatchMode → A) → x ≡ None → y ≡ a
+      → y ≡ on_key x a f
   unfolding on_key
   no_key f e h = rw e h
 
-  pub some_key : {x : KeyOption} {k : DispatchKey} {m : DispatchMode} (f : DispatchKey → DispatchMode → A)
-      → x ≡ key.Some k m → y ≡ f k m → y ≡ on_key x a f
+  pub some_key : {x : Option (DispatchKey × DispatchMode)} {k : DispatchKey} {m : DispatchMode} (f : DispatchKey
+      → DispatchMode → A)
+      → x ≡ Some (k, m) → y ≡ f k m → y ≡ on_key x a f
   unfolding on_key
   some_key f e h = rw e h
 
-  pub no_mode : {x : ModeOption} (f : DispatchMode → A) → x ≡ mode.None → y ≡ a → y ≡ on_key_mode x a f
+  pub no_mode : {x : Option DispatchMode} (f : DispatchMode → A) → x ≡ None → y ≡ a → y ≡ on_key_mode x a f
   unfolding on_key_mode
   no_mode f e h = rw e h
 
-  pub some_mode : {x : ModeOption} {m : DispatchMode} (f : DispatchMode → A) → x ≡ mode.Some m → y ≡ f m
+  pub some_mode : {x : Option DispatchMode} {m : DispatchMode} (f : DispatchMode → A) → x ≡ Some m → y ≡ f m
       → y ≡ on_key_mode x a f
   unfolding on_key_mode
   some_mode f e h = rw e h

@@ -4,7 +4,5 @@ pub mod Turns
 pub mod Switch
 -- The current thread's own deadline.
 pub mod OwnDeadline
--- Each answer's number in document 01, or its values.
-pub mod Answers
 -- Laws for going by a key or a mode.
 pub mod DecisionLaws

@@ -1,9 +1,7 @@
 -- The current thread's own deadline. After `refresh_deadline` of scheduler/state/runtime.rs.
-use Rattle.std.specs.Prelude.{ℕ, min, Bool, true, false}
+use Rattle.std.specs.Prelude.{ℕ, min, Bool, true, false, Option, Some, None}
 use Rattle.refusal.specs.Answer.{Answer, value}
 use Rattle.refusal.specs.Cases.{choose, given}
-use Rattle.time.specs.declared.Deadline.{Deadline}
-use Rattle.time.specs.declared.Deadline.TheVariants as deadline
 use Rattle.time.specs.Time.{max_time, checked_add, period_end, on_deadline}
 use Rattle.policy.specs.declared.BudgetParameters.{BudgetParameters}
 use Rattle.policy.specs.declared.SchedulingParameters.{SchedulingParameters}
@@ -16,13 +14,11 @@ use Rattle.algorithms.specs.Runtime.{on_runtime, next_deadline}
 use Rattle.arbitration.specs.declared.DispatchMode.{DispatchMode}
 use Rattle.arbitration.specs.Window.{on_mode}
 use Rattle.decisions.specs.declared.Contention.{Contention}
-use Rattle.decisions.specs.declared.ModeOption.{ModeOption}
-use Rattle.decisions.specs.declared.ModeOption.TheVariants as mode
 
 -- No key first.
-unfoldable pub on_key_mode : {A : Type 0} → ModeOption → A → (DispatchMode → A) → A
-on_key_mode mode.None a f = a
-on_key_mode (mode.Some m) a f = f m
+unfoldable pub on_key_mode : {A : Type 0} → Option DispatchMode → A → (DispatchMode → A) → A
+on_key_mode None a f = a
+on_key_mode (Some m) a f = f m
 
 unfoldable pub borrows : DispatchMode → Bool
 borrows m = on_mode m false false false false true
@@ -33,10 +29,10 @@ saturated_end now period = on_deadline (period_end now period) max_time (λ end.
 
 -- A Budget thread with no budget peer runs until its time is spent or its period ends; none where the former does not
 -- fit.
-unfoldable pub budget_expiry : ℕ → ℕ → BudgetParameters → Deadline
+unfoldable pub budget_expiry : ℕ → ℕ → BudgetParameters → Option ℕ
 budget_expiry now remaining b =
-    on_deadline (checked_add now remaining) deadline.None
-    (λ expiry. given (saturated_end now b.period_ns) (λ end. given (min expiry end) deadline.Some))
+    on_deadline (checked_add now remaining) None
+    (λ expiry. given (saturated_end now b.period_ns) (λ end. given (min expiry end) Some))
 
 -- Exhausted budget peers cannot use a fair quantum: a Fair thread's slice matters only where a thread is ready.
 unfoldable pub turn_competition : Contention → SchedulingPolicy → Bool
@@ -44,7 +40,7 @@ turn_competition x p = choose x.competition (on_policy p (λ priority. true) x.r
 
 -- The algorithm's own deadline, with the runtime as it is left.
 unfoldable pub turn_deadline : ℕ → PolicyRuntime → SchedulingParameters → DispatchMode → Contention
-    → Answer (PolicyRuntime × Deadline)
+    → Answer (PolicyRuntime × Option ℕ)
 turn_deadline now r p m x =
     given (turn_competition x p.policy)
     (λ competition. given (borrows m) (λ borrow. next_deadline r now p competition borrow))
@@ -55,7 +51,7 @@ without_peer x = choose x.competition (choose x.budget_peer false true) false
 
 -- A Budget thread's: without a budget peer by its time alone, since an interrupt at its burst could change nothing.
 unfoldable pub budget_deadline : ℕ → BudgetRuntime → SchedulingParameters → DispatchMode → Contention
-    → Answer (PolicyRuntime × Deadline)
+    → Answer (PolicyRuntime × Option ℕ)
 budget_deadline now b p m x =
     on_budget p.budget
     (turn_deadline now (runtime.Budget b) p m x)
@@ -65,7 +61,7 @@ budget_deadline now b p m x =
 
 -- SPECIFICATION 10.6.
 unfoldable pub own_deadline : ℕ → PolicyRuntime → SchedulingParameters → DispatchMode → Contention
-    → Answer (PolicyRuntime × Deadline)
+    → Answer (PolicyRuntime × Option ℕ)
 own_deadline now r p m x =
     on_runtime r (turn_deadline now r p m x) (λ fair. turn_deadline now r p m x) (λ b. budget_deadline now b p m x)
     (turn_deadline now r p m x)

@@ -1,8 +1,8 @@
 -- The switch rule: whether the current thread gives way to the ready one, and to which end it then goes. After
 -- `choose_ready` of scheduler/state/runtime.rs.
-use Rattle.std.specs.Prelude.{Bool, true, false, not, List, [], ◌∷◌}
+use Rattle.std.specs.Prelude.{Bool, true, false, not, List, [], ◌∷◌, Option, Some, None}
 use Rattle.refusal.specs.Cases.{choose, given, if_equal}
-use Rattle.order.specs.declared.Ordering.{Ordering}
+use Rattle.std.specs.declared.cmp.Ordering.{Ordering}
 use Rattle.order.specs.Order.{compare_parts, on_ordering}
 use Rattle.policy.specs.declared.FairBackend.{FairBackend}
 use Rattle.policy.specs.declared.SchedulingParameters.{SchedulingParameters}
@@ -11,14 +11,8 @@ use Rattle.algorithms.specs.declared.PolicyRuntime.{PolicyRuntime}
 use Rattle.algorithms.specs.Runtime.{on_runtime}
 use Rattle.dispatch_keys.specs.declared.DispatchKey.{DispatchKey}
 use Rattle.arbitration.specs.declared.DispatchMode.{DispatchMode}
-use Rattle.arbitration.specs.declared.KeyOption.{KeyOption}
-use Rattle.arbitration.specs.declared.KeyOption.TheVariants as key
 use Rattle.arbitration.specs.Key.{compare_keys}
-use Rattle.decisions.specs.declared.ReadyKey.{ReadyKey}
-use Rattle.decisions.specs.declared.ReadyKey.TheVariants as ready
 use Rattle.decisions.specs.declared.Choice.{Choice}
-use Rattle.decisions.specs.declared.ModeOption.{ModeOption}
-use Rattle.decisions.specs.declared.ModeOption.TheVariants as mode
 
 -- `expired` of a runtime: a fair thread's slice or a budget's burst is spent.
 unfoldable pub spent : PolicyRuntime → Bool
@@ -27,13 +21,13 @@ spent x =
     (λ b. if_equal b.burst_remaining_ns 0 true false) false
 
 -- None first.
-unfoldable pub on_ready : {A : Type 0} → ReadyKey → A → (DispatchKey → A) → A
-on_ready ready.None a f = a
-on_ready (ready.Some k) a f = f k
+unfoldable pub on_ready : {A : Type 0} → Option DispatchKey → A → (DispatchKey → A) → A
+on_ready None a f = a
+on_ready (Some k) a f = f k
 
-unfoldable pub on_key : {A : Type 0} → KeyOption → A → (DispatchKey → DispatchMode → A) → A
-on_key key.None a f = a
-on_key (key.Some k m) a f = f k m
+unfoldable pub on_key : {A : Type 0} → Option (DispatchKey × DispatchMode) → A → (DispatchKey → DispatchMode → A) → A
+on_key None a f = a
+on_key (Some (k, m)) a f = f k m
 
 -- Rank and algorithm rank.
 unfoldable pub compare_ranks : DispatchKey → DispatchKey → Ordering
@@ -81,7 +75,8 @@ switches a b p expired yielding tail =
     on_ordering (compare_bands a b) true (switches_among a b p expired yielding tail) (switches_below p yielding)
 
 -- No ready thread: no switch. A current thread without a key gives way to any.
-unfoldable pub should_switch_of : ReadyKey → KeyOption → SchedulingParameters → Bool → Bool → Bool → Bool
+unfoldable pub should_switch_of : Option DispatchKey → Option (DispatchKey × DispatchMode) → SchedulingParameters
+    → Bool → Bool → Bool → Bool
 should_switch_of r k p expired yielding tail =
     on_ready r false (λ a. on_key k true (λ b m. switches a b p expired yielding tail))
 
@@ -90,12 +85,13 @@ unfoldable pub goes_to_front : Bool → Bool → Bool
 goes_to_front expired yielding = choose expired false (not yielding)
 
 -- SPECIFICATION 10.5.
-unfoldable pub choose_ready : ReadyKey → KeyOption → SchedulingParameters → Bool → Bool → Bool → Choice
+unfoldable pub choose_ready : Option DispatchKey → Option (DispatchKey × DispatchMode) → SchedulingParameters → Bool
+    → Bool → Bool → Choice
 choose_ready r k p expired yielding tail =
     given (should_switch_of r k p expired yielding tail)
     (λ switch. given (goes_to_front expired yielding)
     (λ front. record { should_switch = switch; front = front }))
 
 -- The mode of a key, for the choice of deadline and for accounting.
-unfoldable pub mode_of : KeyOption → ModeOption
-mode_of k = on_key k mode.None (λ a m. mode.Some m)
+unfoldable pub mode_of : Option (DispatchKey × DispatchMode) → Option DispatchMode
+mode_of k = on_key k None (λ a m. Some m)

@@ -43,31 +43,11 @@ pub struct Taken {
     pub turns: Turns,
 }
 
-#[derive(Clone, Copy)]
-pub enum TurnAnswer {
-    Taken(Taken),
-    Refused(Refusal),
-}
-
-// The key of the ready thread, if there is one.
-#[derive(Clone, Copy)]
-pub enum ReadyKey {
-    None,
-    Some(DispatchKey),
-}
-
 // Whether to switch to the ready thread, and whether the current one then goes to the front.
 #[derive(Clone, Copy)]
 pub struct Choice {
     pub should_switch: bool,
     pub front: bool,
-}
-
-// The mode of the current thread's key, if it has a key.
-#[derive(Clone, Copy)]
-pub enum ModeOption {
-    None,
-    Some(DispatchMode),
 }
 
 // What else there is on the processor: any queued thread, a queued budget thread, a ready thread, and the demand of

@@ -5,7 +5,7 @@ ghost use Rattle.decisions.specs.OwnDeadline.{borrows, saturated_end, budget_exp
 
 use arbitration::DispatchMode;
 use policy::BudgetParameters;
-use time::{Deadline, checked_add, min_of, period_end};
+use time::{checked_add, period_end};
 
 pub fn borrows(mode: DispatchMode) -> bool
     ensures { result ≡ borrows mode }
@@ -23,19 +23,19 @@ pub fn borrows(mode: DispatchMode) -> bool
 fn saturated_end(reading: u64, period_ns: u64) -> u64
     ensures { result ≡ saturated_end reading period_ns }
 {
-    let Deadline::Some(end) = period_end(reading, period_ns) else {
+    let Some(end) = period_end(reading, period_ns) else {
         return 18_446_744_073_709_551_615;
     };
     end
 }
 
 // Without a budget peer: until its time is spent or its period ends; none where the former does not fit.
-pub fn budget_expiry(reading: u64, remaining_ns: u64, budget: BudgetParameters) -> Deadline
+pub fn budget_expiry(reading: u64, remaining_ns: u64, budget: BudgetParameters) -> Option<u64>
     ensures { result ≡ budget_expiry reading remaining_ns budget }
 {
-    let Deadline::Some(expiry) = checked_add(reading, remaining_ns) else {
-        return Deadline::None;
+    let Some(expiry) = checked_add(reading, remaining_ns) else {
+        return None;
     };
     let end = saturated_end(reading, budget.period_ns);
-    Deadline::Some(min_of(expiry, end))
+    Some(expiry.min(end))
 }

@@ -1,91 +1,57 @@
 // The switch rule. After `choose_ready`: what it reads of the current thread and of the selection comes as arguments,
 // and ending a turn is its own call.
 ghost use Rattle.std.specs.Prelude.{◌≡◌};
-ghost use Rattle.decisions.specs.Switch.{compare_ranks, compare_bands, compare_algorithms, lesser, fifo_switches};
+ghost use Rattle.decisions.specs.Switch.{compare_bands, compare_algorithms, lesser, fifo_switches};
 ghost use Rattle.decisions.specs.Switch.{fair_switches, switches_among, switches_below, switches, should_switch_of};
 ghost use Rattle.decisions.specs.Switch.{goes_to_front, choose_ready, mode_of};
 
-use crate::{Choice, ModeOption, ReadyKey};
-use arbitration::KeyOption;
+use crate::Choice;
+use arbitration::DispatchMode;
 use dispatch_keys::{DispatchKey, compare_keys};
-use order::Ordering;
 use policy::{FairBackend, SchedulingParameters, SchedulingPolicy};
-
-// Rank and algorithm rank.
-fn compare_ranks(a: DispatchKey, b: DispatchKey) -> Ordering
-    ensures { result ≡ compare_ranks a b }
-{
-    if a.rank < b.rank {
-        return Ordering::Less;
-    }
-    if b.rank < a.rank {
-        return Ordering::Greater;
-    }
-    if a.algorithm_rank < b.algorithm_rank {
-        return Ordering::Less;
-    }
-    if b.algorithm_rank < a.algorithm_rank {
-        return Ordering::Greater;
-    }
-    Ordering::Equal
-}
+use std::cmp::Ordering;
 
 // Urgency, rank and algorithm rank, in that order.
+#[tactic(auto,
+// The definitions that are opened.
+unfolding(crate::specs::Switch::compare_bands, order::specs::Order::compare_parts, order::specs::Order::then_by,
+// And what those rest on.
+order::specs::Order::compare_numbers, refusal::specs::Cases::if_less, refusal::specs::Cases::choose))]
 fn compare_bands(a: DispatchKey, b: DispatchKey) -> Ordering
     ensures { result ≡ compare_bands a b }
 {
-    if a.urgency < b.urgency {
-        return Ordering::Less;
-    }
-    if b.urgency < a.urgency {
-        return Ordering::Greater;
-    }
-    compare_ranks(a, b)
+    (a.urgency, a.rank, a.algorithm_rank).cmp(&(b.urgency, b.rank, b.algorithm_rank))
 }
 
+#[tactic(auto,
+// The definitions that are opened.
+unfolding(crate::specs::Switch::compare_algorithms, order::specs::Order::compare_parts, order::specs::Order::then_by,
+// And what those rest on.
+order::specs::Order::compare_numbers, refusal::specs::Cases::if_less, refusal::specs::Cases::choose))]
 fn compare_algorithms(a: DispatchKey, b: DispatchKey) -> Ordering
     ensures { result ≡ compare_algorithms a b }
 {
-    let x = a.algorithm;
-    let y = b.algorithm;
-    if x.high < y.high {
-        return Ordering::Less;
-    }
-    if y.high < x.high {
-        return Ordering::Greater;
-    }
-    if x.low < y.low {
-        return Ordering::Less;
-    }
-    if y.low < x.low {
-        return Ordering::Greater;
-    }
-    Ordering::Equal
+    a.algorithm.cmp(&b.algorithm)
 }
 
 // Whether the ready key is less than the current one.
+#[tactic(auto, unfolding(crate::specs::Switch::lesser, order::specs::Order::on_ordering))]
 fn is_lesser(a: DispatchKey, b: DispatchKey) -> bool
     ensures { result ≡ lesser a b }
 {
-    match compare_keys(a, b) {
-        Ordering::Less => true,
-        Ordering::Equal => false,
-        Ordering::Greater => false,
-    }
+    compare_keys(a, b).is_lt()
 }
 
 // A FIFO thread on equal urgency, rank and algorithm rank.
+#[tactic(auto,
+// The definitions that are opened.
+unfolding(crate::specs::Switch::fifo_switches, order::specs::Order::on_ordering, refusal::specs::Cases::choose))]
 fn fifo_switches(a: DispatchKey, b: DispatchKey, yielding: bool, tail: bool) -> bool
     ensures { result ≡ fifo_switches a b yielding tail }
 {
     match compare_algorithms(a, b) {
         Ordering::Less => true,
-        Ordering::Equal => {
-            if yielding {
-                return true;
-            }
-            tail
-        }
+        Ordering::Equal => yielding || tail,
         Ordering::Greater => false,
     }
 }
@@ -169,9 +135,12 @@ fn switches(
     }
 }
 
+#[tactic(auto,
+// The definitions that are opened.
+unfolding(crate::specs::Switch::should_switch_of, crate::specs::Switch::on_ready, crate::specs::Switch::on_key))]
 fn should_switch(
-    ready: ReadyKey,
-    current: KeyOption,
+    ready: Option<DispatchKey>,
+    current: Option<(DispatchKey, DispatchMode)>,
     parameters: SchedulingParameters,
     expired: bool,
     yielding: bool,
@@ -180,10 +149,10 @@ fn should_switch(
     ensures { result ≡ should_switch_of ready current parameters expired yielding tail }
 {
     match ready {
-        ReadyKey::None => false,
-        ReadyKey::Some(a) => match current {
-            KeyOption::None => true,
-            KeyOption::Some(b, _) => switches(a, b, parameters, expired, yielding, tail),
+        None => false,
+        Some(a) => match current {
+            None => true,
+            Some((b, _)) => switches(a, b, parameters, expired, yielding, tail),
         },
     }
 }
@@ -200,8 +169,8 @@ fn goes_to_front(expired: bool, yielding: bool) -> bool
 
 // The switch rule: `tail` is the deferred placement Tail, `expired` whether its slice or burst is spent.
 pub fn choose_ready(
-    ready: ReadyKey,
-    current: KeyOption,
+    ready: Option<DispatchKey>,
+    current: Option<(DispatchKey, DispatchMode)>,
     parameters: SchedulingParameters,
     expired: bool,
     yielding: bool,
@@ -218,11 +187,12 @@ pub fn choose_ready(
 }
 
 // The mode of a key, for the choice of deadline and for accounting.
-pub fn mode_of(key: KeyOption) -> ModeOption
+#[tactic(auto, unfolding(crate::specs::Switch::mode_of, crate::specs::Switch::on_key))]
+pub fn mode_of(key: Option<(DispatchKey, DispatchMode)>) -> Option<DispatchMode>
     ensures { result ≡ mode_of key }
 {
     match key {
-        KeyOption::None => ModeOption::None,
-        KeyOption::Some(_, mode) => ModeOption::Some(mode),
+        None => None,
+        Some((_, mode)) => Some(mode),
     }
 }

@@ -1,19 +1,19 @@
 // Turns, and the two counters that they come from. After `prepare_enqueue`.
 ghost use Rattle.std.specs.Prelude.{◌≡◌};
+ghost use Rattle.refusal.specs.Answer.{by_number};
 ghost use Rattle.decisions.specs.Turns.{front_turn, back_turn, kept_turn, turn_for};
-ghost use Rattle.decisions.specs.Answers.{turn_answer};
 
-use crate::{Taken, TurnAnswer, Turns};
+use crate::{Taken, Turns};
 use policy::SchedulingPolicy;
 use refusal::Refusal;
 
 // One before the last front turn; TurnsSpent where that would be 0 or less.
-fn front_turn(turns: Turns) -> TurnAnswer
-    ensures { turn_answer result ≡ front_turn turns }
+fn front_turn(turns: Turns) -> Result<Taken, Refusal>
+    ensures { by_number result ≡ front_turn turns }
 {
     if 1 < turns.front {
         let turn = turns.front - 1;
-        return TurnAnswer::Taken(Taken {
+        return Ok(Taken {
             turn,
             turns: Turns {
                 back: turns.back,
@@ -21,15 +21,15 @@ fn front_turn(turns: Turns) -> TurnAnswer
             },
         });
     }
-    TurnAnswer::Refused(Refusal::TurnsSpent)
+    Err(Refusal::TurnsSpent)
 }
 
 // The next turn at the back; TurnsSpent where it is 2^64 - 1.
-fn back_turn(turns: Turns) -> TurnAnswer
-    ensures { turn_answer result ≡ back_turn turns }
+fn back_turn(turns: Turns) -> Result<Taken, Refusal>
+    ensures { by_number result ≡ back_turn turns }
 {
     if turns.back < 18_446_744_073_709_551_615 {
-        return TurnAnswer::Taken(Taken {
+        return Ok(Taken {
             turn: turns.back,
             turns: Turns {
                 back: turns.back + 1,
@@ -37,21 +37,26 @@ fn back_turn(turns: Turns) -> TurnAnswer
             },
         });
     }
-    TurnAnswer::Refused(Refusal::TurnsSpent)
+    Err(Refusal::TurnsSpent)
 }
 
-fn kept_turn(turn: u64, turns: Turns) -> TurnAnswer
-    ensures { turn_answer result ≡ kept_turn turn turns }
+fn kept_turn(turn: u64, turns: Turns) -> Result<Taken, Refusal>
+    ensures { by_number result ≡ kept_turn turn turns }
 {
     if turn == 0 {
         return back_turn(turns);
     }
-    TurnAnswer::Taken(Taken { turn, turns })
+    Ok(Taken { turn, turns })
 }
 
 // A front turn for FIFO alone; others keep their turn at the front unless it is 0.
-pub fn turn_for(front: bool, policy: SchedulingPolicy, turn: u64, turns: Turns) -> TurnAnswer
-    ensures { turn_answer result ≡ turn_for front policy turn turns }
+pub fn turn_for(
+    front: bool,
+    policy: SchedulingPolicy,
+    turn: u64,
+    turns: Turns,
+) -> Result<Taken, Refusal>
+    ensures { by_number result ≡ turn_for front policy turn turns }
 {
     if !front {
         return back_turn(turns);

@@ -1,29 +1,25 @@
 -- Laws by which the functions on candidates and demands meet the definitions.
-use Rattle.std.specs.Prelude.{◌≡◌, refl, Bool}
+use Rattle.std.specs.Prelude.{◌≡◌, refl, Bool, Option, Some, None}
 use Rattle.algorithms.specs.declared.Wide.{Wide}
 use Rattle.arbitration.specs.declared.Candidate.{Candidate}
 use Rattle.arbitration.specs.declared.Demand.{Demand}
-use Rattle.demands.specs.declared.PassOption.{PassOption}
-use Rattle.demands.specs.declared.PassOption.TheVariants as pass
-use Rattle.demands.specs.declared.CandidateOption.{CandidateOption}
-use Rattle.demands.specs.declared.CandidateOption.TheVariants as candidate
 use Rattle.demands.specs.Demands.{on_pass, on_candidate}
 
-module _ {A : Type 0} {y : A} {x : PassOption} (a : A) (f : Wide → A) where
-  pub no_pass : x ≡ pass.None → y ≡ a → y ≡ on_pass x a f
+module _ {A : Type 0} {y : A} {x : Option Wide} (a : A) (f : Wide → A) where
+  pub no_pass : x ≡ None → y ≡ a → y ≡ on_pass x a f
   unfolding on_pass
   no_pass e h = rw e h
 
-  pub some_pass : {p : Wide} → x ≡ pass.Some p → y ≡ f p → y ≡ on_pass x a f
+  pub some_pass : {p : Wide} → x ≡ Some p → y ≡ f p → y ≡ on_pass x a f
   unfolding on_pass
   some_pass e h = rw e h
 
-module _ {A : Type 0} {y : A} {x : CandidateOption} (a : A) (f : Candidate → A) where
-  pub no_candidate : x ≡ candidate.None → y ≡ a → y ≡ on_candidate x a f
+module _ {A : Type 0} {y : A} {x : Option Candidate} (a : A) (f : Candidate → A) where
+  pub no_candidate : x ≡ None → y ≡ a → y ≡ on_candidate x a f
   unfolding on_candidate
   no_candidate e h = rw e h
 
-  pub some_candidate : {c : Candidate} → x ≡ candidate.Some c → y ≡ f c → y ≡ on_candidate x a f
+  pub some_candidate : {c : Candidate} → x ≡ Some c → y ≡ f c → y ≡ on_candidate x a f
   unfolding on_candidate
   some_candidate e h = rw e h
 

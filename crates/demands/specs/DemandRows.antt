@@ -1,5 +1,5 @@
 -- What a record asks for by the tags of its row, and that this is what the record asks for.
-use Rattle.std.specs.Prelude.{ℕ, ◌%◌, ◌≡◌, Bool, List, eqb}
+use Rattle.std.specs.Prelude.{ℕ, ◌%◌, ◌≡◌, Bool, List, eqb, Option, Some}
 use Rattle.std.proofs.Math.Path.{refl, sym}
 use Rattle.std.proofs.Common.{◌∙◌}
 use Rattle.std.proofs.Math.Bool.{true, false}
@@ -24,16 +24,14 @@ use Rattle.codec.specs.Codec.{word, policy_from, role_from, backend_from, epoch_
 use Rattle.codec.specs.Codec.{runtime_of}
 use Rattle.codec.specs.Codec.{decoded, ready_turn_word}
 use Rattle.demands.specs.declared.Gathered.{Gathered}
-use Rattle.demands.specs.declared.PassOption.{PassOption}
-use Rattle.demands.specs.declared.PassOption.TheVariants as pass
 use Rattle.demands.specs.Demands.{candidate_of, demand_of, joined, add_demand, lesser_pass, on_pass, lowest_pass}
 use Rattle.demands.specs.Demands.{gathered, no_demand}
 use Rattle.policy_words.specs.PolicyWords.{policy_tag, fifo_priority, role_tag, backend_tag, runtime_tag, runtime_first}
 use Rattle.policy_words.specs.PolicyWords.{runtime_second, runtime_third, runtime_fourth}
 
 -- The lower of the lowest pass so far and another.
-abbrev pub lower_pass : PassOption → Wide → PassOption
-lower_pass lowest p = on_pass lowest (pass.Some p) (λ old. given (lesser_pass old p) pass.Some)
+abbrev pub lower_pass : Option Wide → Wide → Option Wide
+lower_pass lowest p = on_pass lowest (Some p) (λ old. given (lesser_pass old p) Some)
 
 -- `is_protected` and `is_priority` by the role's tag.
 unfoldable pub protected_tag : ℕ → Bool
@@ -81,7 +79,7 @@ pass_row w =
     zero_pass)
 
 -- `lowest_pass` by the policy's tag.
-unfoldable pub lowest_row : PassOption → List ℕ → PassOption
+unfoldable pub lowest_row : Option Wide → List ℕ → Option Wide
 lowest_row lowest w =
     if_equal (word w policy_tag) 0 lowest
     (if_equal (word w policy_tag) 1
@@ -166,19 +164,19 @@ module _ (w : List ℕ) where
   pub pass_by_tags : {r : Wide} → r ≡ pass_row w → r ≡ (candidate_of (decoded w)).fair_pass
   pass_by_tags e = e ∙ sym pass_row_lem
 
-  lowest_row_lem : (lowest : PassOption) → lowest_pass lowest (candidate_of (decoded w)) ≡ lowest_row lowest w
+  lowest_row_lem : (lowest : Option Wide) → lowest_pass lowest (candidate_of (decoded w)) ≡ lowest_row lowest w
   unfolding lowest_pass lowest_row candidate_of given decoded parameters_of if_equal choose
   lowest_row_lem lowest = policy_tag_lem (word w policy_tag)
       (word w fifo_priority) _ _ _ _ ∙ go lowest _ (eqb (word w policy_tag) 0) (eqb (word w policy_tag) 1)
       (eqb (word w policy_tag) 2)
     where
-      go : (x y : PassOption) (a b c : Bool) → choose a x (choose b y (choose c x x)) ≡ choose a x (choose b y x)
+      go : (x y : Option Wide) (a b c : Bool) → choose a x (choose b y (choose c x x)) ≡ choose a x (choose b y x)
       go x y true b c = refl
       go x y false true c = refl
       go x y false false true = refl
       go x y false false false = refl
 
-  pub lowest_by_tags : {r : PassOption} (lowest : PassOption) → r ≡ lowest_row lowest w
+  pub lowest_by_tags : {r : Option Wide} (lowest : Option Wide) → r ≡ lowest_row lowest w
       → r ≡ lowest_pass lowest (candidate_of (decoded w))
   lowest_by_tags lowest e = e ∙ sym (lowest_row_lem lowest)
 
@@ -197,7 +195,7 @@ pub priority_by_tag : (tag : ℕ) {r : Bool} → r ≡ priority_tag tag → r �
 priority_by_tag tag e = e ∙ sym (priority_tag_lem tag)
 
 -- Demand and lowest pass, each with one more.
-pub row_gathered : (g : Gathered) (c : Candidate) {more d : Demand} {l : PassOption} → more ≡ demand_of c
+pub row_gathered : (g : Gathered) (c : Candidate) {more d : Demand} {l : Option Wide} → more ≡ demand_of c
     → d ≡ joined g.demand more → l ≡ lowest_pass g.fair_min_pass c
     → record { demand = d; fair_min_pass = l } ≡ gathered g c
 unfolding gathered add_demand given

@@ -1,8 +1,8 @@
 -- Candidates, the demand of several, and their lowest fair pass. After `ReadySnapshot::candidate` and `add_demand` of
 -- scheduler/queue.rs.
-use Rattle.std.specs.Prelude.{Bool, true, false, [], ◌∷◌}
+use Rattle.std.specs.Prelude.{Bool, true, false, [], ◌∷◌, Option, Some, None}
 use Rattle.refusal.specs.Cases.{choose, given}
-use Rattle.order.specs.declared.Ordering.{Ordering}
+use Rattle.std.specs.declared.cmp.Ordering.{Ordering}
 use Rattle.order.specs.Order.{compare_parts, on_ordering}
 use Rattle.policy.specs.PolicyCases.{on_policy}
 use Rattle.algorithms.specs.declared.Wide.{Wide}
@@ -12,10 +12,6 @@ use Rattle.arbitration.specs.declared.Demand.{Demand}
 use Rattle.arbitration.specs.Window.{is_priority, is_protected}
 use Rattle.thread.specs.declared.ThreadRecord.{ThreadRecord}
 use Rattle.thread.specs.Filing.{budget_available_of}
-use Rattle.demands.specs.declared.PassOption.{PassOption}
-use Rattle.demands.specs.declared.PassOption.TheVariants as pass
-use Rattle.demands.specs.declared.CandidateOption.{CandidateOption}
-use Rattle.demands.specs.declared.CandidateOption.TheVariants as candidate
 use Rattle.demands.specs.declared.Gathered.{Gathered}
 
 -- A record as arbitration sees it: the pass of a Stride thread, else 0; whether it is a budget with time left.
@@ -93,16 +89,16 @@ unfoldable pub lesser_pass : Wide → Wide → Wide
 lesser_pass old new = on_ordering (compare_passes new old) new old old
 
 -- None first.
-unfoldable pub on_pass : {A : Type 0} → PassOption → A → (Wide → A) → A
-on_pass pass.None a f = a
-on_pass (pass.Some p) a f = f p
+unfoldable pub on_pass : {A : Type 0} → Option Wide → A → (Wide → A) → A
+on_pass None a f = a
+on_pass (Some p) a f = f p
 
 -- The lowest pass with one more candidate: only a Fair one counts (SPECIFICATION 9.3).
-unfoldable pub lowest_pass : PassOption → Candidate → PassOption
+unfoldable pub lowest_pass : Option Wide → Candidate → Option Wide
 lowest_pass lowest c =
     on_policy c.parameters.policy
     (λ priority. lowest)
-    (on_pass lowest (pass.Some c.fair_pass) (λ old. given (lesser_pass old c.fair_pass) pass.Some))
+    (on_pass lowest (Some c.fair_pass) (λ old. given (lesser_pass old c.fair_pass) Some))
     lowest
     lowest
 
@@ -114,13 +110,13 @@ gathered g c =
     (λ lowest. record { demand = demand; fair_min_pass = lowest }))
 
 abbrev pub nothing_gathered : Gathered
-nothing_gathered = record { demand = no_demand; fair_min_pass = pass.None }
+nothing_gathered = record { demand = no_demand; fair_min_pass = None }
 
 -- None first.
-unfoldable pub on_candidate : {A : Type 0} → CandidateOption → A → (Candidate → A) → A
-on_candidate candidate.None a f = a
-on_candidate (candidate.Some c) a f = f c
+unfoldable pub on_candidate : {A : Type 0} → Option Candidate → A → (Candidate → A) → A
+on_candidate None a f = a
+on_candidate (Some c) a f = f c
 
 -- What the running thread asks for, if there is one.
-unfoldable pub of_current : CandidateOption → Gathered
+unfoldable pub of_current : Option Candidate → Gathered
 of_current current = on_candidate current nothing_gathered (λ c. gathered nothing_gathered c)

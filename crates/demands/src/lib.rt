@@ -15,29 +15,15 @@ use codec::{
     BACKEND_TAG, POLICY_TAG, READY_TURN, ROLE_TAG, RUNTIME_FIRST, RUNTIME_SECOND, RUNTIME_TAG, Row,
     parameters_of,
 };
-use order::Ordering;
 use policy::{SchedulingPolicy, SchedulingRole};
 use queue::has_time_left;
-
-// A fair pass, or none.
-#[derive(Clone, Copy)]
-pub enum PassOption {
-    None,
-    Some(Wide),
-}
-
-// The running thread, if there is one, taken as given.
-#[derive(Clone, Copy)]
-pub enum CandidateOption {
-    None,
-    Some(Candidate),
-}
+use std::cmp::Ordering;
 
 // What the heads and the running thread ask for, and the lowest fair pass among them.
 #[derive(Clone, Copy)]
 pub struct Gathered {
     pub demand: Demand,
-    pub fair_min_pass: PassOption,
+    pub fair_min_pass: Option<Wide>,
 }
 
 fn either(a: bool, b: bool) -> bool
@@ -121,46 +107,40 @@ pub fn add_demand(demand: Demand, candidate: Candidate) -> Demand
 }
 
 // Passes compare as wide numbers.
+#[tactic(auto,
+// The definitions that are opened.
+unfolding(crate::specs::Demands::compare_passes, order::specs::Order::compare_parts, order::specs::Order::then_by,
+// And what those rest on.
+order::specs::Order::compare_numbers, refusal::specs::Cases::if_less, refusal::specs::Cases::choose))]
 fn compare_passes(a: Wide, b: Wide) -> Ordering
     ensures { result ≡ demands.compare_passes a b }
 {
-    if a.high < b.high {
-        return Ordering::Less;
-    }
-    if b.high < a.high {
-        return Ordering::Greater;
-    }
-    if a.low < b.low {
-        return Ordering::Less;
-    }
-    if b.low < a.low {
-        return Ordering::Greater;
-    }
-    Ordering::Equal
+    a.cmp(&b)
 }
 
+#[tactic(auto, unfolding(crate::specs::Demands::lesser_pass, order::specs::Order::on_ordering))]
 fn lesser_pass(old: Wide, new: Wide) -> Wide
     ensures { result ≡ demands.lesser_pass old new }
 {
-    match compare_passes(new, old) {
-        Ordering::Less => new,
-        Ordering::Equal => old,
-        Ordering::Greater => old,
+    if compare_passes(new, old).is_lt() {
+        new
+    } else {
+        old
     }
 }
 
 // The lower of the lowest pass so far and another.
-fn lower_pass(lowest: PassOption, pass: Wide) -> PassOption
+fn lower_pass(lowest: Option<Wide>, pass: Wide) -> Option<Wide>
     ensures { result ≡ lower_pass lowest pass }
 {
     match lowest {
-        PassOption::None => PassOption::Some(pass),
-        PassOption::Some(old) => PassOption::Some(lesser_pass(old, pass)),
+        None => Some(pass),
+        Some(old) => Some(lesser_pass(old, pass)),
     }
 }
 
 // The lowest pass with one more candidate: only a Fair one counts.
-pub fn lowest_pass(lowest: PassOption, candidate: Candidate) -> PassOption
+pub fn lowest_pass(lowest: Option<Wide>, candidate: Candidate) -> Option<Wide>
     ensures { result ≡ demands.lowest_pass lowest candidate }
 {
     let parameters = candidate.parameters;
@@ -189,7 +169,7 @@ pub fn gather(so_far: Gathered, candidate: Candidate) -> Gathered
 }
 
 // What the running thread asks for, if there is one.
-pub fn of_current(current: CandidateOption) -> Gathered
+pub fn of_current(current: Option<Candidate>) -> Gathered
     ensures { result ≡ demands.of_current current }
 {
     let nothing = Gathered {
@@ -200,11 +180,11 @@ pub fn of_current(current: CandidateOption) -> Gathered
             eligible_budget: false,
             any_budget: false,
         },
-        fair_min_pass: PassOption::None,
+        fair_min_pass: None,
     };
     match current {
-        CandidateOption::None => nothing,
-        CandidateOption::Some(candidate) => gather(nothing, candidate),
+        None => nothing,
+        Some(candidate) => gather(nothing, candidate),
     }
 }
 
@@ -304,7 +284,7 @@ fn pass_of_row(w: Row) -> Wide
 }
 
 // The lowest pass with one more row: only a Fair one counts.
-fn lowest_with_row(lowest: PassOption, w: Row) -> PassOption
+fn lowest_with_row(lowest: Option<Wide>, w: Row) -> Option<Wide>
     ensures { result ≡ demands.lowest_pass lowest (demands.candidate_of (decoded w)) }
 {
     if w[POLICY_TAG] == 0 {

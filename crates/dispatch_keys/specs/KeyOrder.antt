@@ -1,6 +1,6 @@
 -- Dispatch keys are in a strict total order: comparing part by part is one (crate order), and a key is its parts.
 use Rattle.std.specs.Prelude.{◌≡◌}
-use Rattle.order.specs.declared.Ordering.TheVariants.{Less, Equal}
+use Rattle.std.specs.declared.cmp.Ordering.TheVariants.{Less, Equal}
 use Rattle.order.specs.StrictOrder.{flipped, same_key, equal_only, turned_about, less_transitive}
 use Rattle.dispatch_keys.specs.declared.DispatchKey.{DispatchKey}
 use Rattle.dispatch_keys.specs.Keys.{key_parts, compare_keys}

@@ -1,6 +1,6 @@
 -- Dispatch keys and their order. After arbitration.rs.
 use Rattle.std.specs.Prelude.{ℕ, List, [], ◌∷◌}
-use Rattle.order.specs.declared.Ordering.{Ordering}
+use Rattle.std.specs.declared.cmp.Ordering.{Ordering}
 use Rattle.order.specs.Order.{compare_parts}
 use Rattle.dispatch_keys.specs.declared.DispatchKey.{DispatchKey}
 

@@ -1,20 +1,14 @@
 -- The words of a record, of a window and of a queue: a variant by its number, an absent link, epoch or budget as zeros,
 -- a word that nothing uses as 0.
-use Rattle.std.specs.Prelude.{ℕ, zero, suc, Bool, true, false, List, [], ◌∷◌, ◌++◌, map}
-use Rattle.time.specs.declared.Epoch.{Epoch}
-use Rattle.time.specs.declared.Epoch.TheVariants as epoch
+use Rattle.std.specs.Prelude.{ℕ, zero, suc, Bool, true, false, List, [], ◌∷◌, ◌++◌, map, Option, Some, None}
 use Rattle.policy.specs.declared.SchedulingPolicy.{SchedulingPolicy}
 use Rattle.policy.specs.declared.SchedulingPolicy.TheVariants as policy
 use Rattle.policy.specs.declared.SchedulingRole.{SchedulingRole}
 use Rattle.policy.specs.declared.SchedulingRole.TheVariants as role
 use Rattle.policy.specs.declared.FairBackend.{FairBackend}
 use Rattle.policy.specs.declared.FairBackend.TheVariants as backend
-use Rattle.policy.specs.declared.BudgetOption.{BudgetOption}
-use Rattle.policy.specs.declared.BudgetOption.TheVariants as budget
 use Rattle.algorithms.specs.declared.PolicyRuntime.{PolicyRuntime}
 use Rattle.algorithms.specs.declared.PolicyRuntime.TheVariants as runtime
-use Rattle.thread.specs.declared.Link.{Link}
-use Rattle.thread.specs.declared.Link.TheVariants as link
 use Rattle.thread.specs.declared.QueueMembership.{QueueMembership}
 use Rattle.thread.specs.declared.QueueMembership.TheVariants as membership
 use Rattle.thread.specs.declared.ThreadQueue.{ThreadQueue}
@@ -23,6 +17,7 @@ use Rattle.arbitration.specs.declared.CpuWindow.{CpuWindow}
 use Rattle.queue.specs.declared.Root.{Root}
 use Rattle.queue.specs.RunQueue.{CpuRunQueue}
 use Rattle.codec.specs.Codec.{word}
+use Rattle.policy.specs.declared.BudgetParameters.{BudgetParameters}
 
 -- The first so many words of a list, then the rest.
 abbrev pub laid_from : ℕ → ℕ → List ℕ → List ℕ → List ℕ
@@ -47,13 +42,13 @@ unfoldable pub backend_word : FairBackend → ℕ
 backend_word backend.Stride = 0
 backend_word backend.RoundRobin = 1
 
-unfoldable pub budget_words : BudgetOption → List ℕ
-budget_words budget.None = 0 ∷ 0 ∷ 0 ∷ 0 ∷ []
-budget_words (budget.Some b) = 1 ∷ b.budget_ns ∷ b.period_ns ∷ b.burst_ns ∷ []
+unfoldable pub budget_words : Option BudgetParameters → List ℕ
+budget_words None = 0 ∷ 0 ∷ 0 ∷ 0 ∷ []
+budget_words (Some b) = 1 ∷ b.budget_ns ∷ b.period_ns ∷ b.burst_ns ∷ []
 
-unfoldable pub epoch_words : Epoch → List ℕ
-epoch_words epoch.None = 0 ∷ 0 ∷ []
-epoch_words (epoch.Some n) = 1 ∷ n ∷ []
+unfoldable pub epoch_words : Option ℕ → List ℕ
+epoch_words None = 0 ∷ 0 ∷ []
+epoch_words (Some n) = 1 ∷ n ∷ []
 
 unfoldable pub runtime_words : PolicyRuntime → List ℕ
 runtime_words runtime.Fifo = 0 ∷ 0 ∷ 0 ∷ 0 ∷ 0 ∷ []
@@ -62,9 +57,9 @@ runtime_words (runtime.Budget b) =
     2 ∷ laid 2 (epoch_words b.epoch) (b.remaining_ns ∷ b.burst_remaining_ns ∷ [])
 runtime_words runtime.Idle = 3 ∷ 0 ∷ 0 ∷ 0 ∷ 0 ∷ []
 
-unfoldable pub link_words : Link → List ℕ
-link_words link.None = 0 ∷ 0 ∷ []
-link_words (link.Some n) = 1 ∷ n ∷ []
+unfoldable pub link_words : Option ℕ → List ℕ
+link_words None = 0 ∷ 0 ∷ []
+link_words (Some n) = 1 ∷ n ∷ []
 
 unfoldable pub membership_words : QueueMembership → List ℕ
 membership_words membership.None = 0 ∷ 0 ∷ 0 ∷ []

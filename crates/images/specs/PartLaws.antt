@@ -1,26 +1,21 @@
 -- Laws of the parts: words that pass a part's test are the words of what they stand for; a part whose numbers fit their
 -- types has words that pass the test and stand for it.
 use Rattle.std.specs.Prelude.{ℕ, zero, suc, ◌+◌, ◌%◌, ◌<◌, ◌≡◌, refl, Bool, false, List, [], ◌∷◌, ltb, eqb, length}
+use Rattle.std.specs.Prelude.{Option, Some, None}
 use Rattle.std.specs.Prelude.{drop}
 use Rattle.std.proofs.Common.{arith, sym, drop-cons}
 use Rattle.std.proofs.Math.Bool.{true}
 use Rattle.std.proofs.Math.Seq.{drop-length}
 use borrow.Author.Tests.{ltb-true, eqb-true, eqb-false, lt-ltb}
 use Rattle.refusal.specs.Cases.{choose, given, if_less, if_equal}
-use Rattle.time.specs.declared.Epoch.{Epoch}
-use Rattle.time.specs.declared.Epoch.TheVariants as epoch
 use Rattle.policy.specs.declared.SchedulingPolicy.{SchedulingPolicy}
 use Rattle.policy.specs.declared.SchedulingPolicy.TheVariants as policy
 use Rattle.policy.specs.declared.SchedulingRole.{SchedulingRole}
 use Rattle.policy.specs.declared.SchedulingRole.TheVariants as role
 use Rattle.policy.specs.declared.FairBackend.{FairBackend}
 use Rattle.policy.specs.declared.FairBackend.TheVariants as backend
-use Rattle.policy.specs.declared.BudgetOption.{BudgetOption}
-use Rattle.policy.specs.declared.BudgetOption.TheVariants as budget
 use Rattle.algorithms.specs.declared.PolicyRuntime.{PolicyRuntime}
 use Rattle.algorithms.specs.declared.PolicyRuntime.TheVariants as runtime
-use Rattle.thread.specs.declared.Link.{Link}
-use Rattle.thread.specs.declared.Link.TheVariants as link
 use Rattle.thread.specs.declared.QueueMembership.{QueueMembership}
 use Rattle.thread.specs.declared.QueueMembership.TheVariants as membership
 use Rattle.codec.specs.Codec.{word, link_from, membership_from, policy_from, role_from, backend_from, budget_from}
@@ -33,6 +28,7 @@ use Rattle.images.specs.Encoded.{laid_from, laid, policy_words_of, role_word, ba
 use Rattle.images.specs.Encoded.{runtime_words, link_words, membership_words, flag_word}
 use Rattle.images.specs.Encodes.{both, zeros, option_encodes, policy_encodes, budget_encodes, runtime_encodes}
 use Rattle.images.specs.Encodes.{membership_encodes}
+use Rattle.policy.specs.declared.BudgetParameters.{BudgetParameters}
 
 -- What a test that holds says of its parts.
 pub both_first : (a b : Bool) → both a b ≡ true → a ≡ true
@@ -328,25 +324,25 @@ module _ (t a b : ℕ) where
       in_none_lem (less_first t 5 (zeros a b 0) h₄) (zeros_first a b 0 z) (zeros_second a b 0 z))))
 
 -- The words of each part pass its test and stand for it.
-pub link_passes : (l : Link) → option_encodes (word (link_words l) 0) (word (link_words l) 1) ≡ true
+pub link_passes : (l : Option ℕ) → option_encodes (word (link_words l) 0) (word (link_words l) 1) ≡ true
 unfolding link_words option_encodes if_equal choose
-link_passes link.None = refl
-link_passes (link.Some n) = refl
+link_passes None = refl
+link_passes (Some n) = refl
 
-pub link_stands : (l : Link) → link_from (word (link_words l) 0) (word (link_words l) 1) ≡ l
+pub link_stands : (l : Option ℕ) → link_from (word (link_words l) 0) (word (link_words l) 1) ≡ l
 unfolding link_words link_from if_equal choose
-link_stands link.None = refl
-link_stands (link.Some n) = refl
+link_stands None = refl
+link_stands (Some n) = refl
 
-pub epoch_passes : (x : Epoch) → option_encodes (word (epoch_words x) 0) (word (epoch_words x) 1) ≡ true
+pub epoch_passes : (x : Option ℕ) → option_encodes (word (epoch_words x) 0) (word (epoch_words x) 1) ≡ true
 unfolding epoch_words option_encodes if_equal choose
-epoch_passes epoch.None = refl
-epoch_passes (epoch.Some n) = refl
+epoch_passes None = refl
+epoch_passes (Some n) = refl
 
-pub epoch_stands : (x : Epoch) → epoch_from (word (epoch_words x) 0) (word (epoch_words x) 1) ≡ x
+pub epoch_stands : (x : Option ℕ) → epoch_from (word (epoch_words x) 0) (word (epoch_words x) 1) ≡ x
 unfolding epoch_words epoch_from if_equal choose
-epoch_stands epoch.None = refl
-epoch_stands (epoch.Some n) = refl
+epoch_stands None = refl
+epoch_stands (Some n) = refl
 
 -- Of either branch, and so of the one that is chosen.
 chosen : {A : Type 0} (P : A → Type 0) (t : Bool) (x y : A) → P x → P y → P (choose t x y)
@@ -412,20 +408,20 @@ pub halted_stands : (b : Bool) → halted_from (flag_word b) ≡ b
 unfolding halted_from flag_from
 halted_stands b = flag_stands b
 
-pub budget_passes : (b : BudgetOption)
+pub budget_passes : (b : Option BudgetParameters)
     → budget_encodes (word (budget_words b) 0) (word (budget_words b) 1) (word (budget_words b) 2)
     (word (budget_words b) 3)
     ≡ true
 unfolding budget_words budget_encodes zeros if_equal choose
-budget_passes budget.None = refl
-budget_passes (budget.Some b) = refl
+budget_passes None = refl
+budget_passes (Some b) = refl
 
-pub budget_stands : (b : BudgetOption)
+pub budget_stands : (b : Option BudgetParameters)
     → budget_from (word (budget_words b) 0) (word (budget_words b) 1) (word (budget_words b) 2)
     (word (budget_words b) 3) ≡ b
 unfolding budget_words budget_from if_equal choose
-budget_stands budget.None = refl
-budget_stands (budget.Some b) = refl
+budget_stands None = refl
+budget_stands (Some b) = refl
 
 pub runtime_passes : (r : PolicyRuntime)
     → runtime_encodes (word (runtime_words r) 0) (word (runtime_words r) 1) (word (runtime_words r) 2)

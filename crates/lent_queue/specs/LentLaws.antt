@@ -1,18 +1,18 @@
 -- What a read gives of the lent queue, and what a store of one row leaves of it.
 use Rattle.std.specs.Prelude.{ℕ, zero, suc, ◌+◌, ◌<◌, ◌≤◌, ◌≡◌, refl, Bool, length, get_or, set, take, drop, replicate}
+use Rattle.std.specs.Prelude.{Option, Result, Ok, Err}
 use Rattle.std.proofs.Common.{arith, ◌∙◌, get_or-take}
 use Rattle.std.proofs.Math.Path.{sym, ap}
 use mathlib.Core.List.{List, [], ◌∷◌, map}
 use Rattle.std.proofs.Math.ListN.{get_or-map}
 use Rattle.std.proofs.Math.Seq.{get_or-set_same, get_or-set_other, get_or-drop, take-set-le, take-set-lt, drop-set-lt}
 use Rattle.std.proofs.Math.Seq.{drop-set-add}
-use Rattle.refusal.specs.Answer.{number_of}
+use Rattle.refusal.specs.Answer.{number_of, by_number}
 use Rattle.refusal.specs.declared.Refusal.{Refusal}
 use Rattle.refusal.specs.Cases.{choose, if_equal}
 use Rattle.thread.specs.declared.CpuIndex.{CpuIndex}
 use Rattle.thread.specs.declared.ThreadRecord.{ThreadRecord}
 use Rattle.rows.specs.Table.{Out}
-use Rattle.thread.specs.declared.Link.{Link}
 use Rattle.thread.specs.declared.ThreadQueue.{ThreadQueue}
 use Rattle.thread.specs.Membership.{empty_queue}
 use Rattle.codec.specs.Codec.{word, link_from, epoch_from}
@@ -20,14 +20,9 @@ use Rattle.queue.specs.declared.Root.{Root}
 use Rattle.queue.specs.RunQueue.{CpuRunQueue}
 use Rattle.queue_work.specs.declared.Parts.{Parts}
 use Rattle.queue.specs.declared.Filed.{Filed}
-use Rattle.queue.specs.declared.Judgement.{Judgement}
-use Rattle.queue.specs.declared.Judgement.TheVariants as judged
 use Rattle.queue.specs.declared.Plan.{Plan}
-use Rattle.queue.specs.declared.Planned.{Planned}
-use Rattle.queue.specs.declared.Planned.TheVariants as planned
 use Rattle.queue.specs.Queue.{Step, empty_root, root_of, marked, stored, new_queue, fair_len, enqueue_call, remove_call}
 use Rattle.queue.specs.Plan.{judgement, insertion_plan, insert_by, remove_filed}
-use Rattle.queue.specs.Answers.{judgement_answer, planned_answer}
 use Rattle.queue.specs.PlanLaws.{kept, enqueue_planned, enqueue_refused, remove_judged, remove_refused}
 use Rattle.lent_queue.specs.LentQueue.{queue_rows, priorities, tree_count, fair_row, root_rows, marks_row, head_tag}
 use Rattle.lent_queue.specs.LentQueue.{head_word, tail_tag, tail_word, len_word, total_word, budgets_word, epoch_tag}
@@ -80,7 +75,7 @@ module _ (rows : List (List ℕ)) where
         e,
       )
 
-  pub root_stored : (k : ℕ) (w : List ℕ) {root : Link} → link_from (word w head_tag) (word w head_word) ≡ root
+  pub root_stored : (k : ℕ) (w : List ℕ) {root : Option ℕ} → link_from (word w head_tag) (word w head_word) ≡ root
       → k < tree_count → queue_of (set rows (root_rows + k) w) ≡ with_root (queue_of rows) k root
   unfolding queue_of with_root root_from
   root_stored k w {root} e h =
@@ -95,7 +90,7 @@ module _ (rows : List (List ℕ)) where
       )
     where
       stored : root_from w ≡ record { root = root }
-      stored = ap (λ (l : Link). record { root = l }) e
+      stored = ap (λ (l : Option ℕ). record { root = l }) e
 
   pub marks_stored : {x : List (List ℕ)} (w : List ℕ) → x ≡ set rows marks_row w → length rows ≡ queue_rows
       → queue_of x ≡ with_marks (queue_of rows) w
@@ -127,7 +122,7 @@ module _ (rows : List (List ℕ)) where
     unfolding queue_of with_marks halted_from if_equal choose
     mark_stored total budgets tag number mark = s ∙ rw (total, budgets, tag, number, mark)
 
-  pub root_of_row : (k : ℕ) {r : Link}
+  pub root_of_row : (k : ℕ) {r : Option ℕ}
       → r ≡ link_from (word (get_or rows (root_rows + k) []) head_tag) (word (get_or rows (root_rows + k) []) head_word)
       → k < tree_count → r ≡ root_of (queue_of rows) k
   unfolding root_from
@@ -147,7 +142,7 @@ unfolding list_from
 list_words_lem w head tail len = rw (head, tail, len)
 
 -- The links that a row's words stand for and its length are the row's list.
-pub list_made : (w : List ℕ) {head tail : Link} → head ≡ link_from (word w head_tag) (word w head_word)
+pub list_made : (w : List ℕ) {head tail : Option ℕ} → head ≡ link_from (word w head_tag) (word w head_word)
     → tail ≡ link_from (word w tail_tag) (word w tail_word)
     → record { head = head; tail = tail; len = word w len_word } ≡ list_from w
 list_made w head tail = sym (list_words_lem w (sym head) (sym tail) refl)
@@ -168,22 +163,22 @@ module _ (x : CpuRunQueue) (k : ℕ) (p : Parts) {x₁ x₂ x₃ : CpuRunQueue} 
 
 -- The mark is read before the plan is made.
 module _ {y : Out (Step (Unit {0}))} (t : List ThreadRecord) (q : CpuRunQueue) (id : ℕ) (c : CpuIndex) {h : Bool} where
-  pub enqueue_planned_by : (front : Bool) {r : Planned} {p : Plan} → h ≡ q.halted
-      → planned_answer r ≡ insertion_plan t h id c → r ≡ planned.Plan p → y ≡ insert_by front t q id p
+  pub enqueue_planned_by : (front : Bool) {r : Result Plan Refusal} {p : Plan} → h ≡ q.halted
+      → by_number r ≡ insertion_plan t h id c → r ≡ Ok p → y ≡ insert_by front t q id p
       → y ≡ enqueue_call front t q id c
   enqueue_planned_by front m e = enqueue_planned t q id c front (e ∙ ap (λ h. insertion_plan t h id c) m)
 
-  pub enqueue_refused_by : (front : Bool) {r : Planned} {n : Refusal} → h ≡ q.halted
-      → planned_answer r ≡ insertion_plan t h id c → r ≡ planned.Refused n → y ≡ kept t q (number_of n)
+  pub enqueue_refused_by : (front : Bool) {r : Result Plan Refusal} {n : Refusal} → h ≡ q.halted
+      → by_number r ≡ insertion_plan t h id c → r ≡ Err n → y ≡ kept t q (number_of n)
       → y ≡ enqueue_call front t q id c
   enqueue_refused_by front m e = enqueue_refused t q id c front (e ∙ ap (λ h. insertion_plan t h id c) m)
 
-  pub remove_judged_by : {r : Judgement} {f : Filed} → h ≡ q.halted → judgement_answer r ≡ judgement t h id
-      → r ≡ judged.Filed f → y ≡ remove_filed t q id c f → y ≡ remove_call t q id c
+  pub remove_judged_by : {r : Result Filed Refusal} {f : Filed} → h ≡ q.halted → by_number r ≡ judgement t h id
+      → r ≡ Ok f → y ≡ remove_filed t q id c f → y ≡ remove_call t q id c
   remove_judged_by m e = remove_judged t q id c (e ∙ ap (λ h. judgement t h id) m)
 
-  pub remove_refused_by : {r : Judgement} {n : Refusal} → h ≡ q.halted → judgement_answer r ≡ judgement t h id
-      → r ≡ judged.Refused n → y ≡ kept t q (number_of n) → y ≡ remove_call t q id c
+  pub remove_refused_by : {r : Result Filed Refusal} {n : Refusal} → h ≡ q.halted → by_number r ≡ judgement t h id
+      → r ≡ Err n → y ≡ kept t q (number_of n) → y ≡ remove_call t q id c
   remove_refused_by m e = remove_refused t q id c (e ∙ ap (λ h. judgement t h id) m)
 
 pub new_rows : queue_of (replicate queue_rows (replicate 5 0)) ≡ new_queue

@@ -1,9 +1,8 @@
 -- The queue that lent words stand for: 270 rows of five words, whatever the words. Rows 0 to 255 are the priority
 -- lists, row 256 the fair list, rows 257 to 268 the roots, row 269 the FIFO total, the number of budget threads, the
 -- epoch's two words and the mark.
-use Rattle.std.specs.Prelude.{ℕ, Bool, true, false, List, [], map, get_or, set, take, drop}
+use Rattle.std.specs.Prelude.{ℕ, Bool, true, false, List, [], map, get_or, set, take, drop, Option}
 use Rattle.refusal.specs.Cases.{if_equal}
-use Rattle.thread.specs.declared.Link.{Link}
 use Rattle.thread.specs.declared.ThreadQueue.{ThreadQueue}
 use Rattle.codec.specs.Codec.{word, link_from, epoch_from}
 use Rattle.queue.specs.declared.Root.{Root}
@@ -113,7 +112,7 @@ with_fair q l =
     }
 
 -- One root stored.
-unfoldable pub with_root : CpuRunQueue → ℕ → Link → CpuRunQueue
+unfoldable pub with_root : CpuRunQueue → ℕ → Option ℕ → CpuRunQueue
 with_root q k root =
     record {
       realtime = q.realtime;

@@ -1,8 +1,8 @@
 -- Laws by which a refusal leaves every word of queue and table: a refused work stored nothing, a first Halted aside,
 -- and a queue that halted earlier gets no plan.
-use Rattle.std.specs.Prelude.{ℕ, ◌≡◌, refl, Bool, true, false, List, ltb, length}
+use Rattle.std.specs.Prelude.{ℕ, ◌≡◌, refl, Bool, true, false, List, ltb, length, Result, Ok}
 use Rattle.std.proofs.Common.{sym, ap, subst, ◌∙◌}
-use Rattle.refusal.specs.Answer.{Answer, value, refused, queue_halted, bad_table}
+use Rattle.refusal.specs.Answer.{Answer, value, refused, queue_halted, bad_table, by_number}
 use Rattle.refusal.specs.Cases.{never, choose, if_less, and_then}
 use Rattle.thread.specs.declared.CpuIndex.{CpuIndex}
 use Rattle.thread.specs.declared.QueueMembership.{QueueMembership}
@@ -14,16 +14,12 @@ use Rattle.queue_work.specs.declared.Worked.{Worked}
 use Rattle.queue_work.specs.declared.Worked.TheVariants as worked
 use Rattle.queue_work.specs.Work.{Work, done, turned_down, halts, Untouched, work_of}
 use Rattle.queue.specs.declared.Filed.{Filed}
-use Rattle.queue.specs.declared.Judgement.{Judgement}
-use Rattle.queue.specs.declared.Judgement.TheVariants as judgement
 use Rattle.queue.specs.declared.Plan.{Plan}
-use Rattle.queue.specs.declared.Planned.{Planned}
-use Rattle.queue.specs.declared.Planned.TheVariants as planned
-use Rattle.queue.specs.Answers.{judgement_answer, planned_answer}
 use Rattle.queue.specs.RunQueue.{CpuRunQueue}
 use Rattle.queue.specs.Queue.{Step, step}
 use Rattle.queue.specs.Plan.{settled, insertion_plan}
 use Rattle.queue.specs.Plan as plans
+use Rattle.refusal.specs.declared.Refusal.{Refusal}
 
 abbrev answer_of : Step (Unit {0}) → Answer (Unit {0})
 answer_of (step a q) = a
@@ -62,16 +58,18 @@ halted_refused t id x {a} {f} h e g = go (ltb max_records (length t)) (rw h at e
     go true z = let w : value f ≡ refused bad_table = g ∙ z in cc
     go false z = let w : value f ≡ refused queue_halted = g ∙ z in cc
 
-pub not_judged : {B : Type 0} (b c : B) (t : List ThreadRecord) (id : ℕ) {r x : Bool} {j : Judgement} {f : Filed}
-    → r ≡ x → judgement_answer j ≡ plans.judgement t r id → j ≡ judgement.Filed f → x ≡ true → c ≡ b
+pub not_judged : {B : Type 0} (b c : B) (t : List ThreadRecord) (id : ℕ) {r x : Bool} {j : Result Filed Refusal} {f :
+    Filed}
+    → r ≡ x → by_number j ≡ plans.judgement t r id → j ≡ Ok f → x ≡ true → c ≡ b
 not_judged b c t id {r} {x} {j} {f} e h m y =
-    never (halted_refused t id r {f = f} (e ∙ y) h (sym (ap judgement_answer m)))
+    never (halted_refused t id r {f = f} (e ∙ y) h (sym (ap by_number m)))
 
-pub not_planned : {B : Type 0} (b c : B) (t : List ThreadRecord) (id : ℕ) (cpu : CpuIndex) {r x : Bool} {p : Planned}
-    {plan : Plan} → r ≡ x → planned_answer p ≡ insertion_plan t r id cpu → p ≡ planned.Plan plan → x ≡ true → c ≡ b
+pub not_planned : {B : Type 0} (b c : B) (t : List ThreadRecord) (id : ℕ) (cpu : CpuIndex) {r x : Bool} {p : Result
+    Plan Refusal}
+    {plan : Plan} → r ≡ x → by_number p ≡ insertion_plan t r id cpu → p ≡ Ok plan → x ≡ true → c ≡ b
 unfolding insertion_plan and_then
 not_planned {B} b c t id cpu {r} {x} {p} {plan} e h m y =
-    go (plans.judgement t r id) refl (sym (ap planned_answer m) ∙ h)
+    go (plans.judgement t r id) refl (sym (ap by_number m) ∙ h)
   where
     go : (a : Answer Filed) → a ≡ plans.judgement t r id
         → value plan ≡ and_then a (λ f. plans.plan_insertion f cpu) → c ≡ b

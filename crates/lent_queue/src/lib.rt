@@ -3,6 +3,7 @@
 #![tactic(auto)]
 
 ghost use Rattle.std.specs.Prelude.{◌<◌, ◌≡◌, true, get_or, length, set};
+ghost use Rattle.refusal.specs.Answer.{by_number};
 ghost use Rattle.thread.specs.Membership.{empty_queue};
 ghost use Rattle.codec.specs.Codec.{word};
 ghost use Rattle.codec.specs.Frame.{option_encodes};
@@ -12,21 +13,17 @@ ghost use Rattle.rows.specs.Frame.{Framed};
 ghost use Rattle.queue_work.specs.Work.{work_of, Untouched};
 ghost use Rattle.queue.specs.Queue as calls;
 ghost use Rattle.queue.specs.Plan as plans;
-ghost use Rattle.queue.specs.Answers.{verdict_answer};
 ghost use Rattle.lent_queue.specs.LentQueue.{tree_count, marks_row, head_tag, head_word, tail_tag, tail_word};
 ghost use Rattle.lent_queue.specs.LentQueue.{list_from};
 ghost use Rattle.lent_queue.specs.LentQueue.{queue_of, with_realtime, with_fair, with_root, with_counts, with_marks};
 ghost use Rattle.lent_queue.specs.Frame.{QueueFramed};
 
 use codec::{Row, link_from, words_of_link};
-use queue::{
-    Filed, Judgement, Plan, Planned, Verdict, insertion_plan, judge, partner, removal_plan,
-};
+use queue::{Filed, Plan, insertion_plan, judge, partner, removal_plan};
 use queue_work::{Parts, Worked, insert_work, remove_work};
 use ready_index::Path;
 use refusal::Refusal;
-use thread::{CpuIndex, Link, QueueMembership, ThreadId, ThreadQueue};
-use time::Epoch;
+use thread::{CpuIndex, QueueMembership, ThreadId, ThreadQueue};
 
 // The rows of a queue: a list for each priority, the fair list, the roots of the trees, and one row of counts, epoch
 // and mark.
@@ -91,7 +88,7 @@ pub fn words_of_list(list: ThreadQueue) -> QueueRow
 }
 
 // The root of one of the twelve trees.
-fn root_at(q: &QueueRows, index: u64) -> Link
+fn root_at(q: &QueueRows, index: u64) -> Option<u64>
     requires { index < tree_count }
     ensures { result ≡ calls.root_of (queue_of q.now) index }
 {
@@ -139,7 +136,7 @@ pub fn set_fair(q: &mut QueueRows, list: ThreadQueue)
     store_row(q, FAIR_ROW, row);
 }
 
-fn set_root(q: &mut QueueRows, index: u64, root: Link)
+fn set_root(q: &mut QueueRows, index: u64, root: Option<u64>)
     requires { index < tree_count }
     ensures q_after { queue_of q.new ≡ with_root (queue_of q.old) index root }
     ensures queue_framed { QueueFramed q.old q.new }
@@ -192,14 +189,14 @@ fn set_mark(q: &mut QueueRows)
     );
 }
 
-pub fn epoch_at(q: &QueueRows) -> Epoch
+pub fn epoch_at(q: &QueueRows) -> Option<u64>
     ensures { result ≡ (queue_of q.now).budget_epoch }
 {
     let row = q[MARKS_ROW];
     if row[EPOCH_TAG] == 0 {
-        return Epoch::None;
+        return None;
     }
-    Epoch::Some(row[EPOCH])
+    Some(row[EPOCH])
 }
 
 pub fn is_halted(q: &QueueRows) -> bool
@@ -286,22 +283,27 @@ fn store_parts(q: &mut QueueRows, membership: QueueMembership, index: u64, parts
 }
 
 // A call's work put back into the queue; where the source halts, with the mark.
-fn settle(q: &mut QueueRows, membership: QueueMembership, index: u64, worked: Worked) -> Verdict
+fn settle(
+    q: &mut QueueRows,
+    membership: QueueMembership,
+    index: u64,
+    worked: Worked,
+) -> Result<(), Refusal>
     requires { index < tree_count }
-    ensures q_after { calls.step (verdict_answer result) (queue_of q.new)
+    ensures q_after { calls.step (by_number result) (queue_of q.new)
         ≡ plans.settled (queue_of q.old) membership index (work_of worked) }
     ensures untouched { Untouched (work_of worked) q.old q.new }
     ensures queue_framed { QueueFramed q.old q.new }
 {
     match worked {
-        Worked::Refused(refusal) => Verdict::Refused(refusal),
+        Worked::Refused(refusal) => Err(refusal),
         Worked::Stored { parts, halted } => {
             store_parts(q, membership, index, parts);
             if halted {
                 set_mark(q);
-                return Verdict::Refused(Refusal::Halted);
+                return Err(Refusal::Halted);
             }
-            Verdict::Accepted
+            Ok(())
         }
     }
 }
@@ -313,12 +315,12 @@ fn insert_by(
     id: u64,
     plan: Plan,
     front: bool,
-) -> Verdict
+) -> Result<(), Refusal>
     requires { plan.index < tree_count }
-    ensures t_after { out (calls.step (verdict_answer result) (queue_of q.new)) (table t.new)
+    ensures t_after { out (calls.step (by_number result) (queue_of q.new)) (table t.new)
         ≡ plans.insert_by front (table t.old) (queue_of q.old) id plan }
-    ensures spared { Spared (verdict_answer result) q.old q.new }
-    ensures spared_2 { Spared (verdict_answer result) t.old t.new }
+    ensures spared { Spared (by_number result) q.old q.new }
+    ensures spared_2 { Spared (by_number result) t.old t.new }
     ensures framed { Framed t.old t.new }
     ensures queue_framed { QueueFramed q.old q.new }
 {
@@ -337,12 +339,18 @@ fn insert_by(
     settle(q, membership, plan.index, worked)
 }
 
-fn remove_by(q: &mut QueueRows, t: &mut [Row], path: &mut Path, id: u64, plan: Plan) -> Verdict
+fn remove_by(
+    q: &mut QueueRows,
+    t: &mut [Row],
+    path: &mut Path,
+    id: u64,
+    plan: Plan,
+) -> Result<(), Refusal>
     requires { plan.index < tree_count }
-    ensures t_after { out (calls.step (verdict_answer result) (queue_of q.new)) (table t.new)
+    ensures t_after { out (calls.step (by_number result) (queue_of q.new)) (table t.new)
         ≡ plans.remove_by (table t.old) (queue_of q.old) id plan }
-    ensures spared { Spared (verdict_answer result) q.old q.new }
-    ensures spared_2 { Spared (verdict_answer result) t.old t.new }
+    ensures spared { Spared (by_number result) q.old q.new }
+    ensures spared_2 { Spared (by_number result) t.old t.new }
     ensures framed { Framed t.old t.new }
     ensures queue_framed { QueueFramed q.old q.new }
 {
@@ -360,12 +368,12 @@ fn remove_filed(
     id: u64,
     cpu: CpuIndex,
     filed: Filed,
-) -> Verdict
+) -> Result<(), Refusal>
     requires { filed.index < tree_count }
-    ensures t_after { out (calls.step (verdict_answer result) (queue_of q.new)) (table t.new)
+    ensures t_after { out (calls.step (by_number result) (queue_of q.new)) (table t.new)
         ≡ plans.remove_filed (table t.old) (queue_of q.old) id cpu filed }
-    ensures spared { Spared (verdict_answer result) q.old q.new }
-    ensures spared_2 { Spared (verdict_answer result) t.old t.new }
+    ensures spared { Spared (by_number result) q.old q.new }
+    ensures spared_2 { Spared (by_number result) t.old t.new }
     ensures framed { Framed t.old t.new }
     ensures queue_framed { QueueFramed q.old q.new }
 {
@@ -374,8 +382,8 @@ fn remove_filed(
     let other = root_at(q, beside);
     let planned = removal_plan(t, filed, root, other, id, cpu);
     match planned {
-        Planned::Refused(refusal) => Verdict::Refused(refusal),
-        Planned::Plan(plan) => remove_by(q, t, path, id, plan),
+        Err(refusal) => Err(refusal),
+        Ok(plan) => remove_by(q, t, path, id, plan),
     }
 }
 
@@ -416,11 +424,11 @@ pub fn enqueue_lent(
     id: ThreadId,
     cpu: CpuIndex,
     front: bool,
-) -> Verdict
-    ensures t_after { out (calls.step (verdict_answer result) (queue_of q.new)) (table t.new)
+) -> Result<(), Refusal>
+    ensures t_after { out (calls.step (by_number result) (queue_of q.new)) (table t.new)
         ≡ calls.enqueue_call front (table t.old) (queue_of q.old) id.0 cpu }
-    ensures spared { Spared (verdict_answer result) q.old q.new }
-    ensures spared_2 { Spared (verdict_answer result) t.old t.new }
+    ensures spared { Spared (by_number result) q.old q.new }
+    ensures spared_2 { Spared (by_number result) t.old t.new }
     ensures q_unchanged { (queue_of q.old).halted ≡ true → q.new ≡ q.old }
     ensures t_unchanged { (queue_of q.old).halted ≡ true → t.new ≡ t.old }
     ensures framed { Framed t.old t.new }
@@ -429,8 +437,8 @@ pub fn enqueue_lent(
     let halted = is_halted(q);
     let planned = insertion_plan(t, halted, id.0, cpu);
     match planned {
-        Planned::Refused(refusal) => Verdict::Refused(refusal),
-        Planned::Plan(plan) => insert_by(q, t, path, id.0, plan, front),
+        Err(refusal) => Err(refusal),
+        Ok(plan) => insert_by(q, t, path, id.0, plan, front),
     }
 }
 
@@ -441,11 +449,11 @@ pub fn remove_lent(
     path: &mut Path,
     id: ThreadId,
     cpu: CpuIndex,
-) -> Verdict
-    ensures t_after { out (calls.step (verdict_answer result) (queue_of q.new)) (table t.new)
+) -> Result<(), Refusal>
+    ensures t_after { out (calls.step (by_number result) (queue_of q.new)) (table t.new)
         ≡ calls.remove_call (table t.old) (queue_of q.old) id.0 cpu }
-    ensures spared { Spared (verdict_answer result) q.old q.new }
-    ensures spared_2 { Spared (verdict_answer result) t.old t.new }
+    ensures spared { Spared (by_number result) q.old q.new }
+    ensures spared_2 { Spared (by_number result) t.old t.new }
     ensures q_unchanged { (queue_of q.old).halted ≡ true → q.new ≡ q.old }
     ensures t_unchanged { (queue_of q.old).halted ≡ true → t.new ≡ t.old }
     ensures framed { Framed t.old t.new }
@@ -454,7 +462,7 @@ pub fn remove_lent(
     let halted = is_halted(q);
     let judgement = judge(t, halted, id.0);
     match judgement {
-        Judgement::Refused(refusal) => Verdict::Refused(refusal),
-        Judgement::Filed(filed) => remove_filed(q, t, path, id.0, cpu, filed),
+        Err(refusal) => Err(refusal),
+        Ok(filed) => remove_filed(q, t, path, id.0, cpu, filed),
     }
 }

@@ -1,5 +1,6 @@
 -- Laws by which the functions meet the definitions, and that selection as they take it is `peek_next`.
 use Rattle.std.specs.Prelude.{ℕ, zero, suc, ◌+◌, ◌-◌, ◌/◌, ◌<◌, ◌≤◌, min, ◌≡◌, Bool, ltb, length, get_or, set, take}
+use Rattle.std.specs.Prelude.{Option, Some, Result, Ok, Err}
 use Rattle.std.specs.Prelude.{drop}
 use Rattle.std.proofs.Common.{arith, subst, ◌∙◌, length-take, length-drop, take-take, take_at, drop_at, get_or-take}
 use Rattle.std.proofs.Common.{get_or-drop, get_or-append-add}
@@ -8,22 +9,17 @@ use Rattle.std.proofs.Math.Bool.{true, false}
 use mathlib.Core.List.{List, [], ◌∷◌, ◌++◌}
 use Rattle.std.proofs.lemmas.List.{take-append-le}
 use borrow.Author.Tests.{eq-eqb, ne_eqb}
-use Rattle.refusal.specs.Answer.{Answer, value, refused, number_of, bad_config, queue_halted, bad_table}
+use Rattle.refusal.specs.Answer.{Answer, value, refused, number_of, bad_config, queue_halted, bad_table, by_number}
 use Rattle.refusal.specs.declared.Refusal.{Refusal}
 use Rattle.refusal.specs.Cases.{choose, given, if_less, if_equal}
 use Rattle.queue.specs.declared.Root.{Root}
 use Rattle.queue.specs.RunQueue.{CpuRunQueue, tree_count}
-use Rattle.queue.specs.declared.Verdict.{Verdict}
-use Rattle.queue.specs.declared.Verdict.TheVariants as verdict
-use Rattle.queue.specs.Answers.{verdict_answer}
 use Rattle.lent_queue.specs.LentQueue.{queue_rows, priorities, tree_count, fair_row, root_rows, marks_row, total_word}
 use Rattle.lent_queue.specs.LentQueue.{budgets_word, epoch_tag, epoch_word, mark_word, halted_from, queue_of}
 use Rattle.lent_queue.specs.LentQueue.{with_marks}
 use Rattle.lent_queue.specs.Frame.{ListFramed, RootFramed, MarksFramed, QueueFramed, RootsFramed}
 use Rattle.lent_queue.specs.FrameLaws.{list_as_it_was, marks_as_they_were}
 use Rattle.codec.specs.Codec.{word, epoch_from}
-use Rattle.time.specs.declared.Epoch.{Epoch}
-use Rattle.time.specs.declared.Epoch.TheVariants as epoch
 use Rattle.arbitration.specs.declared.CpuWindow.{CpuWindow}
 use Rattle.window_config.specs.Config.{sound_config}
 use Rattle.thread.specs.declared.CpuIndex.{CpuIndex}
@@ -32,7 +28,6 @@ use Rattle.rows.specs.Table.{Out, out}
 use Rattle.lists.specs.Lists.{on_answer, on_out}
 use Rattle.queue.specs.Queue.{max_records}
 use Rattle.queue.specs.PlanLaws.{too_many, not_too_many}
-use Rattle.demands.specs.declared.CandidateOption.{CandidateOption}
 use Rattle.selection.specs.declared.Selection.{Selection}
 use Rattle.renewal.specs.Parts.{SelectionParts}
 use Rattle.renewal.specs.Leaves.{Leaves, leaves, on_leaves}
@@ -46,6 +41,7 @@ use Rattle.selection.specs.Steps.{Looked, looked, looked_at}
 use Rattle.selection.specs.PeekLaws.{beside_parts, heads_apart}
 use Rattle.lent_selection.specs.LentParts.{with_indices, with_epoch, with_mark, renewed_roots, renewed_queue}
 use Rattle.lent_selection.specs.LentParts.{beside_queue, running_queue, peek_queue}
+use Rattle.arbitration.specs.declared.Candidate.{Candidate}
 
 -- The rows of the roots put back: the other rows are as they were.
 module _ (rows part : List (List ℕ)) (size : length rows ≡ queue_rows) (of_part : length part ≡ tree_count) where
@@ -166,7 +162,7 @@ unfolding with_selection_parts selection_parts
 same_parts q = refl
 
 module _ (t : List ThreadRecord) (q : CpuRunQueue) (now e : ℕ) where
-  pub renewed_already : {r : Bool} {last : Epoch} → last ≡ q.budget_epoch → r ≡ is_epoch last e → r ≡ true
+  pub renewed_already : {r : Bool} {last : Option ℕ} → last ≡ q.budget_epoch → r ≡ is_epoch last e → r ≡ true
       → out (leaves (value tt) q) t ≡ renewed_queue t q now e
   unfolding renewed_queue renew selection_parts choose on_out on_leaves
   renewed_already last test same =
@@ -195,7 +191,7 @@ module _ (t : List ThreadRecord) (q : CpuRunQueue) (now e : ℕ) where
             halted = choose (is_halt n) true q.halted;
           })) t₁)
           (λ u roots. out (leaves (value (tt {0}))
-          (record { indices = roots; budget_epoch = epoch.Some e; halted = q.halted })) t₁))))
+          (record { indices = roots; budget_epoch = Some e; halted = q.halted })) t₁))))
           (λ s t₁. on_leaves s
           (λ n p. out (leaves (refused n) (with_selection_parts q p)) t₁)
           (λ u p. out (leaves (value (tt {0})) (with_selection_parts q p)) t₁))
@@ -211,29 +207,30 @@ module _ (t : List ThreadRecord) (q : CpuRunQueue) (now e : ℕ) where
       go false (out (leaves (value u) roots) t₁) = refl
       go false (out (leaves (refused n) roots) t₁) = refl
 
-  changes : {r : Bool} {last : Epoch} → last ≡ q.budget_epoch → r ≡ is_epoch last e → r ≡ false
+  changes : {r : Bool} {last : Option ℕ} → last ≡ q.budget_epoch → r ≡ is_epoch last e → r ≡ false
       → is_epoch q.budget_epoch e ≡ false
   changes a b c = ap (λ x. is_epoch x e) (sym a) ∙ sym b ∙ c
 
-  module _ {r : Bool} {last : Epoch} {v : Verdict} {q₁ q₂ : CpuRunQueue} {t₁ : List ThreadRecord} where
-    pub renewed_made : last ≡ q.budget_epoch → r ≡ is_epoch last e → r ≡ false
-        → out (leaves (verdict_answer v) q₁) t₁ ≡ renewed_roots t q now → v ≡ verdict.Accepted
-        → q₂ ≡ with_epoch q₁ e → out (leaves (value tt) q₂) t₁ ≡ renewed_queue t q now e
-    unfolding choose on_out on_leaves
-    renewed_made a b c s m f = rw (apart, changes a b c, sym s, m, f)
+  module _ {r : Bool} {last : Option ℕ} {v : Result (Unit {0}) Refusal} {q₁ q₂ : CpuRunQueue} {t₁ : List ThreadRecord}
+    where
+      pub renewed_made : last ≡ q.budget_epoch → r ≡ is_epoch last e → r ≡ false
+          → out (leaves (by_number v) q₁) t₁ ≡ renewed_roots t q now → v ≡ (Ok tt)
+          → q₂ ≡ with_epoch q₁ e → out (leaves (value tt) q₂) t₁ ≡ renewed_queue t q now e
+      unfolding choose on_out on_leaves
+      renewed_made a b c s m f = rw (apart, changes a b c, sym s, m, f)
 
-    pub renewed_refused : {n : Refusal} → last ≡ q.budget_epoch → r ≡ is_epoch last e → r ≡ false
-        → out (leaves (verdict_answer v) q₁) t₁ ≡ renewed_roots t q now → v ≡ verdict.Refused n
-        → q₂ ≡ with_mark q₁ (number_of n) → out (leaves (refused (number_of n)) q₂) t₁ ≡ renewed_queue t q now e
-    unfolding choose on_out on_leaves
-    renewed_refused a b c s m f = rw (apart, changes a b c, sym s, m, f)
+      pub renewed_refused : {n : Refusal} → last ≡ q.budget_epoch → r ≡ is_epoch last e → r ≡ false
+          → out (leaves (by_number v) q₁) t₁ ≡ renewed_roots t q now → v ≡ Err n
+          → q₂ ≡ with_mark q₁ (number_of n) → out (leaves (refused (number_of n)) q₂) t₁ ≡ renewed_queue t q now e
+      unfolding choose on_out on_leaves
+      renewed_refused a b c s m f = rw (apart, changes a b c, sym s, m, f)
 
 pub ruleset renewals =
     (roots_renewed, epoch_stored, mark_left, no_mark_left, renewed_already, renewed_made, renewed_refused)
 
 -- The heads beside the queue that the change of period left.
 module _ (t : List ThreadRecord) (q : CpuRunQueue) (c : CpuIndex) (now : ℕ) (w : CpuWindow)
-    (current : CandidateOption) where
+    (current : Option Candidate) where
   pub queue_looked : {a : Answer Selection} {w₁ : CpuWindow} {t₁ : List ThreadRecord}
       → out (looked a w₁) t₁ ≡ looked_at t q.indices c now w current
       → out (peeked a w₁ q) t₁ ≡ on_out (looked_at t q.indices c now w current) (λ x t₂. out (beside_queue q x) t₂)
@@ -303,7 +300,7 @@ module _ (t : List ThreadRecord) (q : CpuRunQueue) (c : CpuIndex) (now : ℕ) (w
 
 -- The rows of the roots are those of the queue.
 pub roots_looked : {y : Out Looked} (t : List ThreadRecord) (rows : List (List ℕ)) (c : CpuIndex) (now : ℕ)
-    (w : CpuWindow) (current : CandidateOption)
+    (w : CpuWindow) (current : Option Candidate)
     → y ≡ looked_at t (roots_of (take tree_count (drop root_rows rows))) c now w current
     → y ≡ looked_at t (queue_of rows).indices c now w current
 unfolding queue_of roots_of

@@ -1,9 +1,8 @@
 -- Selection over a queue as the code takes it: the change of period on the queue, and then the heads. The laws say that
 -- this is `peek_next`.
-use Rattle.std.specs.Prelude.{ℕ, ◌/◌, true, List, length}
+use Rattle.std.specs.Prelude.{ℕ, ◌/◌, true, List, length, Option, Some}
 use Rattle.refusal.specs.Answer.{value, refused, bad_config, queue_halted, bad_table}
 use Rattle.refusal.specs.Cases.{choose, given, if_less}
-use Rattle.time.specs.declared.Epoch.TheVariants as epoch
 use Rattle.arbitration.specs.declared.CpuWindow.{CpuWindow}
 use Rattle.window_config.specs.Config.{sound_config}
 use Rattle.thread.specs.declared.CpuIndex.{CpuIndex}
@@ -13,11 +12,11 @@ use Rattle.lists.specs.Lists.{on_out}
 use Rattle.queue.specs.declared.Root.{Root}
 use Rattle.queue.specs.RunQueue.{CpuRunQueue}
 use Rattle.queue.specs.Queue.{max_records}
-use Rattle.demands.specs.declared.CandidateOption.{CandidateOption}
 use Rattle.renewal.specs.Leaves.{Leaves, leaves, on_leaves}
 use Rattle.renewal.specs.Renewal.{renew_roles, is_halt, renew}
 use Rattle.selection.specs.Peek.{Peeked, peeked, selection_parts, with_selection_parts}
 use Rattle.selection.specs.Steps.{Looked, looked, looked_at}
+use Rattle.arbitration.specs.declared.Candidate.{Candidate}
 
 -- The twelve roots stored.
 unfoldable pub with_indices : CpuRunQueue → List Root → CpuRunQueue
@@ -40,7 +39,7 @@ with_epoch q e =
       realtime_len = q.realtime_len;
       fair = q.fair;
       indices = q.indices;
-      budget_epoch = epoch.Some e;
+      budget_epoch = Some e;
       budget_threads = q.budget_threads;
       halted = q.halted;
     }
@@ -78,7 +77,7 @@ abbrev pub beside_queue : CpuRunQueue → Looked → Peeked CpuRunQueue
 beside_queue q (looked a w) = peeked a w q
 
 -- With a window that is sound and a queue that runs.
-unfoldable pub running_queue : List ThreadRecord → CpuRunQueue → CpuIndex → ℕ → CpuWindow → CandidateOption
+unfoldable pub running_queue : List ThreadRecord → CpuRunQueue → CpuIndex → ℕ → CpuWindow → Option Candidate
     → Out (Peeked CpuRunQueue)
 running_queue t q c now w current =
     given (now / w.config.period_ns)
@@ -87,7 +86,7 @@ running_queue t q c now w current =
     (λ n q₁. out (peeked (refused n) w q₁) t₁)
     (λ u q₁. on_out (looked_at t₁ q₁.indices c now w current) (λ x t₂. out (beside_queue q₁ x) t₂))))
 
-unfoldable pub peek_queue : List ThreadRecord → CpuRunQueue → CpuIndex → ℕ → CpuWindow → CandidateOption
+unfoldable pub peek_queue : List ThreadRecord → CpuRunQueue → CpuIndex → ℕ → CpuWindow → Option Candidate
     → Out (Peeked CpuRunQueue)
 peek_queue t q c now w current =
     if_less max_records (length t) (out (peeked (refused bad_table) w q) t)

@@ -5,29 +5,26 @@
 ghost use Rattle.std.specs.Prelude.{◌≡◌, length};
 ghost use Rattle.rows.specs.Table.{table, out};
 ghost use Rattle.rows.specs.Frame.{Framed};
-ghost use Rattle.refusal.specs.Answer.{number_of};
-ghost use Rattle.queue.specs.Answers.{verdict_answer};
+ghost use Rattle.refusal.specs.Answer.{number_of, by_number};
 ghost use Rattle.lent_queue.specs.LentQueue.{queue_rows, queue_of};
 ghost use Rattle.lent_queue.specs.Frame.{QueueFramed};
 ghost use Rattle.renewal.specs.Leaves.{leaves};
 ghost use Rattle.selection.specs.Peek as peek;
 ghost use Rattle.selection.specs.Steps.{looked_at};
-ghost use Rattle.selection.specs.Answers.{peek_answer, looked_of};
+ghost use Rattle.selection.specs.Answers.{looked_of};
 ghost use Rattle.lent_selection.specs.LentParts.{with_epoch, with_mark, renewed_roots, renewed_queue, running_queue};
 ghost use Rattle.lent_selection.specs.Early.{Early};
 
-use arbitration::CpuWindow;
+use arbitration::{Candidate, CpuWindow};
 use codec::Row;
-use demands::CandidateOption;
 use lent_queue::{
     BUDGET_THREADS, EPOCH, EPOCH_TAG, MARKS_ROW, QueueRow, QueueRows, REALTIME_LEN, ROOT_ROWS,
     epoch_at, is_halted, store_marks,
 };
-use queue::Verdict;
 use ready_index::Path;
 use refusal::{HALTED, Refusal};
 use rows::MAX_RECORDS;
-use selection::{PeekAnswer, WindowPeek, is_epoch, peek_heads, renew_roles};
+use selection::{WindowPeek, is_epoch, peek_heads, renew_roles};
 use thread::CpuIndex;
 use time::epoch_of;
 
@@ -70,9 +67,14 @@ fn store_mark(q: &mut QueueRows, refusal: Refusal)
 }
 
 // The roles' moves on the rows of the roots.
-fn renew_roots(q: &mut [QueueRow], t: &mut [Row], path: &mut Path, reading: u64) -> Verdict
+fn renew_roots(
+    q: &mut [QueueRow],
+    t: &mut [Row],
+    path: &mut Path,
+    reading: u64,
+) -> Result<(), Refusal>
     requires { length q.old ≡ queue_rows }
-    ensures t_after { out (leaves (verdict_answer result) (queue_of q.new)) (table t.new)
+    ensures t_after { out (leaves (by_number result) (queue_of q.new)) (table t.new)
         ≡ renewed_roots (table t.old) (queue_of q.old) reading }
     ensures framed { Framed t.old t.new }
     ensures queue_framed { QueueFramed q.old q.new }
@@ -90,24 +92,24 @@ fn renew_lent(
     path: &mut Path,
     reading: u64,
     epoch: u64,
-) -> Verdict
-    ensures t_after { out (leaves (verdict_answer result) (queue_of q.new)) (table t.new)
+) -> Result<(), Refusal>
+    ensures t_after { out (leaves (by_number result) (queue_of q.new)) (table t.new)
         ≡ renewed_queue (table t.old) (queue_of q.old) reading epoch }
     ensures framed { Framed t.old t.new }
     ensures queue_framed { QueueFramed q.old q.new }
 {
     let budget_epoch = epoch_at(q);
     if is_epoch(budget_epoch, epoch) {
-        return Verdict::Accepted;
+        return Ok(());
     }
     match renew_roots(q, t, path, reading) {
-        Verdict::Accepted => {
+        Ok(()) => {
             store_epoch(q, epoch);
-            Verdict::Accepted
+            Ok(())
         }
-        Verdict::Refused(refusal) => {
+        Err(refusal) => {
             store_mark(q, refusal);
-            Verdict::Refused(refusal)
+            Err(refusal)
         }
     }
 }
@@ -119,7 +121,7 @@ fn peek_roots(
     cpu: CpuIndex,
     reading: u64,
     window: CpuWindow,
-    current: CandidateOption,
+    current: Option<Candidate>,
 ) -> WindowPeek
     requires { length q.now ≡ queue_rows }
     ensures t_after { out (looked_of result) (table t.new)
@@ -140,9 +142,9 @@ fn peek_running(
     cpu: CpuIndex,
     reading: u64,
     window: CpuWindow,
-    current: CandidateOption,
+    current: Option<Candidate>,
 ) -> WindowPeek
-    ensures t_after { out (peek.peeked (peek_answer result.answer) result.window (queue_of q.new))
+    ensures t_after { out (peek.peeked (by_number result.answer) result.window (queue_of q.new))
         (table t.new) ≡ running_queue (table t.old)
         (queue_of q.old) cpu reading window current }
     ensures framed { Framed t.old t.new }
@@ -151,11 +153,11 @@ fn peek_running(
     let config = window.config;
     let epoch = epoch_of(reading, config.period_ns);
     match renew_lent(q, t, path, reading, epoch) {
-        Verdict::Refused(refusal) => WindowPeek {
-            answer: PeekAnswer::Refused(refusal),
+        Err(refusal) => WindowPeek {
+            answer: Err(refusal),
             window,
         },
-        Verdict::Accepted => { peek_roots(q, t, cpu, reading, window, current) }
+        Ok(()) => { peek_roots(q, t, cpu, reading, window, current) }
     }
 }
 
@@ -168,9 +170,9 @@ pub fn peek_lent(
     cpu: CpuIndex,
     reading: u64,
     window: CpuWindow,
-    current: CandidateOption,
+    current: Option<Candidate>,
 ) -> WindowPeek
-    ensures t_after { out (peek.peeked (peek_answer result.answer) result.window (queue_of q.new))
+    ensures t_after { out (peek.peeked (by_number result.answer) result.window (queue_of q.new))
         (table t.new) ≡ peek.peek_next (table t.old)
         (queue_of q.old) cpu reading window current }
     ensures q_unchanged { Early t.old window (queue_of q.old) → q.new ≡ q.old }
@@ -181,19 +183,19 @@ pub fn peek_lent(
     let config = window.config;
     if MAX_RECORDS < t.len() {
         return WindowPeek {
-            answer: PeekAnswer::Refused(Refusal::BadTable),
+            answer: Err(Refusal::BadTable),
             window,
         };
     }
     if !config.is_sound() {
         return WindowPeek {
-            answer: PeekAnswer::Refused(Refusal::BadConfig),
+            answer: Err(Refusal::BadConfig),
             window,
         };
     }
     if is_halted(q) {
         return WindowPeek {
-            answer: PeekAnswer::Refused(Refusal::Halted),
+            answer: Err(Refusal::Halted),
             window,
         };
     }

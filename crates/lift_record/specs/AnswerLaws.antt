@@ -1,16 +1,18 @@
 -- Laws by which the calls meet their contracts: each way to an answer, but for those that lean on what a search finds,
 -- which are in proofs/AnswerLaws.antt.
 use Prim.Native.Nat.{ℕ, suc, ◌+◌, ◌-◌, ◌*◌, ◌<◌, ◌≤◌}
+use Rattle.std.proofs.lemmas.List.Edits.{sets-eq}
 use native.Mathlib.Omega.{arith}
-use Rattle.std.specs.Prelude.{◌≡◌, Bool, false, not, length, set, ltb}
+use Rattle.std.specs.Prelude.{◌≡◌, Bool, false, not, take, drop, ◌++◌, ltb, length, set}
 use Rattle.std.proofs.Math.Path.{refl, sym}
 use Rattle.std.proofs.Common.{ap, ◌∙◌, length-set}
 use Rattle.std.proofs.Math.Bool.{true}
 use mathlib.Core.List.{List, [], ◌∷◌}
-use Rattle.std.proofs.lemmas.List.Edits.{sets-eq}
+use Rattle.std.proofs.lemmas.List.{drop-drop, append_assoc}
+use borrow.Rule.Slice.PartMut.{put_mid}
 use borrow.Author.Tests.{ltb-false, not-true, not-false}
 use Rattle.refusal.specs.Answer.{bad_table, record_order}
-use Rattle.refusal.specs.Cases.{choose, if_less, never, less, not_less, is}
+use Rattle.refusal.specs.Cases.{cases, choose, if_less, never, less, not_less, is}
 use Rattle.lift_record.specs.declared.Place.{Place}
 use Rattle.lift_record.specs.Record.{runs, part_at}
 use Rattle.lift_record.specs.Record.{Found, found_at, placed, slid_to, slide_left}
@@ -87,3 +89,8 @@ module _ (w : List ℕ) (k start end thread : ℕ) where
       unfolding append_left
       run_appended m p =
           less _ _ _ _ l (not_less _ _ _ _ h (is _ e (not_less _ _ _ _ m (ap (λ (u : List ℕ). appended 0 u) p))))
+
+-- A search goes by its cases.
+pub ruleset searches = (cases, placed_at)
+
+pub ruleset appends = (no_room, ends_early, starts_early, run_appended)

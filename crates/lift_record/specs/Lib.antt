@@ -14,6 +14,8 @@ pub mod Part
 pub mod SearchLaws
 -- What a slide asks of the two runs beside a place's end.
 pub mod SlideLaws
+-- Runs, each by its words.
+pub mod ChunkLaws
 -- The pass over the runs, and a run more.
 pub mod OrderLaws
 -- Laws of the functions that look for a place.

@@ -1,32 +1,20 @@
 -- Laws by which the pass over the runs goes on, and by which a run more keeps the order.
-use Prim.Native.Nat.{ℕ, suc, ◌+◌, ◌-◌, ◌*◌, ◌<◌, ◌≤◌, min}
+use Prim.Native.Nat.{ℕ, zero, suc, ◌+◌, ◌-◌, ◌*◌, ◌<◌, ◌≤◌, min}
 use native.Mathlib.Omega.{arith}
-use Rattle.std.specs.Prelude.{◌≡◌, Bool, get_or, drop, leb}
+use Rattle.std.specs.Prelude.{◌≡◌, Bool, get_or, drop, leb, ◌/◌, ◌%◌, take, not}
 use Rattle.std.proofs.Math.Path.{refl, sym}
-use Rattle.std.proofs.Common.{ap, ◌∙◌, length-drop, drop-cons}
+use Rattle.std.proofs.Common.{ap, ◌∙◌, length-drop}
+use Rattle.std.proofs.lemmas.List.{at_drop_more, at_drop_all, drop-drop, take_rest}
 use Rattle.std.proofs.Math.Bool.{true, false}
 use mathlib.Core.List.{List, [], ◌∷◌}
 use Rattle.std.proofs.Math.ListN.{length}
 use Rattle.std.proofs.Math.Dec.{ltb, eqb}
-use borrow.Author.Tests.{ltb-true, ltb-false, lt-ltb, le-ltb, lt-leb, le-leb, eq-eqb, ne_eqb}
-use Rattle.refusal.specs.Cases.{choose, given, if_less, holds, fails}
+use borrow.Author.Tests.{ltb-true, ltb-false, lt-leb, le-leb, not-true, not-false}
+use Rattle.refusal.specs.Cases.{choose, given, if_less}
 use Rattle.lift_record.specs.Record.{runs, start_of, end_of, in_order_from, end_before}
 use Rattle.lift_record.specs.Halving.{in_order_since}
-
-module _ (w : List ℕ) (i : ℕ) where
-  -- The words of run i stand before those of the next.
-  run_and_rest : i < runs w
-      → drop (3 * i) w ≡ start_of w i ∷ (end_of w i ∷ (get_or w (3 * i + 2) 0 ∷ drop (3 * (i + 1)) w))
-  run_and_rest l =
-      let e : 3 * (i + 1) ≡ suc (suc (suc (3 * i))) = omega arith in
-      let z : 3 * i + 0 ≡ 3 * i = omega arith in
-      let a : 3 * i + 1 ≡ suc (3 * i) = omega arith in
-      let b : 3 * i + 2 ≡ suc (suc (3 * i)) = omega arith in
-      rw (e, z, a, b)
-      (drop-cons w (3 * i) 0 (omega arith)
-      ∙ ap (λ (r : List ℕ). get_or w (3 * i) 0 ∷ r) (drop-cons w (suc (3 * i)) 0 (omega arith))
-      ∙ ap (λ (r : List ℕ). get_or w (3 * i) 0 ∷ (get_or w (suc (3 * i)) 0 ∷ r))
-      (drop-cons w (suc (suc (3 * i))) 0 (omega arith)))
+use Rattle.lift_record.specs.ChunkLaws.{runs_of, chunk_at, word_at}
+use Rattle.std.specs.Simd.{first_chunks}
 
 -- The end of the run before, by its word.
 module _ (w : List ℕ) (k : ℕ) where
@@ -34,9 +22,12 @@ module _ (w : List ℕ) (k : ℕ) where
   unfolding end_before
   end_before_first e = rw e refl
 
-  pub end_before_lem : {e : ℕ} → e ≡ end_of w (k - 1) → (k ≡ 0 → ⊥) → e ≡ end_before 0 w k
+  pub end_before_lem : {rs : List (List ℕ)} → rs ≡ runs_of w → k ≤ runs w → (k ≡ 0 → ⊥)
+      → get_or (get_or rs (k - 1) []) 1 0 ≡ end_before 0 w k
   unfolding end_before
-  end_before_lem h n = let e : k ≡ suc (k - 1) = omega arith in h ∙ sym (ap (end_before 0 w) e)
+  end_before_lem f l n =
+      let e : k ≡ suc (k - 1) = omega arith in
+      word_at w (k - 1) 1 f (omega arith) (omega arith) ∙ sym (ap (end_before 0 w) e)
 
 pub ruleset ordering = (end_before_first, end_before_lem)
 
@@ -44,130 +35,153 @@ pub ruleset ordering = (end_before_first, end_before_lem)
 unfoldable pub follows : List ℕ → ℕ → ℕ → Bool
 follows w i last = if_less (start_of w i) last false (leb (start_of w i) (end_of w i))
 
-module _ (w : List ℕ) (i last : ℕ) {s : ℕ} (h : s ≡ start_of w i) where
-  pub starts_before : s < last → false ≡ follows w i last
-  unfolding follows if_less choose
-  starts_before l = rw (sym h, lt-ltb s last l) refl
+-- Runs, each by its words: what is behind the first stands behind its end.
+unfoldable pub runs_in_order : ℕ → List (List ℕ) → Bool
+runs_in_order last [] = true
+runs_in_order last (run ∷ rest) = choose (follows run 0 last) (runs_in_order (end_of run 0) rest) false
 
-  pub starts_behind : {e : ℕ} → last ≤ s → e ≡ end_of w i → leb s e ≡ follows w i last
-  unfolding follows if_less choose
-  starts_behind l k = rw (sym h, sym k, le-ltb s last l) refl
-
-pub ruleset following = (starts_before, starts_behind)
-
--- Order by the first run and the rest.
-module _ (w : List ℕ) (i last : ℕ) where
-  by_first : (s e j : ℕ) (rest : List ℕ)
-      → in_order_from last (s ∷ (e ∷ (j ∷ rest))) ≡ choose (if_less s last false (leb s e)) (in_order_from e rest) false
-  unfolding in_order_from if_less choose
-  by_first s e j rest = go (ltb s last) (ltb e s) refl
-    where
-      go : (x y : Bool) → ltb e s ≡ y → choose x false (choose y false (in_order_from e rest))
-          ≡ choose (choose x false (leb s e)) (in_order_from e rest) false
-      go true y h = refl
-      go false true h = rw (lt-leb s e (ltb-true e s h)) refl
-      go false false h = rw (le-leb s e (ltb-false e s h)) refl
-
-  order_step : i < runs w → in_order_from last (drop (3 * i) w)
-      ≡ choose (follows w i last) (in_order_from (end_of w i) (drop (3 * (i + 1)) w)) false
-  unfolding follows
-  order_step l = rw (run_and_rest w i l) (by_first (start_of w i) (end_of w i) _ _)
-
-  -- Behind the last run there is no word.
-  order_end : runs w ≤ i → i ≤ runs w → eqb (3 * i) (length w) ≡ in_order_from last (drop (3 * i) w)
-  unfolding in_order_from
-  order_end l m = rest (drop (3 * i) w) (length-drop (3 * i) w)
-    where
-      rest : (r : List ℕ) → length r ≡ length w - 3 * i → eqb (3 * i) (length w) ≡ in_order_from last r
-      rest [] e = eq-eqb (3 * i) (length w) (omega (arith, e, l, m))
-      rest (a ∷ []) e = ne_eqb (3 * i) (length w) (λ g. omega (arith, e, g, l, m))
-      rest (a ∷ (b ∷ [])) e = ne_eqb (3 * i) (length w) (λ g. omega (arith, e, g, l, m))
-      rest (a ∷ (b ∷ (c ∷ r))) e = absurd (omega (arith, e, l))
-
--- Two runs, and four.
-unfoldable pub pair_follows : List ℕ → ℕ → ℕ → Bool
-pair_follows w i last = choose (follows w i last) (follows w (i + 1) (end_of w i)) false
-
-unfoldable pub four_follow : List ℕ → ℕ → ℕ → Bool
-four_follow w i last = choose (pair_follows w i last) (pair_follows w (i + 2) (end_of w (i + 1))) false
-
-module _ (w : List ℕ) (i last : ℕ) {b : Bool} where
-  pub one_fails : b ≡ follows w i last → b ≡ false → false ≡ pair_follows w i last
-  unfolding pair_follows
-  one_fails h n = fails _ _ h n refl
-
-  pub both_judged : {d : Bool} {e : ℕ} → b ≡ follows w i last → b ≡ true → e ≡ end_of w i
-      → d ≡ follows w (i + 1) e → d ≡ pair_follows w i last
-  unfolding pair_follows
-  both_judged h n k j = holds _ _ h n (rw (sym k) j)
-
-  pub pair_fails : b ≡ pair_follows w i last → b ≡ false → false ≡ four_follow w i last
-  unfolding four_follow
-  pair_fails h n = fails _ _ h n refl
-
-  pub four_judged : {d : Bool} {e : ℕ} → b ≡ pair_follows w i last → b ≡ true → e ≡ end_of w (i + 1)
-      → d ≡ pair_follows w (i + 2) e → d ≡ four_follow w i last
-  unfolding four_follow
-  four_judged h n k j = holds _ _ h n (rw (sym k) j)
-
--- Two steps are one.
-joined : {whole half : Bool} (x y rest : Bool) → whole ≡ choose x half false → half ≡ choose y rest false
-    → whole ≡ choose (choose x y false) rest false
-unfolding choose
-joined true y rest e h = e ∙ h
-joined false y rest e h = e
-
-module _ (w : List ℕ) (i last : ℕ) where
-  pair_step : i + 1 < runs w → in_order_from last (drop (3 * i) w)
-      ≡ choose (pair_follows w i last) (in_order_from (end_of w (i + 1)) (drop (3 * (i + 2)) w)) false
-  unfolding pair_follows
-  pair_step l =
-      let k : i + 1 + 1 ≡ i + 2 = omega arith in
-      joined _ _ _ (order_step w i last (omega arith)) (rw k at (order_step w (i + 1) (end_of w i) l))
-
-four_step : (w : List ℕ) (i last : ℕ) → i + 3 < runs w → in_order_from last (drop (3 * i) w)
-    ≡ choose (four_follow w i last) (in_order_from (end_of w (i + 3)) (drop (3 * (i + 4)) w)) false
-unfolding four_follow
-four_step w i last l =
-    let k : i + 2 + 1 ≡ i + 3 = omega arith in
-    let j : i + 2 + 2 ≡ i + 4 = omega arith in
-    joined _ _ _ (pair_step w i last (omega arith))
-    (rw (k, j) at (pair_step w (i + 2) (end_of w (i + 1)) (omega arith)))
+-- A run by itself has the words that it has in the list.
+in_order_by_runs : (last : ℕ) (w : List ℕ)
+    → in_order_from last w ≡ choose (eqb (length w % 3) 0) (runs_in_order last (runs_of w)) false
+unfolding in_order_from runs_in_order follows if_less choose
+in_order_by_runs last [] = refl
+in_order_by_runs last (s ∷ []) = refl
+in_order_by_runs last (s ∷ (e ∷ [])) = refl
+in_order_by_runs last (s ∷ (e ∷ (j ∷ rest))) =
+    let n : suc (suc (suc (length rest))) / 3 ≡ suc (length rest / 3) = omega arith in
+    let m : suc (suc (suc (length rest))) % 3 ≡ length rest % 3 = omega arith in
+    rw (n, m) (go (ltb s last) (ltb e s) refl _ _ _ (in_order_by_runs e rest))
+  where
+    go : (x y : Bool) → ltb e s ≡ y → (z whole its : Bool) → its ≡ choose z whole false
+        → choose x false (choose y false its) ≡ choose z (choose (choose x false (leb s e)) whole false) false
+    go true y h true whole its i = refl
+    go true y h false whole its i = refl
+    go false true h true whole its i = rw (lt-leb s e (ltb-true e s h)) refl
+    go false true h false whole its i = refl
+    go false false h true whole its i = rw (le-leb s e (ltb-false e s h)) i
+    go false false h false whole its i = i
 
 -- What is judged of the next runs, b, decides: where they are out of order it is all, else the rest is left.
 module _ {before b x judged : Bool} (rest : Bool) (so_far : before ≡ x) (step : before ≡ choose judged rest false)
     (e : b ≡ judged) where
-  out_of_order : b ≡ false → false ≡ x
+  out_of_order : not b ≡ true → false ≡ x
   unfolding choose
-  out_of_order n = sym (rw (sym e ∙ n) at step) ∙ so_far
+  out_of_order n = sym (rw (sym e ∙ not-true b n) at step) ∙ so_far
 
-  still_in_order : b ≡ true → rest ≡ x
+  still_in_order : not b ≡ false → rest ≡ x
   unfolding choose
-  still_in_order n = sym (rw (sym e ∙ n) at step) ∙ so_far
+  still_in_order n = sym (rw (sym e ∙ not-false b n) at step) ∙ so_far
+
+-- The runs before the last of four, and those behind them.
+four_first : (last : ℕ) (rs : List (List ℕ)) → 4 ≤ length rs
+    → runs_in_order last rs
+    ≡ choose (runs_in_order last (take 4 rs)) (runs_in_order (end_of (get_or (take 4 rs) 3 []) 0) (drop 4 rs)) false
+unfolding runs_in_order choose
+four_first last [] l = absurd (omega arith)
+four_first last (a ∷ []) l = absurd (omega arith)
+four_first last (a ∷ (b ∷ [])) l = absurd (omega arith)
+four_first last (a ∷ (b ∷ (c ∷ []))) l = absurd (omega arith)
+four_first last (a ∷ (b ∷ (c ∷ (d ∷ rest)))) l =
+    go (follows a 0 last) (follows b 0 (end_of a 0)) (follows c 0 (end_of b 0)) (follows d 0 (end_of c 0))
+    (runs_in_order (end_of d 0) rest)
+  where
+    go : (x y z u whole : Bool)
+        → choose x (choose y (choose z (choose u whole false) false) false) false
+        ≡ choose (choose x (choose y (choose z (choose u true false) false) false) false) whole false
+    go true true true true whole = refl
+    go true true true false whole = refl
+    go true true false u whole = refl
+    go true false z u whole = refl
+    go false y z u whole = refl
 
 -- The rest of the pass gives what the whole gives.
-module _ (w : List ℕ) (i last : ℕ) {x : Bool} (so_far : in_order_from last (drop (3 * i) w) ≡ x) {b : Bool} where
-  pub one_out : i < runs w → b ≡ follows w i last → b ≡ false → false ≡ x
-  one_out l e n = out_of_order _ so_far (order_step w i last l) e n
+module _ (rs : List (List ℕ)) (i last : ℕ) {x : Bool} where
+  module _ (so_far : runs_in_order last (drop i rs) ≡ x) where
+    module _ {b : Bool} (l : i < length rs) (e : b ≡ follows (get_or rs i []) 0 last) where
+      step : runs_in_order last (drop i rs)
+          ≡ choose (follows (get_or rs i []) 0 last) (runs_in_order (end_of (get_or rs i []) 0) (drop (i + 1) rs)) false
+      unfolding runs_in_order
+      step = at_drop_more (runs_in_order last) rs i [] l
 
-  pub one_on : {end : ℕ} → i < runs w → b ≡ follows w i last → b ≡ true → end ≡ end_of w i
-      → in_order_from end (drop (3 * (i + 1)) w) ≡ x
-  one_on l e n h = rw h (still_in_order _ so_far (order_step w i last l) e n)
+      pub one_out : not b ≡ true → false ≡ x
+      one_out n = out_of_order _ so_far step e n
 
-  module _ (fours : ℕ) (ahead : i + 4 * fours ≤ runs w) (more : 0 < fours) (e : b ≡ four_follow w i last) where
-    pub four_out : b ≡ false → false ≡ x
-    four_out n = out_of_order _ so_far (four_step w i last (omega arith)) e n
+      pub one_on : not b ≡ false → runs_in_order (end_of (get_or rs i []) 0) (drop (i + 1) rs) ≡ x
+      one_on n = still_in_order _ so_far step e n
 
-    pub four_on : {end : ℕ} → b ≡ true → end ≡ end_of w (i + 3) → in_order_from end (drop (3 * (i + 4)) w) ≡ x
-    four_on n h = rw h (still_in_order _ so_far (four_step w i last (omega arith)) e n)
+    pub none_left : length rs ≤ i → true ≡ x
+    unfolding runs_in_order
+    none_left l = sym (at_drop_all (runs_in_order last) rs i l) ∙ so_far
 
-  pub none_left : b ≡ eqb (3 * i) (length w) → runs w ≤ i → i ≤ runs w → b ≡ x
-  none_left e l m = e ∙ order_end w i last l m ∙ so_far
+  module _ (fs : List (List (List ℕ))) (so_far : runs_in_order last (drop (4 * i) rs) ≡ x)
+      (f : fs ≡ first_chunks 4 (length rs / 4) rs) where
+    module _ {b : Bool} (l : i < length rs / 4) (e : b ≡ runs_in_order last (get_or fs i [])) where
+      its : get_or fs i [] ≡ take 4 (drop (4 * i) rs)
+      its = rw f (chunk_at 4 (λ k. omega arith) (length rs / 4) rs i l)
 
-  pub rest_judged : b ≡ in_order_from last (drop (3 * i) w) → b ≡ x
-  rest_judged e = e ∙ so_far
+      four_step : runs_in_order last (drop (4 * i) rs)
+          ≡ choose (runs_in_order last (get_or fs i []))
+          (runs_in_order (end_of (get_or (get_or fs i []) 3 []) 0) (drop (4 * (i + 1)) rs)) false
+      four_step =
+          let n : 4 * (i + 1) ≡ 4 * i + 4 = omega arith in
+          let k : 4 ≤ length (drop (4 * i) rs) = omega (arith, length-drop (4 * i) rs, l) in
+          rw (its, n, sym (drop-drop 4 (4 * i) rs)) (four_first last (drop (4 * i) rs) k)
 
-pub order_since : (w : List ℕ) (ordered k last : ℕ) {b : Bool} → k ≡ min ordered (runs w) → last ≡ end_before 0 w k
-    → b ≡ in_order_from last (drop (3 * k) w) → b ≡ in_order_since w ordered
-unfolding in_order_since given
-order_since w ordered k last e h j = j ∙ rw (h, e) refl
+      pub four_out : not b ≡ true → false ≡ x
+      four_out n = out_of_order _ so_far four_step e n
+
+      pub four_on : not b ≡ false
+          → runs_in_order (end_of (get_or (get_or fs i []) 3 []) 0) (drop (4 * (i + 1)) rs) ≡ x
+      four_on n = still_in_order _ so_far four_step e n
+
+    -- Fewer than four are left.
+    pub rest_judged : {b : Bool} (r : List (List ℕ)) → length rs / 4 ≤ i → i ≤ length rs / 4
+        → r ≡ drop (length rs / 4 * 4) rs → b ≡ runs_in_order last r → b ≡ x
+    rest_judged r l m e h =
+        let n : length rs / 4 * 4 ≡ 4 * i = omega arith in h ∙ ap (runs_in_order last) (rw n at e) ∙ so_far
+
+pub ruleset passing = (one_out, one_on, none_left, four_out, four_on, rest_judged)
+
+-- From a run on the runs are those of the words from there on.
+runs_behind : (k n : ℕ) (w : List ℕ) → k ≤ n → drop k (first_chunks 3 n w) ≡ first_chunks 3 (n - k) (drop (3 * k) w)
+runs_behind zero n w l = let e : n - 0 ≡ n = omega arith in rw e refl
+runs_behind (suc k) zero w l = absurd (omega arith)
+runs_behind (suc k) (suc n) w l =
+    let e : 3 * suc k ≡ 3 + 3 * k = omega arith in
+    let f : suc n - suc k ≡ n - k = omega arith in
+    rw f
+    (runs_behind k n (drop 3 w) (omega arith)
+    ∙ ap (first_chunks 3 (n - k)) (drop-drop (3 * k) 3 w ∙ ap (λ (j : ℕ). drop j w) (sym e)))
+
+module _ (w : List ℕ) (ordered k last : ℕ) {rs : List (List ℕ)} (left : List ℕ) (f : rs ≡ runs_of w)
+    (q : length rs ≡ runs w) (n : k ≡ min ordered (length rs)) (h : last ≡ end_before 0 w k)
+    (m : length left ≡ length w % 3) where
+  since : in_order_since w ordered ≡ choose (eqb (length left) 0) (runs_in_order last (drop k rs)) false
+  unfolding in_order_since given
+  since =
+      let g : length (drop (3 * k) w) % 3 ≡ length left = omega (arith, length-drop (3 * k) w, m, q, n) in
+      let d : length (drop (3 * k) w) / 3 ≡ runs w - k = omega (arith, length-drop (3 * k) w, q, n) in
+      let r : drop k (runs_of w) ≡ first_chunks 3 (runs w - k) (drop (3 * k) w) =
+      runs_behind k (runs w) w (omega (arith, q, n)) in
+      let z : min ordered (runs w) ≡ k = omega (arith, q, n) in
+      rw (z, sym h, f, r) (rw (g, d) at (in_order_by_runs last (drop (3 * k) w)))
+
+  module _ {d : Bool} (j : d ≡ runs_in_order last (take (length rs - k) (drop k rs))) where
+    judged : d ≡ runs_in_order last (drop k rs)
+    judged = rw (take_rest rs k) at j
+
+    pub out_of_order_since : d ≡ false → d ≡ in_order_since w ordered
+    unfolding choose
+    out_of_order_since z = z ∙ go (eqb (length left) 0) ∙ sym (rw (sym judged ∙ z) at since)
+      where
+        go : (x : Bool) → false ≡ choose x false false
+        go true = refl
+        go false = refl
+
+    pub whole_since : {b : Bool} → b ≡ eqb (length left) 0 → d ≡ true → b ≡ in_order_since w ordered
+    unfolding choose
+    whole_since e z = e ∙ go (eqb (length left) 0) ∙ sym (rw (sym judged ∙ z) at since)
+      where
+        go : (x : Bool) → x ≡ choose x true false
+        go true = refl
+        go false = refl

@@ -1,14 +1,13 @@
 // Whether runs are in order, and the end of the run before one.
-ghost use Rattle.std.specs.Prelude.{◌≡◌, ◌+◌, ◌*◌, ◌<◌, ◌≤◌, drop};
+ghost use Rattle.std.specs.Prelude.{◌≡◌, ◌≤◌};
 ghost use Rattle.lift_record.specs.Halving.{in_order_since};
-ghost use Rattle.lift_record.specs.OrderLaws.{follows, four_follow, pair_follows};
-ghost use Rattle.lift_record.specs.Record.{end_before, in_order_from, run_words, runs};
+ghost use Rattle.lift_record.specs.OrderLaws.{follows, runs_in_order};
+ghost use Rattle.lift_record.specs.Record.{end_before, runs};
 
-use crate::words::word;
-use crate::{END, RUN_WORDS, START};
-use time::min_of;
+use crate::{END, RUN_WORDS, Run, START};
 
 // The end of the run before run k, 0 before the first.
+#[tactic(auto, using(crate::specs::OrderLaws::ordering))]
 pub(crate) fn end_before(list: &[u64], k: usize) -> u64
     requires { k ≤ runs list.now }
     ensures { result ≡ end_before 0 list.now k }
@@ -16,82 +15,54 @@ pub(crate) fn end_before(list: &[u64], k: usize) -> u64
     if k == 0 {
         return 0;
     }
-    word(list, k - 1, END)
+    let (runs, _) = list.as_chunks::<RUN_WORDS>();
+    runs[k - 1][END]
 }
 
 // Whether a run stands behind a time: it starts there or later, and ends at its start or later.
-fn follows(list: &[u64], i: usize, last: u64) -> bool
-    requires { i < runs list.now }
-    ensures { result ≡ follows list.now i last }
+#[tactic(auto, using(refusal::specs::Cases::cases), unfolding(crate::specs::OrderLaws::follows))]
+fn follows(run: &Run, last: u64) -> bool
+    ensures { result ≡ follows run.now 0 last }
 {
-    let start = word(list, i, START);
-    if start < last {
-        return false;
-    }
-    start <= word(list, i, END)
+    last <= run[START] && run[START] <= run[END]
 }
 
-// Whether the runs from run i on are in order behind a time, and no word is left over.
-fn rest_in_order(list: &[u64], mut i: usize, mut last: u64) -> bool
-    requires { i ≤ runs list.now }
-    ensures { result ≡ in_order_from last (drop (run_words * i) list.now) }
+// Whether these runs are in order behind a time.
+#[tactic(auto, using(crate::specs::OrderLaws::passing))]
+fn rest_in_order(runs: &[Run], mut last: u64) -> bool
+    ensures { result ≡ runs_in_order last runs.now }
 {
-    while i < list.len() / RUN_WORDS {
-        if follows(list, i, last) {
-            last = word(list, i, END);
-            i += 1;
-        } else {
+    for run in runs {
+        if !follows(run, last) {
             return false;
         }
+        last = run[END];
     }
-    RUN_WORDS * i == list.len()
-}
-
-// Whether two runs are in order behind a time.
-fn pair_follows(list: &[u64], i: usize, last: u64) -> bool
-    requires { i + 1 < runs list.now }
-    ensures { result ≡ pair_follows list.now i last }
-{
-    if follows(list, i, last) {
-        return follows(list, i + 1, word(list, i, END));
-    }
-    false
-}
-
-// Whether four runs are in order behind a time.
-fn four_follow(list: &[u64], i: usize, last: u64) -> bool
-    requires { i + 3 < runs list.now }
-    ensures { result ≡ four_follow list.now i last }
-{
-    if pair_follows(list, i, last) {
-        return pair_follows(list, i + 2, word(list, i + 1, END));
-    }
-    false
+    true
 }
 
 // What `rest_in_order` judges, four runs at a time, so that counting costs each of them little.
-fn fours_in_order(list: &[u64], mut i: usize, mut last: u64) -> bool
-    requires { i ≤ runs list.now }
-    ensures { result ≡ in_order_from last (drop (run_words * i) list.now) }
+#[tactic(auto, using(crate::specs::OrderLaws::passing))]
+fn fours_in_order(runs: &[Run], mut last: u64) -> bool
+    ensures { result ≡ runs_in_order last runs.now }
 {
-    let mut fours = (list.len() / RUN_WORDS - i) / 4;
-    while 0 < fours {
-        if four_follow(list, i, last) {
-            last = word(list, i + 3, END);
-            i += 4;
-            fours -= 1;
-        } else {
+    let (fours, rest) = runs.as_chunks::<4>();
+    for four in fours {
+        if !rest_in_order(four, last) {
             return false;
         }
+        last = four[3][END];
     }
-    rest_in_order(list, i, last)
+    rest_in_order(rest, last)
 }
 
 // Whether the runs from run `ordered` on are in order, behind the end of the one before; a word count that is not
 // whole runs is not.
+#[tactic(auto, using(crate::specs::OrderLaws::out_of_order_since))]
 pub(crate) fn in_order_since(list: &[u64], ordered: u64) -> bool
     ensures { result ≡ in_order_since list.now ordered }
 {
-    let k = min_of(ordered, (list.len() / RUN_WORDS) as u64) as usize;
-    fours_in_order(list, k, end_before(list, k))
+    let (runs, left) = list.as_chunks::<RUN_WORDS>();
+    let k = ordered.min(runs.len() as u64) as usize;
+    fours_in_order(&runs[k..], end_before(list, k)) && left.is_empty()
 }

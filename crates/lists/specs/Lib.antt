@@ -4,7 +4,5 @@ pub mod Checks
 pub mod Lists
 -- The same on a list by itself, with what is asked first.
 pub mod Calls
--- What the answers stand for.
-pub mod Answers
 -- Laws by which the functions meet the definitions.
 pub mod ListsLaws

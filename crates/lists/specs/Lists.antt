@@ -2,11 +2,9 @@
 -- scheduler/queue.rs. A refusal leaves table and list as they were. Where the source would halt, after its checks,
 -- there is no case here: each number that is stored to was read by a check before, and no store takes a record out of
 -- the table.
-use Rattle.std.specs.Prelude.{ℕ, ◌-◌, List}
+use Rattle.std.specs.Prelude.{ℕ, ◌-◌, List, Option, Some, None}
 use Rattle.refusal.specs.Answer.{Answer, value, refused, damaged}
 use Rattle.refusal.specs.Cases.{choose, if_equal, given}
-use Rattle.thread.specs.declared.Link.{Link}
-use Rattle.thread.specs.declared.Link.TheVariants as link
 use Rattle.thread.specs.declared.QueueMembership.{QueueMembership}
 use Rattle.thread.specs.declared.QueueLinks.{QueueLinks}
 use Rattle.thread.specs.declared.ThreadQueue.{ThreadQueue}
@@ -25,20 +23,20 @@ on_answer (refused n) g f = g n
 unfoldable pub on_out : {A B : Type 0} → Out A → (A → List ThreadRecord → B) → B
 on_out (out a t) f = f a t
 
-abbrev pub with_next : QueueLinks → Link → QueueLinks
+abbrev pub with_next : QueueLinks → Option ℕ → QueueLinks
 with_next l next = record { previous = l.previous; next = next; membership = l.membership }
 
-abbrev pub with_previous : QueueLinks → Link → QueueLinks
+abbrev pub with_previous : QueueLinks → Option ℕ → QueueLinks
 with_previous l previous = record { previous = previous; next = l.next; membership = l.membership }
 
 -- The record's links are read, and stored again with another next.
-unfoldable pub set_next : List ThreadRecord → ℕ → Link → List ThreadRecord
+unfoldable pub set_next : List ThreadRecord → ℕ → Option ℕ → List ThreadRecord
 set_next t i next =
     on_queue_links (queue_links_at t i) t
     (λ l. after (set_queue_links t i (with_next l next)))
 
 -- The record's links are read, and stored again with another previous.
-unfoldable pub set_previous : List ThreadRecord → ℕ → Link → List ThreadRecord
+unfoldable pub set_previous : List ThreadRecord → ℕ → Option ℕ → List ThreadRecord
 set_previous t i previous =
     on_queue_links (queue_links_at t i) t
     (λ l. after (set_queue_links t i (with_previous l previous)))
@@ -55,21 +53,21 @@ commit_remove t id = after (set_queue_links t id empty_queue_links)
 unfoldable pub append : List ThreadRecord → ThreadQueue → ℕ → QueueMembership → ℕ → Out ThreadQueue
 append t q id m n =
     on_link q.tail
-    (out (record { head = link.Some id; tail = link.Some id; len = n })
-    (commit_insert t id (record { previous = link.None; next = link.None; membership = m })))
-    (λ tail. given (set_next t tail (link.Some id))
-    (λ t₁. out (record { head = q.head; tail = link.Some id; len = n })
-    (commit_insert t₁ id (record { previous = link.Some tail; next = link.None; membership = m }))))
+    (out (record { head = Some id; tail = Some id; len = n })
+    (commit_insert t id (record { previous = None; next = None; membership = m })))
+    (λ tail. given (set_next t tail (Some id))
+    (λ t₁. out (record { head = q.head; tail = Some id; len = n })
+    (commit_insert t₁ id (record { previous = Some tail; next = None; membership = m }))))
 
 -- The stores of `push_front`, with the length after it.
 unfoldable pub prepend : List ThreadRecord → ThreadQueue → ℕ → QueueMembership → ℕ → Out ThreadQueue
 prepend t q id m n =
     on_link q.head
-    (out (record { head = link.Some id; tail = link.Some id; len = n })
-    (commit_insert t id (record { previous = link.None; next = link.None; membership = m })))
-    (λ head. given (set_previous t head (link.Some id))
-    (λ t₁. out (record { head = link.Some id; tail = q.tail; len = n })
-    (commit_insert t₁ id (record { previous = link.None; next = link.Some head; membership = m }))))
+    (out (record { head = Some id; tail = Some id; len = n })
+    (commit_insert t id (record { previous = None; next = None; membership = m })))
+    (λ head. given (set_previous t head (Some id))
+    (λ t₁. out (record { head = Some id; tail = q.tail; len = n })
+    (commit_insert t₁ id (record { previous = None; next = Some head; membership = m }))))
 
 -- The thread becomes the list's last (SPECIFICATION 7.2).
 unfoldable pub push : List ThreadRecord → ThreadQueue → ℕ → QueueMembership → Out (Answer ThreadQueue)

@@ -1,42 +1,33 @@
 -- Laws by which the functions over rows meet the definitions: r is what the call gave, x what its contract says of it.
-use Rattle.std.specs.Prelude.{ℕ, ◌<◌, ◌≤◌, ◌%◌, ◌≡◌, Bool, true, false, List, [], length, get_or, set}
+use Rattle.std.specs.Prelude.{ℕ, ◌<◌, ◌≤◌, ◌%◌, ◌≡◌, Bool, List, [], length, get_or, set, Option, Result, Ok, Err}
 use Rattle.std.proofs.Math.Path.{refl}
 use Rattle.std.proofs.Common.{sym, ap}
-use Rattle.refusal.specs.Answer.{Answer, value, refused, number_of}
-use Rattle.refusal.specs.Cases.{choose}
+use Rattle.refusal.specs.Answer.{Answer, number_of, by_number, or_damaged}
 use Rattle.refusal.specs.declared.Refusal.{Refusal}
-use Rattle.thread.specs.declared.Link.{Link}
 use Rattle.thread.specs.declared.QueueLinks.{QueueLinks}
 use Rattle.thread.specs.declared.QueueMembership.{QueueMembership}
-use Rattle.thread.specs.declared.ThreadQueue.{ThreadQueue}
 use Rattle.thread.specs.declared.ThreadRecord.{ThreadRecord}
 use Rattle.thread.specs.Membership.{is_unqueued}
 use Rattle.thread.specs.Records.{with_queue_links}
 use Rattle.codec.specs.Codec.{word, row_words, link_from, parameters_of, runtime_of, links_of, queue_links_of, decoded}
 use Rattle.codec.specs.Codec.{cpu_word}
 use Rattle.codec.specs.RowLaws.{by_words, next_stored, previous_stored}
-use Rattle.rows.specs.declared.QueueLinksRead.TheVariants as queue_links_read
 use Rattle.rows.specs.Table.{Out, out, after, table, record_at, queue_links_at, set_queue_links}
-use Rattle.rows.specs.declared.Change.{Change}
 use Rattle.rows.specs.Asked.{answering}
-use Rattle.rows.specs.Answers.{change_answer}
 use Rattle.rows.specs.AnswersLaws.{same_change}
 use Rattle.rows.specs.TableCases.{on_record, on_queue_links}
 use Rattle.rows.specs.RowTableLaws.{record_inside, record_outside, queue_links_inside, queue_links_outside}
 use Rattle.rows.specs.RowTableLaws.{set_queue_links_inside}
-use Rattle.lists.specs.declared.Preflight.{Preflight}
-use Rattle.lists.specs.declared.Preflight.TheVariants as preflight
-use Rattle.lists.specs.Checks.{assigned_to, preflight_insert}
-use Rattle.lists.specs.Lists.{on_answer, on_out, with_next, with_previous, set_next, set_previous, append, prepend}
-use Rattle.lists.specs.Lists.{push, push_front}
-use Rattle.lists.specs.Answers.{preflight_answer}
+use Rattle.lists.specs.Checks.{assigned_to}
+use Rattle.lists.specs.Lists.{on_answer, on_out, with_next, with_previous, set_next, set_previous}
+use Rattle.refusal.specs.declared.Damaged.{Damaged}
 
-module _ {B : Type 0} {y : B} {r : Preflight} {x : Answer ℕ} (g f : ℕ → B) where
-  pub allowed : {n : ℕ} → preflight_answer r ≡ x → r ≡ preflight.Length n → y ≡ f n → y ≡ on_answer x g f
+module _ {B : Type 0} {y : B} {r : Result ℕ Refusal} {x : Answer ℕ} (g f : ℕ → B) where
+  pub allowed : {n : ℕ} → by_number r ≡ x → r ≡ Ok n → y ≡ f n → y ≡ on_answer x g f
   unfolding on_answer
   allowed e m h = rw (sym e, m) h
 
-  pub turned_down_lem : {n : Refusal} → preflight_answer r ≡ x → r ≡ preflight.Refused n → y ≡ g (number_of n)
+  pub turned_down_lem : {n : Refusal} → by_number r ≡ x → r ≡ Err n → y ≡ g (number_of n)
       → y ≡ on_answer x g f
   unfolding on_answer
   turned_down_lem e m h = rw (sym e, m) h
@@ -46,19 +37,9 @@ pub went_out : {A B : Type 0} {y : B} {r : A} {t : List ThreadRecord} {x : Out A
 unfolding on_out
 went_out f e h = rw (sym e) h
 
--- Both ends have the same checks.
-pub either_end : (front : Bool) (t : List ThreadRecord) (q : ThreadQueue) (id : ℕ) (m : QueueMembership)
-    {y : Out (Answer ThreadQueue)}
-    → y ≡ on_answer (preflight_insert t q id m) (λ n. out (refused n) t)
-    (λ n. on_out (choose front (prepend t q id m n) (append t q id m n)) (λ s t₁. out (value s) t₁))
-    → y ≡ choose front (push_front t q id m) (push t q id m)
-unfolding choose push push_front
-either_end true t q id m e = e
-either_end false t q id m e = e
-
 -- The table that a store left is the table after it.
-pub left_by_lem : (r : Change) (x : Out Change) {t : List ThreadRecord}
-    → out (change_answer r) t ≡ answering change_answer x → t ≡ after x
+pub left_by_lem : (r : Result (Unit {0}) Damaged) (x : Out (Result (Unit {0}) Damaged)) {t : List ThreadRecord}
+    → out (or_damaged r) t ≡ answering or_damaged x → t ≡ after x
 left_by_lem r x {t} e = ap after (same_change r t x e)
 
 -- The table after a store that stands for part of an answer.
@@ -86,7 +67,8 @@ unfolding decoded
 assigned_row w m e h = rw (sym e) h
 
 -- Two words stored are one link, and no other part of the record.
-pub next_stored_lem : (r : List ℕ) (l : Link) (a : List ℕ) → length r ≡ row_words → link_from (word a 0) (word a 1) ≡ l
+pub next_stored_lem : (r : List ℕ) (l : Option ℕ) (a : List ℕ) → length r ≡ row_words
+    → link_from (word a 0) (word a 1) ≡ l
     → decoded (next_stored r a) ≡ with_queue_links (with_next (decoded r).queue_links l)
     (decoded r)
 unfolding decoded parameters_of runtime_of links_of queue_links_of
@@ -97,7 +79,7 @@ next_stored_lem r l a size e =
     x31. rw (e))
     r size
 
-pub previous_stored_lem : (r : List ℕ) (l : Link) (a : List ℕ) → length r ≡ row_words
+pub previous_stored_lem : (r : List ℕ) (l : Option ℕ) (a : List ℕ) → length r ≡ row_words
     → link_from (word a 0) (word a 1) ≡ l
     → decoded (previous_stored r a) ≡ with_queue_links (with_previous (decoded r).queue_links l)
     (decoded r)
@@ -112,7 +94,7 @@ previous_stored_lem r l a size e =
 -- The table with such a row in it.
 module _ (rows : List (List ℕ)) (i : ℕ) where
   links_of_row : i < length rows
-      → queue_links_read.Got (decoded (get_or rows i [])).queue_links ≡ queue_links_at (table rows) i
+      → Ok (decoded (get_or rows i [])).queue_links ≡ queue_links_at (table rows) i
   unfolding decoded
   links_of_row h = queue_links_inside rows i h refl
 
@@ -121,7 +103,7 @@ module _ (rows : List (List ℕ)) (i : ℕ) where
       → table (set rows i w) ≡ after (set_queue_links (table rows) i l)
   relinked l w h e = ap after (set_queue_links_inside rows i l w h e)
 
-  pub next_set : (next : Link) (w : List ℕ) → i < length rows
+  pub next_set : (next : Option ℕ) (w : List ℕ) → i < length rows
       → decoded w ≡ with_queue_links (with_next (decoded (get_or rows i [])).queue_links next)
       (decoded (get_or rows i []))
       → table (set rows i w) ≡ set_next (table rows) i next
@@ -129,11 +111,11 @@ module _ (rows : List (List ℕ)) (i : ℕ) where
   next_set next w h e =
       rw (sym (links_of_row h)) (relinked (with_next (decoded (get_or rows i [])).queue_links next) w h e)
 
-  pub next_not_set : (next : Link) → length rows ≤ i → table rows ≡ set_next (table rows) i next
+  pub next_not_set : (next : Option ℕ) → length rows ≤ i → table rows ≡ set_next (table rows) i next
   unfolding set_next on_queue_links
   next_not_set next h = rw (sym (queue_links_outside rows i h))
 
-  pub previous_set : (previous : Link) (w : List ℕ) → i < length rows
+  pub previous_set : (previous : Option ℕ) (w : List ℕ) → i < length rows
       → decoded w ≡ with_queue_links (with_previous (decoded (get_or rows i [])).queue_links previous)
       (decoded (get_or rows i []))
       → table (set rows i w) ≡ set_previous (table rows) i previous
@@ -141,7 +123,7 @@ module _ (rows : List (List ℕ)) (i : ℕ) where
   previous_set previous w h e =
       rw (sym (links_of_row h)) (relinked (with_previous (decoded (get_or rows i [])).queue_links previous) w h e)
 
-  pub previous_not_set : (previous : Link) → length rows ≤ i → table rows ≡ set_previous (table rows) i previous
+  pub previous_not_set : (previous : Option ℕ) → length rows ≤ i → table rows ≡ set_previous (table rows) i previous
   unfolding set_previous on_queue_links
   previous_not_set previous h = rw (sym (queue_links_outside rows i h))
 

@@ -1,8 +1,8 @@
 -- Comparing numbers, and keys part by part: what Rust's derived `Ord` does on fields as they are declared.
 use Rattle.std.specs.Prelude.{ℕ, List, [], ◌∷◌}
 use Rattle.refusal.specs.Cases.{if_less}
-use Rattle.order.specs.declared.Ordering.{Ordering}
-use Rattle.order.specs.declared.Ordering.TheVariants.{Less, Equal, Greater}
+use Rattle.std.specs.declared.cmp.Ordering.{Ordering}
+use Rattle.std.specs.declared.cmp.Ordering.TheVariants.{Less, Equal, Greater}
 
 unfoldable pub compare_numbers : ℕ → ℕ → Ordering
 compare_numbers a b = if_less a b Less (if_less b a Greater Equal)

@@ -1,10 +1,9 @@
 -- Budget parameters: which `BudgetParameters::new` takes. After task/policy.rs.
-use Rattle.std.specs.Prelude.{ℕ, Bool, true, false}
+use Rattle.std.specs.Prelude.{ℕ, Bool, true, false, Result}
 use Rattle.refusal.specs.Answer.{Answer, value, refused, number_of, bad_budget}
 use Rattle.refusal.specs.Cases.{choose, if_less, if_equal}
 use Rattle.policy.specs.declared.BudgetParameters.{BudgetParameters}
-use Rattle.policy.specs.declared.BudgetMade.{BudgetMade}
-use Rattle.policy.specs.declared.BudgetMade.TheVariants.{Made, Refused}
+use Rattle.refusal.specs.declared.Refusal.{Refusal}
 
 -- `BudgetParameters::MAX_PERIOD_NS`.
 abbrev pub max_period : ℕ
@@ -26,7 +25,3 @@ unfoldable pub new_budget : ℕ → ℕ → ℕ → Answer BudgetParameters
 new_budget budget period burst =
     let p : BudgetParameters = record { budget_ns = budget; period_ns = period; burst_ns = burst } in
     choose (sound_budget p) (value p) (refused bad_budget)
-
-abbrev pub budget_made : BudgetMade → Answer BudgetParameters
-budget_made (Made p) = value p
-budget_made (Refused r) = refused (number_of r)

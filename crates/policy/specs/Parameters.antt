@@ -1,5 +1,5 @@
 -- Weights, and what the constructors of `SchedulingParameters` make. After task/policy.rs.
-use Rattle.std.specs.Prelude.{ℕ}
+use Rattle.std.specs.Prelude.{ℕ, Option, Some, None}
 use Rattle.refusal.specs.Cases.{if_less, if_equal}
 use Rattle.policy.specs.Budget.{max_period}
 use Rattle.policy.specs.declared.ThreadPriority.{ThreadPriority}
@@ -7,20 +7,13 @@ use Rattle.policy.specs.declared.SchedulingClass.{SchedulingClass}
 use Rattle.policy.specs.declared.SchedulingClass.TheVariants as class
 use Rattle.policy.specs.declared.SchedulingPolicy.{SchedulingPolicy}
 use Rattle.policy.specs.declared.SchedulingPolicy.TheVariants as policy
-use Rattle.policy.specs.declared.PriorityOption.{PriorityOption}
-use Rattle.policy.specs.declared.PriorityOption.TheVariants as priority
 use Rattle.policy.specs.declared.SchedulingRole.{SchedulingRole}
 use Rattle.policy.specs.declared.SchedulingRole.TheVariants as role
 use Rattle.policy.specs.declared.FairBackend.{FairBackend}
 use Rattle.policy.specs.declared.FairBackend.TheVariants as backend
 use Rattle.policy.specs.declared.ThreadWeight.{ThreadWeight}
-use Rattle.policy.specs.declared.WeightOption.{WeightOption}
-use Rattle.policy.specs.declared.WeightOption.TheVariants as weight
 use Rattle.policy.specs.declared.BudgetParameters.{BudgetParameters}
-use Rattle.policy.specs.declared.BudgetOption.TheVariants as budget
 use Rattle.policy.specs.declared.SchedulingParameters.{SchedulingParameters}
-use Rattle.policy.specs.declared.ParametersOption.{ParametersOption}
-use Rattle.policy.specs.declared.ParametersOption.TheVariants as parameters
 
 abbrev pub class_of : SchedulingPolicy → SchedulingClass
 class_of (policy.Fifo p) = class.RealTime
@@ -28,33 +21,33 @@ class_of policy.Fair = class.Fair
 class_of policy.Budget = class.Budget
 class_of policy.Idle = class.Idle
 
-abbrev pub priority_of : SchedulingPolicy → PriorityOption
-priority_of (policy.Fifo p) = priority.Some p
-priority_of policy.Fair = priority.None
-priority_of policy.Budget = priority.None
-priority_of policy.Idle = priority.None
+abbrev pub priority_of : SchedulingPolicy → Option ThreadPriority
+priority_of (policy.Fifo p) = Some p
+priority_of policy.Fair = None
+priority_of policy.Budget = None
+priority_of policy.Idle = None
 
 -- A weight is 1 to 1,024 (`ThreadWeight::MAX`).
-unfoldable pub new_weight : ℕ → WeightOption
-new_weight n = if_equal n 0 weight.None (if_less 1024 n weight.None (weight.Some (record { 0 = n })))
+unfoldable pub new_weight : ℕ → Option ThreadWeight
+new_weight n = if_equal n 0 None (if_less 1024 n None (Some (record { 0 = n })))
 
 -- `ThreadWeight::DEFAULT`.
 abbrev pub default_weight : ThreadWeight
 default_weight = record { 0 = 16 }
 
 -- Fair parameters, or none where the quantum is 0 or above 1,000,000,000.
-unfoldable pub new_fair : ThreadWeight → ℕ → ThreadPriority → SchedulingRole → FairBackend → ParametersOption
+unfoldable pub new_fair : ThreadWeight → ℕ → ThreadPriority → SchedulingRole → FairBackend → Option SchedulingParameters
 new_fair w quantum b r f =
-    if_equal quantum 0 parameters.None
-    (if_less max_period quantum parameters.None
-    (parameters.Some (record {
+    if_equal quantum 0 None
+    (if_less max_period quantum None
+    (Some (record {
       policy = policy.Fair;
       band = b;
       role = r;
       weight = w;
       quantum_ns = quantum;
       fair_backend = f;
-      budget = budget.None;
+      budget = None;
     })))
 
 abbrev pub of_budget : BudgetParameters → ThreadPriority → SchedulingRole → SchedulingParameters
@@ -66,7 +59,7 @@ of_budget p b r =
       weight = default_weight;
       quantum_ns = 0;
       fair_backend = backend.Stride;
-      budget = budget.Some p;
+      budget = Some p;
     }
 
 abbrev pub of_fifo : ThreadPriority → ThreadPriority → SchedulingRole → SchedulingParameters
@@ -78,7 +71,7 @@ of_fifo p b r =
       weight = default_weight;
       quantum_ns = 0;
       fair_backend = backend.Stride;
-      budget = budget.None;
+      budget = None;
     }
 
 -- The lowest priority, 255, as its band.
@@ -91,5 +84,5 @@ of_idle =
       weight = default_weight;
       quantum_ns = 0;
       fair_backend = backend.Stride;
-      budget = budget.None;
+      budget = None;
     }

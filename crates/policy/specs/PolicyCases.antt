@@ -1,5 +1,5 @@
 -- Choosing by a policy, a role, a backend or a budget that may be absent, with the laws by which proofs do.
-use Rattle.std.specs.Prelude.{◌≡◌}
+use Rattle.std.specs.Prelude.{◌≡◌, Option, Some, None}
 use Rattle.policy.specs.declared.ThreadPriority.{ThreadPriority}
 use Rattle.policy.specs.declared.SchedulingPolicy.{SchedulingPolicy}
 use Rattle.policy.specs.declared.SchedulingPolicy.TheVariants as policy
@@ -8,8 +8,6 @@ use Rattle.policy.specs.declared.SchedulingRole.TheVariants as role
 use Rattle.policy.specs.declared.FairBackend.{FairBackend}
 use Rattle.policy.specs.declared.FairBackend.TheVariants as backend
 use Rattle.policy.specs.declared.BudgetParameters.{BudgetParameters}
-use Rattle.policy.specs.declared.BudgetOption.{BudgetOption}
-use Rattle.policy.specs.declared.BudgetOption.TheVariants as budget
 
 -- FIFO, Fair, Budget, Idle.
 unfoldable pub on_policy : {A : Type 0} → SchedulingPolicy → (ThreadPriority → A) → A → A → A → A
@@ -30,9 +28,9 @@ on_backend backend.Stride stride round_robin = stride
 on_backend backend.RoundRobin stride round_robin = round_robin
 
 -- No budget first.
-unfoldable pub on_budget : {A : Type 0} → BudgetOption → A → (BudgetParameters → A) → A
-on_budget budget.None a f = a
-on_budget (budget.Some p) a f = f p
+unfoldable pub on_budget : {A : Type 0} → Option BudgetParameters → A → (BudgetParameters → A) → A
+on_budget None a f = a
+on_budget (Some p) a f = f p
 
 module _ {A : Type 0} {y : A} {x : SchedulingPolicy} (f : ThreadPriority → A) (a b c : A) where
   pub is_fifo_lem : {p : ThreadPriority} → x ≡ policy.Fifo p → y ≡ f p → y ≡ on_policy x f a b c
@@ -73,12 +71,12 @@ module _ {A : Type 0} {y : A} {x : FairBackend} (a b : A) where
   unfolding on_backend
   is_round_robin e h = rw e h
 
-module _ {A : Type 0} {y : A} {x : BudgetOption} (a : A) (f : BudgetParameters → A) where
-  pub no_budget : x ≡ budget.None → y ≡ a → y ≡ on_budget x a f
+module _ {A : Type 0} {y : A} {x : Option BudgetParameters} (a : A) (f : BudgetParameters → A) where
+  pub no_budget : x ≡ None → y ≡ a → y ≡ on_budget x a f
   unfolding on_budget
   no_budget e h = rw e h
 
-  pub some_budget : {p : BudgetParameters} → x ≡ budget.Some p → y ≡ f p → y ≡ on_budget x a f
+  pub some_budget : {p : BudgetParameters} → x ≡ Some p → y ≡ f p → y ≡ on_budget x a f
   unfolding on_budget
   some_budget e h = rw e h
 

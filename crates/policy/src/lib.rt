@@ -2,7 +2,8 @@
 #![tactic(auto)]
 
 ghost use Rattle.std.specs.Prelude.{◌≡◌};
-ghost use Rattle.policy.specs.Budget.{sound_budget, new_budget, budget_made};
+ghost use Rattle.refusal.specs.Answer.{by_number};
+ghost use Rattle.policy.specs.Budget.{sound_budget, new_budget};
 ghost use Rattle.policy.specs.Parameters.{new_weight, new_fair, of_budget, of_fifo, of_idle, class_of, priority_of};
 
 use refusal::Refusal;
@@ -48,13 +49,6 @@ pub enum SchedulingPolicy {
     Idle,
 }
 
-// A priority, or none: only a FIFO policy has one.
-#[derive(Clone, Copy)]
-pub enum PriorityOption {
-    Some(ThreadPriority),
-    None,
-}
-
 impl SchedulingPolicy {
     pub fn fifo(priority: ThreadPriority) -> Self
         ensures { result ≡ SchedulingPolicy.Fifo priority }
@@ -80,15 +74,15 @@ impl SchedulingPolicy {
         }
     }
 
-    pub fn priority(self) -> PriorityOption
+    pub fn priority(self) -> Option<ThreadPriority>
         ensures { result ≡ priority_of self }
     {
         let policy = self;
         match policy {
-            SchedulingPolicy::Fifo { priority } => PriorityOption::Some(priority),
-            SchedulingPolicy::Fair => PriorityOption::None,
-            SchedulingPolicy::Budget => PriorityOption::None,
-            SchedulingPolicy::Idle => PriorityOption::None,
+            SchedulingPolicy::Fifo { priority } => Some(priority),
+            SchedulingPolicy::Fair => None,
+            SchedulingPolicy::Budget => None,
+            SchedulingPolicy::Idle => None,
         }
     }
 }
@@ -111,27 +105,21 @@ pub enum FairBackend {
 #[derive(Clone, Copy)]
 pub struct ThreadWeight(pub u16);
 
-#[derive(Clone, Copy)]
-pub enum WeightOption {
-    Some(ThreadWeight),
-    None,
-}
-
 impl ThreadWeight {
     pub const DEFAULT: Self = Self(16);
 
     pub const MAX: u16 = 1024;
 
-    pub fn new(value: u16) -> WeightOption
+    pub fn new(value: u16) -> Option<ThreadWeight>
         ensures { result ≡ new_weight value }
     {
         if value == 0 {
-            return WeightOption::None;
+            return None;
         }
         if Self::MAX < value {
-            return WeightOption::None;
+            return None;
         }
-        WeightOption::Some(Self(value))
+        Some(Self(value))
     }
 
     pub fn get(self) -> u16
@@ -149,17 +137,11 @@ pub struct BudgetParameters {
     pub burst_ns: u64,
 }
 
-#[derive(Clone, Copy)]
-pub enum BudgetMade {
-    Made(BudgetParameters),
-    Refused(Refusal),
-}
-
 impl BudgetParameters {
     pub const MAX_PERIOD_NS: u64 = 1_000_000_000;
 
-    pub fn new(budget_ns: u64, period_ns: u64, burst_ns: u64) -> BudgetMade
-        ensures { budget_made result ≡ new_budget budget_ns period_ns burst_ns }
+    pub fn new(budget_ns: u64, period_ns: u64, burst_ns: u64) -> Result<BudgetParameters, Refusal>
+        ensures { by_number result ≡ new_budget budget_ns period_ns burst_ns }
     {
         let parameters = Self {
             budget_ns,
@@ -167,9 +149,9 @@ impl BudgetParameters {
             burst_ns,
         };
         if parameters.is_sound() {
-            BudgetMade::Made(parameters)
+            Ok(parameters)
         } else {
-            BudgetMade::Refused(Refusal::BadBudget)
+            Err(Refusal::BadBudget)
         }
     }
 
@@ -217,13 +199,6 @@ impl BudgetParameters {
     }
 }
 
-// The budget of a record, or none.
-#[derive(Clone, Copy)]
-pub enum BudgetOption {
-    Some(BudgetParameters),
-    None,
-}
-
 // Policy inputs. Unused fields have canonical values.
 #[derive(Clone, Copy)]
 pub struct SchedulingParameters {
@@ -233,13 +208,7 @@ pub struct SchedulingParameters {
     pub weight: ThreadWeight,
     pub quantum_ns: u64,
     pub fair_backend: FairBackend,
-    pub budget: BudgetOption,
-}
-
-#[derive(Clone, Copy)]
-pub enum ParametersOption {
-    Some(SchedulingParameters),
-    None,
+    pub budget: Option<BudgetParameters>,
 }
 
 impl SchedulingParameters {
@@ -249,23 +218,23 @@ impl SchedulingParameters {
         band: ThreadPriority,
         role: SchedulingRole,
         fair_backend: FairBackend,
-    ) -> ParametersOption
+    ) -> Option<SchedulingParameters>
         ensures { result ≡ new_fair weight quantum_ns band role fair_backend }
     {
         if quantum_ns == 0 {
-            return ParametersOption::None;
+            return None;
         }
         if BudgetParameters::MAX_PERIOD_NS < quantum_ns {
-            return ParametersOption::None;
+            return None;
         }
-        ParametersOption::Some(Self {
+        Some(Self {
             policy: SchedulingPolicy::Fair,
             band,
             role,
             weight,
             quantum_ns,
             fair_backend,
-            budget: BudgetOption::None,
+            budget: None,
         })
     }
 
@@ -279,7 +248,7 @@ impl SchedulingParameters {
             weight: ThreadWeight::DEFAULT,
             quantum_ns: 0,
             fair_backend: FairBackend::Stride,
-            budget: BudgetOption::Some(budget),
+            budget: Some(budget),
         }
     }
 
@@ -293,7 +262,7 @@ impl SchedulingParameters {
             weight: ThreadWeight::DEFAULT,
             quantum_ns: 0,
             fair_backend: FairBackend::Stride,
-            budget: BudgetOption::None,
+            budget: None,
         }
     }
 
@@ -307,7 +276,7 @@ impl SchedulingParameters {
             weight: ThreadWeight::DEFAULT,
             quantum_ns: 0,
             fair_backend: FairBackend::Stride,
-            budget: BudgetOption::None,
+            budget: None,
         }
     }
 
@@ -347,7 +316,7 @@ impl SchedulingParameters {
         self.fair_backend
     }
 
-    pub fn budget_parameters(self) -> BudgetOption
+    pub fn budget_parameters(self) -> Option<BudgetParameters>
         ensures { result ≡ self.budget }
     {
         self.budget

@@ -1,12 +1,8 @@
 -- Laws of the words: those that are stored for each variant stand for it, and the parts that they stand for make the
 -- whole.
-use Rattle.std.specs.Prelude.{ℕ, ◌%◌, ◌≡◌, List, [], ◌∷◌}
+use Rattle.std.specs.Prelude.{ℕ, ◌%◌, ◌≡◌, List, [], ◌∷◌, Option, Some, None}
 use Rattle.std.proofs.Math.Path.{sym}
 use Rattle.refusal.specs.Cases.{choose, given, if_equal}
-use Rattle.time.specs.declared.Deadline.{Deadline}
-use Rattle.time.specs.declared.Deadline.TheVariants as deadline
-use Rattle.time.specs.declared.Epoch.{Epoch}
-use Rattle.time.specs.declared.Epoch.TheVariants as epoch
 use Rattle.policy.specs.declared.ThreadPriority.{ThreadPriority}
 use Rattle.policy.specs.declared.SchedulingPolicy.{SchedulingPolicy}
 use Rattle.policy.specs.declared.SchedulingPolicy.TheVariants as policy
@@ -15,8 +11,6 @@ use Rattle.policy.specs.declared.SchedulingRole.TheVariants as role
 use Rattle.policy.specs.declared.FairBackend.{FairBackend}
 use Rattle.policy.specs.declared.FairBackend.TheVariants as backend
 use Rattle.policy.specs.declared.BudgetParameters.{BudgetParameters}
-use Rattle.policy.specs.declared.BudgetOption.{BudgetOption}
-use Rattle.policy.specs.declared.BudgetOption.TheVariants as budget
 use Rattle.budget.specs.declared.BudgetRuntime.{BudgetRuntime}
 use Rattle.algorithms.specs.declared.FairRuntime.{FairRuntime}
 use Rattle.algorithms.specs.declared.PolicyRuntime.{PolicyRuntime}
@@ -67,22 +61,22 @@ module _ {x : FairBackend} where
   unfolding backend_from if_equal choose
   round_robin_word h = sym h
 
-module _ {x : BudgetOption} where
-  pub no_budget_words : x ≡ budget.None → budget_from 0 0 0 0 ≡ x
+module _ {x : Option BudgetParameters} where
+  pub no_budget_words : x ≡ None → budget_from 0 0 0 0 ≡ x
   unfolding budget_from if_equal choose
   no_budget_words h = sym h
 
-  pub some_budget_words : {b : BudgetParameters} → x ≡ budget.Some b
+  pub some_budget_words : {b : BudgetParameters} → x ≡ Some b
       → budget_from 1 b.budget_ns b.period_ns b.burst_ns ≡ x
   unfolding budget_from if_equal choose
   some_budget_words h = sym h
 
-module _ {x : Epoch} where
-  pub no_epoch_words : x ≡ epoch.None → epoch_from 0 0 ≡ x
+module _ {x : Option ℕ} where
+  pub no_epoch_words : x ≡ None → epoch_from 0 0 ≡ x
   unfolding epoch_from if_equal choose
   no_epoch_words h = sym h
 
-  pub some_epoch_words : {n : ℕ} → x ≡ epoch.Some n → epoch_from 1 n ≡ x
+  pub some_epoch_words : {n : ℕ} → x ≡ Some n → epoch_from 1 n ≡ x
   unfolding epoch_from if_equal choose
   some_epoch_words h = sym h
 
@@ -105,12 +99,12 @@ module _ {x : PolicyRuntime} where
   unfolding runtime_from if_equal choose
   runs_idle_words h = sym h
 
-module _ {d : Deadline} where
-  pub no_deadline_words : d ≡ deadline.None → deadline_of (0 ∷ 0 ∷ []) ≡ d
+module _ {d : Option ℕ} where
+  pub no_deadline_words : d ≡ None → deadline_of (0 ∷ 0 ∷ []) ≡ d
   unfolding deadline_of if_equal choose
   no_deadline_words h = sym h
 
-  pub deadline_words : {n : ℕ} → d ≡ deadline.Some n → deadline_of (1 ∷ n ∷ []) ≡ d
+  pub deadline_words : {n : ℕ} → d ≡ Some n → deadline_of (1 ∷ n ∷ []) ≡ d
   unfolding deadline_of if_equal choose
   deadline_words h = sym h
 
@@ -128,7 +122,7 @@ parameters_words p a b band role weight backend e₁ e₂ e₃ e₄ e₅ e₆ = 
 
 -- The parts that the words stand for make the whole.
 pub parameters_read : (w : List ℕ) {policy : SchedulingPolicy} {band weight : ℕ} {role : SchedulingRole}
-    {backend : FairBackend} {budget : BudgetOption}
+    {backend : FairBackend} {budget : Option BudgetParameters}
     → policy ≡ policy_from (word w policy_tag) (word w fifo_priority) → band ≡ word w band_word % 256
     → role ≡ role_from (word w role_tag) → weight ≡ word w weight_word % 65536
     → backend ≡ backend_from (word w backend_tag)

@@ -1,23 +1,18 @@
 -- What the words of scheduling parameters, of a policy's runtime and of times stand for: some value, whatever the
 -- words. A tag takes the first variant whose number it is and else the last variant; a byte is its word's remainder by
 -- 256, a weight its word's by 65536.
-use Rattle.std.specs.Prelude.{ℕ, ◌%◌, List, get_or}
+use Rattle.std.specs.Prelude.{ℕ, ◌%◌, List, get_or, Option, Some, None}
 use Rattle.refusal.specs.Cases.{given, if_equal}
-use Rattle.time.specs.declared.Deadline.{Deadline}
-use Rattle.time.specs.declared.Deadline.TheVariants as deadline
-use Rattle.time.specs.declared.Epoch.{Epoch}
-use Rattle.time.specs.declared.Epoch.TheVariants as epoch
 use Rattle.policy.specs.declared.SchedulingPolicy.{SchedulingPolicy}
 use Rattle.policy.specs.declared.SchedulingPolicy.TheVariants as policy
 use Rattle.policy.specs.declared.SchedulingRole.{SchedulingRole}
 use Rattle.policy.specs.declared.SchedulingRole.TheVariants as role
 use Rattle.policy.specs.declared.FairBackend.{FairBackend}
 use Rattle.policy.specs.declared.FairBackend.TheVariants as backend
-use Rattle.policy.specs.declared.BudgetOption.{BudgetOption}
-use Rattle.policy.specs.declared.BudgetOption.TheVariants as budget
 use Rattle.policy.specs.declared.SchedulingParameters.{SchedulingParameters}
 use Rattle.algorithms.specs.declared.PolicyRuntime.{PolicyRuntime}
 use Rattle.algorithms.specs.declared.PolicyRuntime.TheVariants as runtime
+use Rattle.policy.specs.declared.BudgetParameters.{BudgetParameters}
 
 -- The k-th word.
 abbrev pub word : List ℕ → ℕ → ℕ
@@ -92,13 +87,13 @@ unfoldable pub backend_from : ℕ → FairBackend
 backend_from tag = if_equal tag 0 backend.Stride backend.RoundRobin
 
 -- 0 none, else the budget, the period and the burst.
-unfoldable pub budget_from : ℕ → ℕ → ℕ → ℕ → BudgetOption
+unfoldable pub budget_from : ℕ → ℕ → ℕ → ℕ → Option BudgetParameters
 budget_from tag ns period burst =
-    if_equal tag 0 budget.None (budget.Some (record { budget_ns = ns; period_ns = period; burst_ns = burst }))
+    if_equal tag 0 None (Some (record { budget_ns = ns; period_ns = period; burst_ns = burst }))
 
 -- 0 none, else the epoch.
-unfoldable pub epoch_from : ℕ → ℕ → Epoch
-epoch_from tag n = if_equal tag 0 epoch.None (epoch.Some n)
+unfoldable pub epoch_from : ℕ → ℕ → Option ℕ
+epoch_from tag n = if_equal tag 0 None (Some n)
 
 -- 0 FIFO; 1 Fair with the pass by its halves and the slice; 2 Budget with the epoch's two words, time and burst left;
 -- else Idle.
@@ -111,8 +106,8 @@ runtime_from tag first second third fourth =
     runtime.Idle))
 
 -- Two words: 0 none, else the time.
-unfoldable pub deadline_of : List ℕ → Deadline
-deadline_of w = if_equal (word w 0) 0 deadline.None (deadline.Some (word w 1))
+unfoldable pub deadline_of : List ℕ → Option ℕ
+deadline_of w = if_equal (word w 0) 0 None (Some (word w 1))
 
 -- The words up to a budget's burst.
 unfoldable pub parameters_of : List ℕ → SchedulingParameters

@@ -10,10 +10,9 @@ ghost use Rattle.policy_words.specs.Encodes.{option_encodes, runtime_encodes};
 use algorithms::{FairRuntime, PolicyRuntime, Wide};
 use budget::BudgetRuntime;
 use policy::{
-    BudgetOption, BudgetParameters, FairBackend, SchedulingParameters, SchedulingPolicy,
-    SchedulingRole, ThreadPriority, ThreadWeight,
+    BudgetParameters, FairBackend, SchedulingParameters, SchedulingPolicy, SchedulingRole,
+    ThreadPriority, ThreadWeight,
 };
-use time::{Deadline, Epoch};
 
 // A thread's row.
 pub const ROW_WORDS: usize = 32;
@@ -119,26 +118,26 @@ pub fn backend_from(tag: u64) -> FairBackend
     FairBackend::RoundRobin
 }
 
-fn budget_from(tag: u64, budget_ns: u64, period_ns: u64, burst_ns: u64) -> BudgetOption
+fn budget_from(tag: u64, budget_ns: u64, period_ns: u64, burst_ns: u64) -> Option<BudgetParameters>
     ensures { result ≡ budget_from tag budget_ns period_ns burst_ns }
 {
     if tag == 0 {
-        return BudgetOption::None;
+        return None;
     }
-    BudgetOption::Some(BudgetParameters {
+    Some(BudgetParameters {
         budget_ns,
         period_ns,
         burst_ns,
     })
 }
 
-pub fn epoch_from(tag: u64, epoch: u64) -> Epoch
+pub fn epoch_from(tag: u64, epoch: u64) -> Option<u64>
     ensures { result ≡ epoch_from tag epoch }
 {
     if tag == 0 {
-        return Epoch::None;
+        return None;
     }
-    Epoch::Some(epoch)
+    Some(epoch)
 }
 
 fn runtime_from(tag: u64, first: u64, second: u64, third: u64, fourth: u64) -> PolicyRuntime
@@ -247,22 +246,22 @@ pub fn word_of_backend(backend: FairBackend) -> u64
     }
 }
 
-pub fn words_of_budget(budget: BudgetOption) -> [u64; 4]
+pub fn words_of_budget(budget: Option<BudgetParameters>) -> [u64; 4]
     ensures { budget_from (word result 0) (word result 1) (word result 2) (word result 3) ≡ budget }
 {
     match budget {
-        BudgetOption::None => [0, 0, 0, 0],
-        BudgetOption::Some(b) => [1, b.budget_ns, b.period_ns, b.burst_ns],
+        None => [0, 0, 0, 0],
+        Some(b) => [1, b.budget_ns, b.period_ns, b.burst_ns],
     }
 }
 
-pub fn words_of_epoch(epoch: Epoch) -> [u64; 2]
+pub fn words_of_epoch(epoch: Option<u64>) -> [u64; 2]
     ensures result_value { epoch_from (word result 0) (word result 1) ≡ epoch }
     ensures result_value_2 { option_encodes (word result 0) (word result 1) ≡ true }
 {
     match epoch {
-        Epoch::None => [0, 0],
-        Epoch::Some(n) => [1, n],
+        None => [0, 0],
+        Some(n) => [1, n],
     }
 }
 
@@ -318,11 +317,11 @@ pub fn words_of_parameters(parameters: SchedulingParameters) -> ParameterWords
     ]
 }
 
-pub fn words_of_deadline(deadline: Deadline) -> DeadlineWords
+pub fn words_of_deadline(deadline: Option<u64>) -> DeadlineWords
     ensures { deadline_of result ≡ deadline }
 {
     match deadline {
-        Deadline::None => [0, 0],
-        Deadline::Some(n) => [1, n],
+        None => [0, 0],
+        Some(n) => [1, n],
     }
 }

@@ -6,8 +6,6 @@ pub mod Queue
 pub mod Plan
 -- The judgement by the tags of a row.
 pub mod RowJudgement
--- What the answers stand for.
-pub mod Answers
 -- A call in two halves is the call, and laws by which the functions meet the definitions.
 pub mod PlanLaws
 -- A small table and lists of calls on it.

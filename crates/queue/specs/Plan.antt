@@ -1,12 +1,11 @@
 -- A call in two halves: what it is to do, found without the queue's lists, and the doing. The definitions in Queue say
 -- the same (PlanLaws).
-use Rattle.std.specs.Prelude.{ℕ, Bool, true, false, List, length}
+use Rattle.std.specs.Prelude.{ℕ, Bool, true, false, List, length, Option}
 use Rattle.refusal.specs.Answer.{Answer, value, refused, damaged, bad_state, already, no_thread, queue_halted}
 use Rattle.refusal.specs.Answer.{bad_table}
 use Rattle.refusal.specs.Answer.{bad_record}
 use Rattle.refusal.specs.Cases.{choose, given, if_less, if_equal, and_then}
 use Rattle.thread.specs.declared.CpuIndex.{CpuIndex}
-use Rattle.thread.specs.declared.Link.{Link}
 use Rattle.thread.specs.declared.QueueMembership.{QueueMembership}
 use Rattle.thread.specs.declared.QueueMembership.TheVariants as membership
 use Rattle.thread.specs.declared.ThreadRecord.{ThreadRecord}
@@ -56,7 +55,7 @@ unfoldable pub insertion_plan : List ThreadRecord → Bool → ℕ → CpuIndex 
 insertion_plan t halted id c = and_then (judgement t halted id) (λ f. plan_insertion f c)
 
 -- The tree that holds the thread, by the roots of its filing's tree and of the partner.
-unfoldable pub tree_found : List ThreadRecord → Link → Link → ℕ → Bool → ℕ → Answer ℕ
+unfoldable pub tree_found : List ThreadRecord → Option ℕ → Option ℕ → ℕ → Bool → ℕ → Answer ℕ
 tree_found t root other id budgeted k =
     on_contained (index.contains t root id)
     (value k)
@@ -82,7 +81,7 @@ plan_removal f k c =
     (λ w. refused damaged)
     (refused damaged))
 
-unfoldable pub removal_plan : List ThreadRecord → Filed → Link → Link → ℕ → CpuIndex → Answer Plan
+unfoldable pub removal_plan : List ThreadRecord → Filed → Option ℕ → Option ℕ → ℕ → CpuIndex → Answer Plan
 removal_plan t f root other id c =
     given (is_budget f.policy)
     (λ budgeted. and_then (tree_found t root other id budgeted f.index) (λ k. plan_removal f k c))

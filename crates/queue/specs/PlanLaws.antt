@@ -1,10 +1,12 @@
 -- A call in two halves is the call; and laws by which the functions meet the definitions: r is what the call gave, x
 -- what its contract says of it.
-use Rattle.std.specs.Prelude.{ℕ, ◌+◌, ◌-◌, ◌<◌, ◌≤◌, ◌≡◌, Bool, List, ltb, eqb, length}
+use Rattle.std.specs.Prelude.{ℕ, ◌+◌, ◌-◌, ◌<◌, ◌≤◌, ◌≡◌, Bool, List, ltb, eqb, length, Option, Some, None, Result, Ok}
+use Rattle.std.specs.Prelude.{Err}
 use Rattle.std.proofs.Common.{arith, ap, ◌∙◌, ltb-true}
 use Rattle.std.proofs.Math.Path.{refl, sym}
 use Rattle.std.proofs.Math.Bool.{true, false}
-use Rattle.refusal.specs.Answer.{Answer, value, refused, number_of, damaged, bad_state, already, no_thread}
+use Rattle.refusal.specs.Answer.{Answer, value, refused, number_of, damaged, bad_state, already, no_thread, by_number}
+use Rattle.refusal.specs.Answer.{or_damaged, damage}
 use Rattle.refusal.specs.Answer.{queue_halted}
 use Rattle.refusal.specs.Answer.{bad_table, bad_record}
 use Rattle.refusal.specs.declared.Refusal.{Refusal}
@@ -15,37 +17,23 @@ use Rattle.policy.specs.declared.SchedulingPolicy.TheVariants as policy
 use Rattle.policy.specs.PolicyCases.{on_policy}
 use Rattle.algorithms.specs.declared.PolicyRuntime.{PolicyRuntime}
 use Rattle.thread.specs.declared.CpuIndex.{CpuIndex}
-use Rattle.thread.specs.declared.Link.{Link}
 use Rattle.thread.specs.declared.QueueMembership.{QueueMembership}
 use Rattle.thread.specs.declared.QueueMembership.TheVariants as membership
 use Rattle.thread.specs.declared.ThreadRecord.{ThreadRecord}
-use Rattle.thread.specs.declared.IndexFor.{IndexFor}
-use Rattle.thread.specs.declared.IndexFor.TheVariants as indexed
 use Rattle.thread.specs.Membership.{on_membership, is_unqueued}
 use Rattle.thread.specs.Judgement.{is_bad_record}
 use Rattle.thread.specs.Filing.{budget_available_of, role_index, index_for, on_index, budget_exhausted, budget_ready}
 use Rattle.thread.specs.Filing.{fair_index}
 use Rattle.thread.specs.FilingLaws.{role_index_le}
-use Rattle.rows.specs.declared.RecordRead.{RecordRead}
-use Rattle.rows.specs.declared.RecordRead.TheVariants as read
 use Rattle.rows.specs.Table.{Out, out, table, record_at}
 use Rattle.rows.specs.TableCases.{on_record}
 use Rattle.rows.specs.AskedLaws.{below_count, not_below_count}
 use Rattle.lists.specs.Lists.{on_answer}
-use Rattle.ready_index.specs.declared.Contained.{Contained}
-use Rattle.ready_index.specs.declared.Contained.TheVariants as contained
-use Rattle.ready_index.specs.Answers.{contained_answer}
 use Rattle.ready_index.specs.AnswersLaws.{same_contained}
 use Rattle.ready_index.specs.Index as index
 use Rattle.queue.specs.RunQueue.{CpuRunQueue, tree_count}
 use Rattle.queue.specs.declared.Filed.{Filed}
-use Rattle.queue.specs.declared.Judgement.{Judgement}
-use Rattle.queue.specs.declared.Judgement.TheVariants as judged
 use Rattle.queue.specs.declared.Plan.{Plan}
-use Rattle.queue.specs.declared.Planned.{Planned}
-use Rattle.queue.specs.declared.Planned.TheVariants as planned
-use Rattle.queue.specs.declared.TreeFound.{TreeFound}
-use Rattle.queue.specs.declared.TreeFound.TheVariants as tree
 use Rattle.queue_work.specs.declared.Worked.{Worked}
 use Rattle.queue_work.specs.declared.Worked.TheVariants as work
 use Rattle.queue_work.specs.declared.Parts.{Parts}
@@ -54,9 +42,9 @@ use Rattle.queue.specs.Queue as queue
 use Rattle.queue.specs.Queue.{Step, step, max_records, parts_of, with_parts, marked, is_fifo, is_budget}
 use Rattle.queue.specs.Queue.{membership_for, partner, on_contained, enqueue_call, remove_call, remove_ready}
 use Rattle.queue.specs.Queue.{remove_from, tree_with}
-use Rattle.queue.specs.Answers.{judgement_answer, tree_answer, planned_answer}
 use Rattle.queue.specs.Plan.{filed_of, judgement, plan_insertion, insertion_plan, tree_found, plan_ready, plan_removal}
 use Rattle.queue.specs.Plan.{removal_plan, settled, insert_by, remove_by, remove_filed}
+use Rattle.refusal.specs.declared.Damaged.{Damaged}
 
 -- A refusal leaves table and queue as they were.
 abbrev pub kept : List ThreadRecord → CpuRunQueue → ℕ → Out (Step (Unit {0}))
@@ -69,15 +57,15 @@ module _ (t : List ThreadRecord) (q : CpuRunQueue) (id : ℕ) where
   unfolding queue.judged judgement if_less choose on_record on_index on_answer given
   judged_apart f g same = go (ltb max_records (length t)) q.halted (record_at t id)
     where
-      filed : (r : ThreadRecord) (bad : Bool) (i : IndexFor)
+      filed : (r : ThreadRecord) (bad : Bool) (i : Option ℕ)
           → choose bad (kept t q bad_record) (on_index i (kept t q bad_state) (λ k. f r k))
           ≡ on_answer {A = Filed} (choose bad (refused bad_record)
           (on_index i (refused bad_state) (λ k. value (filed_of r k)))) (kept t q) g
       filed r true i = refl
-      filed r false indexed.None = refl
-      filed r false (indexed.Index k) = same r k
+      filed r false None = refl
+      filed r false (Some k) = same r k
 
-      go : (large halted : Bool) (x : RecordRead)
+      go : (large halted : Bool) (x : Result ThreadRecord Damaged)
           → choose large (kept t q bad_table)
           (choose halted (kept t q queue_halted)
           (on_record x (kept t q no_thread)
@@ -91,8 +79,8 @@ module _ (t : List ThreadRecord) (q : CpuRunQueue) (id : ℕ) where
           (kept t q) g
       go true halted x = refl
       go false true x = refl
-      go false false read.Damaged = refl
-      go false false (read.Got r) = filed r (is_bad_record r) (index_for r.parameters r.runtime)
+      go false false (Err _) = refl
+      go false false (Ok r) = filed r (is_bad_record r) (index_for r.parameters r.runtime)
 
   enqueue_filed : (front : Bool) (c : CpuIndex) (f : Filed) (unqueued here : Bool)
       → choose unqueued
@@ -202,69 +190,72 @@ module _ (t : List ThreadRecord) (q : CpuRunQueue) (id : ℕ) where
 
 -- Going by a plan, or a judgement, of a call.
 module _ {y : Out (Step (Unit {0}))} (t : List ThreadRecord) (q : CpuRunQueue) (id : ℕ) (c : CpuIndex) where
-  pub enqueue_planned : (front : Bool) {r : Planned} {p : Plan} → planned_answer r ≡ insertion_plan t q.halted id c
-      → r ≡ planned.Plan p → y ≡ insert_by front t q id p → y ≡ enqueue_call front t q id c
+  pub enqueue_planned : (front : Bool) {r : Result Plan Refusal} {p : Plan}
+      → by_number r ≡ insertion_plan t q.halted id c
+      → r ≡ Ok p → y ≡ insert_by front t q id p → y ≡ enqueue_call front t q id c
   unfolding on_answer
   enqueue_planned front e m h = rw (enqueue_apart t q id front c, sym e, m) h
 
-  pub enqueue_refused : (front : Bool) {r : Planned} {n : Refusal} → planned_answer r ≡ insertion_plan t q.halted id c
-      → r ≡ planned.Refused n → y ≡ kept t q (number_of n) → y ≡ enqueue_call front t q id c
+  pub enqueue_refused : (front : Bool) {r : Result Plan Refusal} {n : Refusal}
+      → by_number r ≡ insertion_plan t q.halted id c
+      → r ≡ Err n → y ≡ kept t q (number_of n) → y ≡ enqueue_call front t q id c
   unfolding on_answer
   enqueue_refused front e m h = rw (enqueue_apart t q id front c, sym e, m) h
 
-  pub remove_judged : {r : Judgement} {f : Filed} → judgement_answer r ≡ judgement t q.halted id → r ≡ judged.Filed f
+  pub remove_judged : {r : Result Filed Refusal} {f : Filed} → by_number r ≡ judgement t q.halted id → r ≡ Ok f
       → y ≡ remove_filed t q id c f → y ≡ remove_call t q id c
   unfolding on_answer
   remove_judged e m h = rw (remove_apart t q id c, sym e, m) h
 
-  pub remove_refused : {r : Judgement} {n : Refusal} → judgement_answer r ≡ judgement t q.halted id
-      → r ≡ judged.Refused n → y ≡ kept t q (number_of n) → y ≡ remove_call t q id c
+  pub remove_refused : {r : Result Filed Refusal} {n : Refusal} → by_number r ≡ judgement t q.halted id
+      → r ≡ Err n → y ≡ kept t q (number_of n) → y ≡ remove_call t q id c
   unfolding on_answer
   remove_refused e m h = rw (remove_apart t q id c, sym e, m) h
 
 -- Going on with an answer, or stopping with its refusal.
 module _ {B : Type 0} {y : Answer B} where
-  pub judgement_on : {r : Judgement} {x : Answer Filed} {a : Filed} (f : Filed → Answer B) → judgement_answer r ≡ x
-      → r ≡ judged.Filed a → y ≡ f a → y ≡ and_then x f
+  pub judgement_on : {r : Result Filed Refusal} {x : Answer Filed} {a : Filed} (f : Filed → Answer B) → by_number r ≡ x
+      → r ≡ Ok a → y ≡ f a → y ≡ and_then x f
   unfolding and_then
   judgement_on f e m h = rw (sym e, m) h
 
-  pub judgement_off : {r : Judgement} {x : Answer Filed} {n : Refusal} (f : Filed → Answer B) → judgement_answer r ≡ x
-      → r ≡ judged.Refused n → y ≡ refused (number_of n) → y ≡ and_then x f
+  pub judgement_off : {r : Result Filed Refusal} {x : Answer Filed} {n : Refusal} (f : Filed → Answer B)
+      → by_number r ≡ x
+      → r ≡ Err n → y ≡ refused (number_of n) → y ≡ and_then x f
   unfolding and_then
   judgement_off f e m h = rw (sym e, m) h
 
-  pub tree_on : {r : TreeFound} {x : Answer ℕ} {k : ℕ} (f : ℕ → Answer B) → tree_answer r ≡ x → r ≡ tree.Index k
+  pub tree_on : {r : Result ℕ Refusal} {x : Answer ℕ} {k : ℕ} (f : ℕ → Answer B) → by_number r ≡ x → r ≡ Ok k
       → y ≡ f k → y ≡ and_then x f
   unfolding and_then
   tree_on f e m h = rw (sym e, m) h
 
-  pub tree_off : {r : TreeFound} {x : Answer ℕ} {n : Refusal} (f : ℕ → Answer B) → tree_answer r ≡ x
-      → r ≡ tree.Refused n
+  pub tree_off : {r : Result ℕ Refusal} {x : Answer ℕ} {n : Refusal} (f : ℕ → Answer B) → by_number r ≡ x
+      → r ≡ Err n
       → y ≡ refused (number_of n) → y ≡ and_then x f
   unfolding and_then
   tree_off f e m h = rw (sym e, m) h
 
-module _ {B : Type 0} {y : B} {r : Planned} {x : Answer Plan} (g : ℕ → B) (f : Plan → B) where
-  pub planned_on : {p : Plan} → planned_answer r ≡ x → r ≡ planned.Plan p → y ≡ f p → y ≡ on_answer x g f
+module _ {B : Type 0} {y : B} {r : Result Plan Refusal} {x : Answer Plan} (g : ℕ → B) (f : Plan → B) where
+  pub planned_on : {p : Plan} → by_number r ≡ x → r ≡ Ok p → y ≡ f p → y ≡ on_answer x g f
   unfolding on_answer
   planned_on e m h = rw (sym e, m) h
 
-  pub planned_off : {n : Refusal} → planned_answer r ≡ x → r ≡ planned.Refused n → y ≡ g (number_of n)
+  pub planned_off : {n : Refusal} → by_number r ≡ x → r ≡ Err n → y ≡ g (number_of n)
       → y ≡ on_answer x g f
   unfolding on_answer
   planned_off e m h = rw (sym e, m) h
 
-module _ {A : Type 0} {y : A} {r : Contained} (x : Contained) (a b d : A) where
-  pub held : contained_answer r ≡ contained_answer x → r ≡ contained.Yes → y ≡ a → y ≡ on_contained x a b d
+module _ {A : Type 0} {y : A} {r : Result Bool Damaged} (x : Result Bool Damaged) (a b d : A) where
+  pub held : or_damaged r ≡ or_damaged x → r ≡ (Ok true) → y ≡ a → y ≡ on_contained x a b d
   unfolding on_contained
   held e m h = rw (sym (same_contained r x e) ∙ m) h
 
-  pub not_held : contained_answer r ≡ contained_answer x → r ≡ contained.No → y ≡ b → y ≡ on_contained x a b d
+  pub not_held : or_damaged r ≡ or_damaged x → r ≡ (Ok false) → y ≡ b → y ≡ on_contained x a b d
   unfolding on_contained
   not_held e m h = rw (sym (same_contained r x e) ∙ m) h
 
-  pub held_damaged : contained_answer r ≡ contained_answer x → r ≡ contained.Damaged → y ≡ d → y ≡ on_contained x a b d
+  pub held_damaged : or_damaged r ≡ or_damaged x → r ≡ (Err damage) → y ≡ d → y ≡ on_contained x a b d
   unfolding on_contained
   held_damaged e m h = rw (sym (same_contained r x e) ∙ m) h
 
@@ -307,9 +298,9 @@ unfolding settled
 settled_refused q m k e = rw e
 
 -- The tree of a judged thread is one of the twelve, and so is that of a plan. In place of a refusal stands 0.
-abbrev index_number : IndexFor → ℕ
-index_number indexed.None = 0
-index_number (indexed.Index k) = k
+abbrev index_number : Option ℕ → ℕ
+index_number None = 0
+index_number (Some k) = k
 
 abbrev filed_number : Answer Filed → ℕ
 filed_number (value f) = f.index
@@ -328,9 +319,9 @@ unfolding index_for given on_policy choose
 index_number_lem p r = go p.policy (budget_available_of r) (role_index p.role) (role_index_le p.role)
   where
     go : (x : SchedulingPolicy) (available : Bool) (n : ℕ) → n ≤ 2
-        → index_number (on_policy x (λ priority. indexed.Index n) (indexed.Index (fair_index + n))
-        (choose available (indexed.Index (budget_ready + n))
-        (indexed.Index (budget_exhausted + n))) indexed.None) < tree_count
+        → index_number (on_policy x (λ priority. Some n) (Some (fair_index + n))
+        (choose available (Some (budget_ready + n))
+        (Some (budget_exhausted + n))) None) < tree_count
     go (policy.Fifo priority) available n h = omega arith
     go policy.Fair available n h = omega arith
     go policy.Budget true n h = omega arith
@@ -341,14 +332,14 @@ filed_number_lem : (t : List ThreadRecord) (halted : Bool) (id : ℕ) → filed_
 unfolding judgement if_less choose on_record on_index given
 filed_number_lem t halted id = go (ltb max_records (length t)) halted (record_at t id)
   where
-    filed : (r : ThreadRecord) (bad : Bool) (i : IndexFor) → index_number i < tree_count
+    filed : (r : ThreadRecord) (bad : Bool) (i : Option ℕ) → index_number i < tree_count
         → filed_number (choose bad (refused bad_record) (on_index i (refused bad_state) (λ k. value (filed_of r k))))
         < tree_count
     filed r true i h = omega arith
-    filed r false indexed.None h = omega arith
-    filed r false (indexed.Index k) h = h
+    filed r false None h = omega arith
+    filed r false (Some k) h = h
 
-    go : (large marked : Bool) (x : RecordRead)
+    go : (large marked : Bool) (x : Result ThreadRecord Damaged)
         → filed_number (choose large (refused bad_table)
         (choose marked (refused queue_halted)
         (on_record x (refused no_thread)
@@ -356,15 +347,15 @@ filed_number_lem t halted id = go (ltb max_records (length t)) halted (record_at
         (on_index (index_for r.parameters r.runtime) (refused bad_state) (λ k. value (filed_of r k))))))) < tree_count
     go true marked x = omega arith
     go false true x = omega arith
-    go false false read.Damaged = omega arith
-    go false false (read.Got r) =
+    go false false (Err _) = omega arith
+    go false false (Ok r) =
         filed r (is_bad_record r) (index_for r.parameters r.runtime) (index_number_lem r.parameters r.runtime)
 
-pub judged_below : (t : List ThreadRecord) (halted : Bool) (id : ℕ) {r : Judgement} {f : Filed}
-    → judgement_answer r ≡ judgement t halted id → r ≡ judged.Filed f → f.index < tree_count
+pub judged_below : (t : List ThreadRecord) (halted : Bool) (id : ℕ) {r : Result Filed Refusal} {f : Filed}
+    → by_number r ≡ judgement t halted id → r ≡ Ok f → f.index < tree_count
 judged_below t halted id {r} {f} e m =
     let path : filed_number (judgement t halted id) ≡ f.index = sym (ap filed_number e)
-    ∙ ap (λ r. filed_number (judgement_answer r)) m in
+    ∙ ap (λ r. filed_number (by_number r)) m in
     let bound : filed_number (judgement t halted id) < tree_count = filed_number_lem t halted id in
     omega arith
 
@@ -386,12 +377,13 @@ insertion_number c (value f) h = go (is_unqueued f.membership) (eqb f.cpu.0 c.0)
     go true false = omega arith
     go false here = omega arith
 
-pub insertion_below : (t : List ThreadRecord) (halted : Bool) (id : ℕ) (c : CpuIndex) {r : Planned} {p : Plan}
-    → planned_answer r ≡ insertion_plan t halted id c → r ≡ planned.Plan p → p.index < tree_count
+pub insertion_below : (t : List ThreadRecord) (halted : Bool) (id : ℕ) (c : CpuIndex) {r : Result Plan Refusal} {p :
+    Plan}
+    → by_number r ≡ insertion_plan t halted id c → r ≡ Ok p → p.index < tree_count
 unfolding insertion_plan
 insertion_below t halted id c {r} {p} e m =
     let path : plan_number (insertion_plan t halted id c) ≡ p.index = sym (ap plan_number e)
-    ∙ ap (λ r. plan_number (planned_answer r)) m in
+    ∙ ap (λ r. plan_number (by_number r)) m in
     let bound : plan_number (insertion_plan t halted id c) < tree_count = insertion_number c (judgement t halted id)
     (filed_number_lem t halted id) in
     omega arith
@@ -404,21 +396,21 @@ partner_below k h = go (ltb k budget_exhausted) refl
     go true e = let less : k < budget_exhausted = ltb-true k budget_exhausted e in omega arith
     go false e = omega arith
 
-found_number_lem : (t : List ThreadRecord) (root other : Link) (id : ℕ) (budgeted : Bool) (k : ℕ) → k < tree_count
+found_number_lem : (t : List ThreadRecord) (root other : Option ℕ) (id : ℕ) (budgeted : Bool) (k : ℕ) → k < tree_count
     → found_number (tree_found t root other id budgeted k) < tree_count
 unfolding tree_found on_contained choose given
 found_number_lem t root other id budgeted k h = go (index.contains t root id) budgeted (index.contains t other id)
   where
-    go : (x : Contained) (b : Bool) (y : Contained)
+    go : (x : Result Bool Damaged) (b : Bool) (y : Result Bool Damaged)
         → found_number (on_contained x (value k)
         (choose b (on_contained y (value (partner k)) (refused damaged) (refused damaged)) (refused damaged))
         (refused damaged)) < tree_count
-    go contained.Yes b y = h
-    go contained.No true contained.Yes = partner_below k h
-    go contained.No true contained.No = omega arith
-    go contained.No true contained.Damaged = omega arith
-    go contained.No false y = omega arith
-    go contained.Damaged b y = omega arith
+    go (Ok true) b y = h
+    go (Ok false) true (Ok true) = partner_below k h
+    go (Ok false) true (Ok false) = omega arith
+    go (Ok false) true (Err _) = omega arith
+    go (Ok false) false y = omega arith
+    go (Err _) b y = omega arith
 
 removal_number : (f : Filed) (c : CpuIndex) (x : Answer ℕ) → found_number x < tree_count
     → plan_number (and_then x (λ k. plan_removal f k c)) < tree_count
@@ -444,13 +436,14 @@ removal_number f c (value k) h = go f.membership
     go (membership.Waiting w) = omega arith
     go membership.Terminated = omega arith
 
-pub removal_below : (t : List ThreadRecord) (f : Filed) (root other : Link) (id : ℕ) (c : CpuIndex) {r : Planned}
-    {p : Plan} → f.index < tree_count → planned_answer r ≡ removal_plan t f root other id c → r ≡ planned.Plan p
+pub removal_below : (t : List ThreadRecord) (f : Filed) (root other : Option ℕ) (id : ℕ) (c : CpuIndex) {r : Result
+    Plan Refusal}
+    {p : Plan} → f.index < tree_count → by_number r ≡ removal_plan t f root other id c → r ≡ Ok p
     → p.index < tree_count
 unfolding removal_plan given
 removal_below t f root other id c {r} {p} h e m =
     let path : plan_number (removal_plan t f root other id c) ≡ p.index = sym (ap plan_number e)
-    ∙ ap (λ r. plan_number (planned_answer r)) m in
+    ∙ ap (λ r. plan_number (by_number r)) m in
     let bound : plan_number (removal_plan t f root other id c)
     < tree_count =
     removal_number f c (tree_found t root other id (is_budget f.policy) f.index)

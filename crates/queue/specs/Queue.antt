@@ -1,16 +1,14 @@
 -- The queue's calls: enqueue at either end and remove, with document 01's refusals in its order, and what each leaves
 -- behind.
-use Rattle.std.specs.Prelude.{ℕ, ◌+◌, ◌-◌, Bool, true, false, List, length, get_or, set, replicate}
+use Rattle.std.specs.Prelude.{ℕ, ◌+◌, ◌-◌, Bool, true, false, List, length, get_or, set, replicate, Option, None}
+use Rattle.std.specs.Prelude.{Result, Ok, Err}
 use Rattle.refusal.specs.Answer.{Answer, value, refused, damaged, bad_state, already, no_thread, queue_halted}
 use Rattle.refusal.specs.Answer.{bad_table}
 use Rattle.refusal.specs.Answer.{bad_record}
 use Rattle.refusal.specs.Cases.{choose, given, if_less, if_equal}
-use Rattle.time.specs.declared.Epoch.TheVariants as epoch
 use Rattle.policy.specs.declared.SchedulingPolicy.{SchedulingPolicy}
 use Rattle.policy.specs.PolicyCases.{on_policy}
 use Rattle.thread.specs.declared.CpuIndex.{CpuIndex}
-use Rattle.thread.specs.declared.Link.{Link}
-use Rattle.thread.specs.declared.Link.TheVariants as link
 use Rattle.thread.specs.declared.QueueMembership.{QueueMembership}
 use Rattle.thread.specs.declared.QueueMembership.TheVariants as membership
 use Rattle.thread.specs.declared.ThreadQueue.{ThreadQueue}
@@ -23,15 +21,14 @@ use Rattle.rows.specs.Table.{Out, out, record_at}
 use Rattle.rows.specs.TableCases.{on_record}
 use Rattle.lists.specs.Lists.{on_answer}
 use Rattle.ready_index.specs.Index as index
-use Rattle.ready_index.specs.declared.Contained.{Contained}
-use Rattle.ready_index.specs.declared.Contained.TheVariants as contained
 use Rattle.queue.specs.declared.Root.{Root}
 use Rattle.queue.specs.RunQueue.{tree_count, priorities, CpuRunQueue}
 use Rattle.queue_work.specs.declared.Parts.{Parts}
 use Rattle.queue_work.specs.Work.{Work, done, turned_down, halts, insert_work, remove_work}
+use Rattle.refusal.specs.declared.Damaged.{Damaged}
 
 abbrev pub empty_root : Root
-empty_root = record { root = link.None }
+empty_root = record { root = None }
 
 -- A new queue: 256 empty lists, an empty fair list, twelve empty trees, no epoch, not halted (SPECIFICATION 8.1).
 abbrev pub new_queue : CpuRunQueue
@@ -41,7 +38,7 @@ new_queue =
       realtime_len = 0;
       fair = empty_queue;
       indices = replicate tree_count empty_root;
-      budget_epoch = epoch.None;
+      budget_epoch = None;
       budget_threads = 0;
       halted = false;
     }
@@ -50,7 +47,7 @@ new_queue =
 unfoldable pub list_of : CpuRunQueue → QueueMembership → ThreadQueue
 list_of q m = on_membership m q.fair (λ c p. get_or q.realtime p empty_queue) (λ c. q.fair) (λ w. q.fair) q.fair
 
-abbrev pub root_of : CpuRunQueue → ℕ → Link
+abbrev pub root_of : CpuRunQueue → ℕ → Option ℕ
 root_of q k = (get_or q.indices k empty_root).root
 
 unfoldable pub parts_of : CpuRunQueue → QueueMembership → ℕ → Parts
@@ -150,10 +147,10 @@ unfoldable pub partner : ℕ → ℕ
 partner k = if_less k budget_exhausted (k + 3) (k - 3)
 
 -- Yes, no, damaged.
-unfoldable pub on_contained : {A : Type 0} → Contained → A → A → A → A
-on_contained contained.Yes there absent damaged = there
-on_contained contained.No there absent damaged = absent
-on_contained contained.Damaged there absent damaged = damaged
+unfoldable pub on_contained : {A : Type 0} → Result Bool Damaged → A → A → A → A
+on_contained (Ok true) there absent broken = there
+on_contained (Ok false) there absent broken = absent
+on_contained (Err _) there absent broken = broken
 
 -- The tree that holds the thread: that of its filing, or of a budget the partner; else Damaged.
 unfoldable pub tree_with : List ThreadRecord → CpuRunQueue → ℕ → Bool → ℕ → Answer ℕ

@@ -1,10 +1,9 @@
 -- The judgement of a record by the tags of its row, and that it is the judgement of the record.
-use Rattle.std.specs.Prelude.{ℕ, ◌+◌, ◌<◌, ◌≤◌, ◌%◌, ◌≡◌, Bool, List, eqb}
+use Rattle.std.specs.Prelude.{ℕ, ◌+◌, ◌<◌, ◌≤◌, ◌%◌, ◌≡◌, Bool, List, eqb, Option, Some, None}
 use Rattle.std.proofs.Common.{arith, sym, ◌∙◌, eq-eqb, ne_eqb, eqb-true}
 use Rattle.std.proofs.Math.Path.{refl}
 use Rattle.std.proofs.Math.Bool.{true, false}
 use Rattle.refusal.specs.Cases.{choose, given, if_equal}
-use Rattle.policy.specs.declared.BudgetOption.TheVariants as budget
 use Rattle.policy.specs.declared.BudgetParameters.{BudgetParameters}
 use Rattle.policy.specs.declared.SchedulingParameters.{SchedulingParameters}
 use Rattle.policy.specs.declared.SchedulingPolicy.{SchedulingPolicy}
@@ -16,8 +15,6 @@ use Rattle.budget.specs.declared.BudgetRuntime.{BudgetRuntime}
 use Rattle.algorithms.specs.declared.FairRuntime.{FairRuntime}
 use Rattle.algorithms.specs.declared.PolicyRuntime.TheVariants as runtime
 use Rattle.algorithms.specs.Runtime.{runtime_kind, policy_kind, same_kind, on_runtime}
-use Rattle.thread.specs.declared.IndexFor.{IndexFor}
-use Rattle.thread.specs.declared.IndexFor.TheVariants as index
 use Rattle.thread.specs.declared.QueueMembership.{QueueMembership}
 use Rattle.thread.specs.Judgement.{has_budget, is_bad_budget, is_bad_record}
 use Rattle.thread.specs.Filing.{budget_available_of, role_index, index_for, budget_exhausted, budget_ready, fair_index}
@@ -66,16 +63,16 @@ time_left w = given (kind_from (word w runtime_tag))
     (λ r. if_equal r 2 (if_equal (word w runtime_third) 0 false true) false)
 
 -- `index_for` by the tags.
-unfoldable pub index_row : List ℕ → IndexFor
+unfoldable pub index_row : List ℕ → Option ℕ
 index_row w =
     given (role_number (word w role_tag))
     (λ role. given (kind_from (word w policy_tag))
-    (λ p. if_equal p 0 (index.Index role)
-    (if_equal p 1 (index.Index (fair_index + role))
+    (λ p. if_equal p 0 (Some role)
+    (if_equal p 1 (Some (fair_index + role))
     (if_equal p 2
-    (choose (budget_available_of (decoded w).runtime) (index.Index (budget_ready + role))
-    (index.Index (budget_exhausted + role)))
-    index.None))))
+    (choose (budget_available_of (decoded w).runtime) (Some (budget_ready + role))
+    (Some (budget_exhausted + role)))
+    None))))
 
 policy_kind_lem : (tag priority : ℕ) → policy_kind (policy_from tag priority) ≡ kind_from tag
 unfolding policy_from kind_from if_equal choose
@@ -138,8 +135,8 @@ module _ (tag ns period burst : ℕ) where
   unfolding has_budget on_budget budget_from if_equal choose
   budget_there = go (eqb tag 0)
     where
-      go : (a : Bool) → on_budget (choose a budget.None
-          (budget.Some (record { budget_ns = ns; period_ns = period; burst_ns = burst }))) false (λ q. true)
+      go : (a : Bool) → on_budget (choose a None
+          (Some (record { budget_ns = ns; period_ns = period; burst_ns = burst }))) false (λ q. true)
           ≡ choose a false true
       go true = refl
       go false = refl
@@ -151,8 +148,8 @@ module _ (tag ns period burst : ℕ) where
   budget_bad = go (eqb tag 0)
     where
       go : (a : Bool)
-          → on_budget (choose a budget.None
-          (budget.Some (record { budget_ns = ns; period_ns = period; burst_ns = burst }))) true
+          → on_budget (choose a None
+          (Some (record { budget_ns = ns; period_ns = period; burst_ns = burst }))) true
           (λ q. choose (sound_budget q) false true)
           ≡ choose a true (choose (sound_budget (record { budget_ns = ns; period_ns = period; burst_ns = burst }))
           false true)
@@ -168,7 +165,7 @@ by_kind policy.Fair same here bad = refl
 by_kind policy.Budget same here bad = refl
 by_kind policy.Idle same here bad = refl
 
-index_by_kind : (p : SchedulingPolicy) (a b c d : IndexFor)
+index_by_kind : (p : SchedulingPolicy) (a b c d : Option ℕ)
     → on_policy p (λ priority. a) b c d
     ≡ choose (eqb (policy_kind p) 0) a (choose (eqb (policy_kind p) 1) b (choose (eqb (policy_kind p) 2) c d))
 unfolding on_policy choose
@@ -206,11 +203,11 @@ module _ (w : List ℕ) where
   unfolding index_for decoded parameters_of index_row given if_equal
   index_row_lem =
       index_by_kind (policy_from (word w policy_tag) (word w fifo_priority))
-      (index.Index (role_index (role_from (word w role_tag))))
-      (index.Index (fair_index + role_index (role_from (word w role_tag))))
+      (Some (role_index (role_from (word w role_tag))))
+      (Some (fair_index + role_index (role_from (word w role_tag))))
       (choose (budget_available_of (runtime_of w))
-      (index.Index (budget_ready + role_index (role_from (word w role_tag))))
-      (index.Index (budget_exhausted + role_index (role_from (word w role_tag))))) index.None
+      (Some (budget_ready + role_index (role_from (word w role_tag))))
+      (Some (budget_exhausted + role_index (role_from (word w role_tag))))) None
       ∙ rw (policy_kind_lem (word w policy_tag) (word w fifo_priority), role_number_lem (word w role_tag))
 
   pub judged_by_tags : {r : Bool} → r ≡ bad_row w → r ≡ is_bad_record (decoded w)
@@ -219,7 +216,7 @@ module _ (w : List ℕ) where
   pub available_by_tags : {r : Bool} → r ≡ time_left w → r ≡ budget_available_of (decoded w).runtime
   available_by_tags e = e ∙ sym time_left_lem
 
-  pub filed_by_tags : {r : IndexFor} → r ≡ index_row w → r ≡ index_for (decoded w).parameters (decoded w).runtime
+  pub filed_by_tags : {r : Option ℕ} → r ≡ index_row w → r ≡ index_for (decoded w).parameters (decoded w).runtime
   filed_by_tags e = e ∙ sym index_row_lem
 
   pub filed_read : (k : ℕ) {p : SchedulingParameters} {m : QueueMembership} {n : ℕ}
@@ -246,11 +243,11 @@ module _ (w : List ℕ) where
   unfolding decoded runtime_of runtime_from if_equal choose given
   budget_runs m = rw m
 
-  pub without_budget : word w budget_tag ≡ 0 → (decoded w).parameters.budget ≡ budget.None
+  pub without_budget : word w budget_tag ≡ 0 → (decoded w).parameters.budget ≡ None
   unfolding decoded parameters_of budget_from if_equal choose
   without_budget n = rw (eq-eqb (word w budget_tag) 0 n)
 
-  pub with_budget : (word w budget_tag ≡ 0 → ⊥) → (decoded w).parameters.budget ≡ budget.Some (budget_parameters w)
+  pub with_budget : (word w budget_tag ≡ 0 → ⊥) → (decoded w).parameters.budget ≡ Some (budget_parameters w)
   unfolding decoded parameters_of budget_from if_equal choose
   with_budget n = rw (ne_eqb (word w budget_tag) 0 n)
 

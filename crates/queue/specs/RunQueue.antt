@@ -1,7 +1,6 @@
 -- The queue that the definitions speak of, whether it lies in lent words (crate lent_queue) or is held by value (crate
 -- run_queue).
-use Rattle.std.specs.Prelude.{ℕ, Bool, List}
-use Rattle.time.specs.declared.Epoch.{Epoch}
+use Rattle.std.specs.Prelude.{ℕ, Bool, List, Option}
 use Rattle.thread.specs.declared.ThreadQueue.{ThreadQueue}
 use Rattle.queue.specs.declared.Root.{Root}
 
@@ -22,6 +21,6 @@ pub record CpuRunQueue : Type 0 where
   pub realtime_len : ℕ
   pub fair : ThreadQueue
   pub indices : List Root
-  pub budget_epoch : Epoch
+  pub budget_epoch : Option ℕ
   pub budget_threads : ℕ
   pub halted : Bool

@@ -1,17 +1,14 @@
 -- A small table and lists of calls on it, on which the definitions are judged.
-use Rattle.std.specs.Prelude.{ℕ, Bool, List, [], ◌∷◌}
+use Rattle.std.specs.Prelude.{ℕ, Bool, List, [], ◌∷◌, Some, None}
 use Rattle.refusal.specs.Answer.{Answer, value, refused}
-use Rattle.time.specs.declared.Epoch.TheVariants as epoch
 use Rattle.policy.specs.declared.SchedulingParameters.{SchedulingParameters}
 use Rattle.policy.specs.declared.SchedulingPolicy.TheVariants as policy
 use Rattle.policy.specs.declared.SchedulingRole.TheVariants as role
 use Rattle.policy.specs.declared.FairBackend.TheVariants as backend
-use Rattle.policy.specs.declared.BudgetOption.TheVariants as budget
 use Rattle.policy.specs.Parameters.{default_weight, of_budget, of_fifo, of_idle}
 use Rattle.algorithms.specs.declared.PolicyRuntime.{PolicyRuntime}
 use Rattle.algorithms.specs.declared.PolicyRuntime.TheVariants as runtime
 use Rattle.thread.specs.declared.CpuIndex.{CpuIndex}
-use Rattle.thread.specs.declared.Link.TheVariants as link
 use Rattle.thread.specs.declared.QueueMembership.TheVariants as membership
 use Rattle.thread.specs.declared.ThreadRecord.{ThreadRecord}
 use Rattle.thread.specs.Membership.{empty_links, empty_queue_links}
@@ -46,14 +43,14 @@ fair_parameters =
       weight = default_weight;
       quantum_ns = 1;
       fair_backend = backend.Stride;
-      budget = budget.None;
+      budget = None;
     }
 
 -- A budget of 2 in 10 with this much left.
 abbrev pub budget_thread : ℕ → ThreadRecord
 budget_thread left =
     thread (of_budget (record { budget_ns = 2; period_ns = 10; burst_ns = 2 }) (record { 0 = 1 }) role.Protected)
-    (runtime.Budget (record { epoch = epoch.None; remaining_ns = left; burst_remaining_ns = 2 })) 0
+    (runtime.Budget (record { epoch = None; remaining_ns = left; burst_remaining_ns = 2 })) 0
 
 abbrev pub terminated : ThreadRecord
 terminated =
@@ -62,7 +59,7 @@ terminated =
       runtime = runtime.Fifo;
       ready_turn = 7;
       ready_tree = empty_links;
-      queue_links = record { previous = link.Some 70; next = link.Some 71; membership = membership.Terminated };
+      queue_links = record { previous = Some 70; next = Some 71; membership = membership.Terminated };
       cpu = cpu 0;
     }
 

@@ -14,7 +14,7 @@ use codec::{
     membership_from, parameters_of,
 };
 use policy::BudgetParameters;
-use thread::{CpuIndex, IndexFor};
+use thread::CpuIndex;
 
 // FIFO, Fair, Budget and Idle as 0 to 3, of a policy's tag or a runtime's.
 pub fn kind_from(tag: u64) -> u64
@@ -87,24 +87,24 @@ pub fn has_time_left(w: Row) -> bool
 }
 
 // The tree that the row's record is filed in. After `index_for`.
-pub fn index_of_row(w: Row) -> IndexFor
+pub fn index_of_row(w: Row) -> Option<u64>
     ensures { result ≡ index_for (decoded w).parameters (decoded w).runtime }
 {
     let role = role_number(w[ROLE_TAG]);
     let policy = kind_from(w[POLICY_TAG]);
     if policy == 0 {
-        return IndexFor::Index(role);
+        return Some(role);
     }
     if policy == 1 {
-        return IndexFor::Index(FAIR + role);
+        return Some(FAIR + role);
     }
     if policy == 2 {
         if has_time_left(w) {
-            return IndexFor::Index(BUDGET_READY + role);
+            return Some(BUDGET_READY + role);
         }
-        return IndexFor::Index(BUDGET_EXHAUSTED + role);
+        return Some(BUDGET_EXHAUSTED + role);
     }
-    IndexFor::None
+    None
 }
 
 pub fn filed_of_row(w: Row, index: u64) -> Filed

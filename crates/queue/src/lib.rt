@@ -9,7 +9,7 @@ pub use judging::{has_time_left, is_bad_row};
 pub use planning::{insertion_plan, judge, partner, removal_plan};
 use policy::SchedulingPolicy;
 use refusal::Refusal;
-use thread::{CpuIndex, Link, QueueMembership};
+use thread::{CpuIndex, QueueMembership};
 
 pub const PRIORITIES: usize = 256;
 
@@ -25,14 +25,7 @@ pub const BUDGET_EXHAUSTED: u64 = 9;
 // The root of one tree. A queue has twelve.
 #[derive(Clone, Copy)]
 pub struct Root {
-    pub root: Link,
-}
-
-// Whether a call was made.
-#[derive(Clone, Copy)]
-pub enum Verdict {
-    Accepted,
-    Refused(Refusal),
+    pub root: Option<u64>,
 }
 
 // What the plans go by of a judged thread, and the number of the tree that it is filed in.
@@ -44,19 +37,6 @@ pub struct Filed {
     pub index: u64,
 }
 
-#[derive(Clone, Copy)]
-pub enum Judgement {
-    Filed(Filed),
-    Refused(Refusal),
-}
-
-// The number of the tree that holds a thread.
-#[derive(Clone, Copy)]
-pub enum TreeFound {
-    Index(u64),
-    Refused(Refusal),
-}
-
 // What a call is to do: the list by its membership, the tree by its number, and what the thread counts as.
 #[derive(Clone, Copy)]
 pub struct Plan {
@@ -64,10 +44,4 @@ pub struct Plan {
     pub index: u64,
     pub fifo: bool,
     pub budgeted: bool,
-}
-
-#[derive(Clone, Copy)]
-pub enum Planned {
-    Plan(Plan),
-    Refused(Refusal),
 }

@@ -1,42 +1,42 @@
 // The plan of a call: the judgement of the named record, and the list and the tree that the call touches.
 ghost use Rattle.std.specs.Prelude.{◌≡◌};
+ghost use Rattle.refusal.specs.Answer.{by_number};
 ghost use Rattle.rows.specs.Table.{table};
 ghost use Rattle.queue.specs.Queue as calls;
 ghost use Rattle.queue.specs.Plan as plans;
-ghost use Rattle.queue.specs.Answers.{judgement_answer, tree_answer, planned_answer};
 
 use crate::judging::{filed_of_row, index_of_row, is_bad_row};
-use crate::{Filed, Judgement, Plan, Planned, TreeFound};
+use crate::{Filed, Plan};
 use codec::Row;
 use policy::SchedulingPolicy;
-use ready_index::{Contained, contains_under};
+use ready_index::contains_under;
 use refusal::Refusal;
 use rows::MAX_RECORDS;
-use thread::{CpuIndex, IndexFor, Link, QueueMembership};
+use thread::{CpuIndex, QueueMembership};
 
 // The named thread is judged: table, mark, number, record and policy, in this order.
-pub fn judge(t: &[Row], halted: bool, id: u64) -> Judgement
-    ensures { judgement_answer result ≡ plans.judgement (table t.now) halted id }
+pub fn judge(t: &[Row], halted: bool, id: u64) -> Result<Filed, Refusal>
+    ensures { by_number result ≡ plans.judgement (table t.now) halted id }
 {
     if MAX_RECORDS < t.len() {
-        return Judgement::Refused(Refusal::BadTable);
+        return Err(Refusal::BadTable);
     }
     if halted {
-        return Judgement::Refused(Refusal::Halted);
+        return Err(Refusal::Halted);
     }
     let k = id as usize;
     if k < t.len() {
         let row = t[k];
         if is_bad_row(row) {
-            return Judgement::Refused(Refusal::BadRecord);
+            return Err(Refusal::BadRecord);
         }
         let filing = index_of_row(row);
         return match filing {
-            IndexFor::None => Judgement::Refused(Refusal::BadState),
-            IndexFor::Index(index) => Judgement::Filed(filed_of_row(row, index)),
+            None => Err(Refusal::BadState),
+            Some(index) => Ok(filed_of_row(row, index)),
         };
     }
-    Judgement::Refused(Refusal::NoThread)
+    Err(Refusal::NoThread)
 }
 
 pub fn is_fifo(policy: SchedulingPolicy) -> bool
@@ -77,37 +77,37 @@ pub fn membership_for(policy: SchedulingPolicy, cpu: CpuIndex) -> QueueMembershi
 }
 
 // A judged thread is in no list, and assigned to this processor.
-pub fn plan_insertion(filed: Filed, cpu: CpuIndex) -> Planned
-    ensures { planned_answer result ≡ plans.plan_insertion filed cpu }
+pub fn plan_insertion(filed: Filed, cpu: CpuIndex) -> Result<Plan, Refusal>
+    ensures { by_number result ≡ plans.plan_insertion filed cpu }
 {
     let current = filed.membership;
     let assigned = filed.cpu;
     let policy = filed.policy;
     if !current.is_unqueued() {
-        return Planned::Refused(Refusal::Already);
+        return Err(Refusal::Already);
     }
     if assigned.0 == cpu.0 {
         let membership = membership_for(policy, cpu);
         let fifo = is_fifo(policy);
         let budgeted = is_budget(policy);
-        return Planned::Plan(Plan {
+        return Ok(Plan {
             membership,
             index: filed.index,
             fifo,
             budgeted,
         });
     }
-    Planned::Refused(Refusal::BadState)
+    Err(Refusal::BadState)
 }
 
 // What an enqueue is to do.
-pub fn insertion_plan(t: &[Row], halted: bool, id: u64, cpu: CpuIndex) -> Planned
-    ensures { planned_answer result ≡ plans.insertion_plan (table t.now) halted id cpu }
+pub fn insertion_plan(t: &[Row], halted: bool, id: u64, cpu: CpuIndex) -> Result<Plan, Refusal>
+    ensures { by_number result ≡ plans.insertion_plan (table t.now) halted id cpu }
 {
     let judgement = judge(t, halted, id);
     match judgement {
-        Judgement::Refused(refusal) => Planned::Refused(refusal),
-        Judgement::Filed(filed) => plan_insertion(filed, cpu),
+        Err(refusal) => Err(refusal),
+        Ok(filed) => plan_insertion(filed, cpu),
     }
 }
 
@@ -122,32 +122,26 @@ pub fn partner(index: u64) -> u64
 }
 
 // The tree that holds the thread: that of its filing, or of a budget the partner.
+#[tactic(auto,
+// The laws, and the definitions that are opened.
+using(refusal::specs::Cases::cases, crate::specs::PlanLaws::plannings), unfolding(crate::specs::Plan::tree_found))]
 pub fn tree_found(
     t: &[Row],
-    root: Link,
-    other: Link,
+    root: Option<u64>,
+    other: Option<u64>,
     id: u64,
     budgeted: bool,
     index: u64,
-) -> TreeFound
-    ensures { tree_answer result ≡ plans.tree_found (table t.now) root other id budgeted index }
+) -> Result<u64, Refusal>
+    ensures { by_number result ≡ plans.tree_found (table t.now) root other id budgeted index }
 {
-    let held = contains_under(t, root, id);
-    match held {
-        Contained::Yes => TreeFound::Index(index),
-        Contained::No => {
-            if budgeted {
-                let beside = contains_under(t, other, id);
-                return match beside {
-                    Contained::Yes => TreeFound::Index(partner(index)),
-                    Contained::No => TreeFound::Refused(Refusal::Damaged),
-                    Contained::Damaged => TreeFound::Refused(Refusal::Damaged),
-                };
-            }
-            TreeFound::Refused(Refusal::Damaged)
-        }
-        Contained::Damaged => TreeFound::Refused(Refusal::Damaged),
+    if contains_under(t, root, id)? {
+        return Ok(index);
     }
+    if budgeted && contains_under(t, other, id)? {
+        return Ok(partner(index));
+    }
+    Err(Refusal::Damaged)
 }
 
 // A ready membership is of this processor.
@@ -158,29 +152,29 @@ pub fn plan_ready(
     budgeted: bool,
     index: u64,
     membership: QueueMembership,
-) -> Planned
-    ensures { planned_answer result ≡ plans.plan_ready fifo cpu ready_cpu budgeted index membership }
+) -> Result<Plan, Refusal>
+    ensures { by_number result ≡ plans.plan_ready fifo cpu ready_cpu budgeted index membership }
 {
     if ready_cpu.0 == cpu.0 {
-        return Planned::Plan(Plan {
+        return Ok(Plan {
             membership,
             index,
             fifo,
             budgeted,
         });
     }
-    Planned::Refused(Refusal::Damaged)
+    Err(Refusal::Damaged)
 }
 
 // The thread's own membership names its list.
-pub fn plan_removal(filed: Filed, index: u64, cpu: CpuIndex) -> Planned
-    ensures { planned_answer result ≡ plans.plan_removal filed index cpu }
+pub fn plan_removal(filed: Filed, index: u64, cpu: CpuIndex) -> Result<Plan, Refusal>
+    ensures { by_number result ≡ plans.plan_removal filed index cpu }
 {
     let policy = filed.policy;
     let budgeted = is_budget(policy);
     let membership = filed.membership;
     match membership {
-        QueueMembership::None => Planned::Refused(Refusal::Damaged),
+        QueueMembership::None => Err(Refusal::Damaged),
         QueueMembership::ReadyRealTime {
             cpu: ready_cpu,
             priority,
@@ -203,8 +197,8 @@ pub fn plan_removal(filed: Filed, index: u64, cpu: CpuIndex) -> Planned
             index,
             QueueMembership::ReadyFair { cpu: ready_cpu },
         ),
-        QueueMembership::Waiting { queue: _ } => Planned::Refused(Refusal::Damaged),
-        QueueMembership::Terminated => Planned::Refused(Refusal::Damaged),
+        QueueMembership::Waiting { queue: _ } => Err(Refusal::Damaged),
+        QueueMembership::Terminated => Err(Refusal::Damaged),
     }
 }
 
@@ -212,18 +206,18 @@ pub fn plan_removal(filed: Filed, index: u64, cpu: CpuIndex) -> Planned
 pub fn removal_plan(
     t: &[Row],
     filed: Filed,
-    root: Link,
-    other: Link,
+    root: Option<u64>,
+    other: Option<u64>,
     id: u64,
     cpu: CpuIndex,
-) -> Planned
-    ensures { planned_answer result ≡ plans.removal_plan (table t.now) filed root other id cpu }
+) -> Result<Plan, Refusal>
+    ensures { by_number result ≡ plans.removal_plan (table t.now) filed root other id cpu }
 {
     let policy = filed.policy;
     let budgeted = is_budget(policy);
     let found = tree_found(t, root, other, id, budgeted, filed.index);
     match found {
-        TreeFound::Refused(refusal) => Planned::Refused(refusal),
-        TreeFound::Index(index) => plan_removal(filed, index, cpu),
+        Err(refusal) => Err(refusal),
+        Ok(index) => plan_removal(filed, index, cpu),
     }
 }

@@ -1,10 +1,9 @@
 -- The work of enqueue and remove on the parts of a queue that a call touches: a list, the FIFO total, a root, the
 -- number of budget threads. Where the source halts, the parts are as it had stored them. After `CpuRunQueue::insert`
 -- and `remove` of scheduler/queue.rs.
-use Rattle.std.specs.Prelude.{ℕ, ◌+◌, ◌-◌, ◌≡◌, Bool, true, false, List}
+use Rattle.std.specs.Prelude.{ℕ, ◌+◌, ◌-◌, ◌≡◌, Bool, true, false, List, Option, Result, Ok, Err}
 use Rattle.refusal.specs.Answer.{Answer, value, refused, number_of, damaged}
 use Rattle.refusal.specs.Cases.{choose, if_equal}
-use Rattle.thread.specs.declared.Link.{Link}
 use Rattle.thread.specs.declared.QueueMembership.{QueueMembership}
 use Rattle.thread.specs.declared.ThreadQueue.{ThreadQueue}
 use Rattle.thread.specs.declared.ThreadRecord.{ThreadRecord}
@@ -14,10 +13,9 @@ use Rattle.lists.specs.Lists as list
 use Rattle.ready_index.specs.Cases.{on_rooted}
 use Rattle.ready_index.specs.Index as index
 use Rattle.queue_work.specs.declared.Parts.{Parts}
-use Rattle.queue_work.specs.declared.Total.{Total}
-use Rattle.queue_work.specs.declared.Total.TheVariants as total
 use Rattle.queue_work.specs.declared.Worked.{Worked}
 use Rattle.queue_work.specs.declared.Worked.TheVariants as worked
+use Rattle.refusal.specs.declared.Refusal.{Refusal}
 
 -- The parts afterwards; a refusal's number, with nothing changed; or the parts as stored where the source halts.
 pub data Work : Type 0 where
@@ -42,10 +40,6 @@ abbrev pub work_of : Worked → Work
 work_of (worked.Refused n) = turned_down (number_of n)
 work_of (worked.Stored p false) = done p
 work_of (worked.Stored p true) = halts p
-
-abbrev pub total_answer : Total → Answer ℕ
-total_answer (total.Length n) = value n
-total_answer (total.Refused n) = refused (number_of n)
 
 abbrev pub with_budget_threads : Parts → ℕ → Parts
 with_budget_threads p n =
@@ -83,7 +77,7 @@ abbrev pub list_stored : Parts → ThreadQueue → ℕ → Parts
 list_stored p q len = record { list = q; realtime_len = len; root = p.root; budget_threads = p.budget_threads }
 
 -- The same with the new root.
-abbrev pub tree_stored : Parts → ThreadQueue → ℕ → Link → Parts
+abbrev pub tree_stored : Parts → ThreadQueue → ℕ → Option ℕ → Parts
 tree_stored p q len root = record { list = q; realtime_len = len; root = root; budget_threads = p.budget_threads }
 
 -- With list and total stored: into the tree, then counted. Any error in the tree halts.

@@ -2,22 +2,23 @@
 #![tactic(auto)]
 
 ghost use Rattle.std.specs.Prelude.{◌≡◌};
+ghost use Rattle.refusal.specs.Answer.{by_number};
 ghost use Rattle.rows.specs.Table.{table, out};
 ghost use Rattle.rows.specs.Frame.{Framed};
 ghost use Rattle.queue_work.specs.Work as work;
 
 use codec::Row;
-use lists::{Listed, push_at, remove_from};
-use ready_index::{Path, Rooted, insert_under, remove_under};
+use lists::{push_at, remove_from};
+use ready_index::{Path, insert_under, remove_under};
 use refusal::Refusal;
-use thread::{Link, QueueMembership, ThreadQueue};
+use thread::{QueueMembership, ThreadQueue};
 
 // What one call touches of a queue: a list, the FIFO total, a tree's root, the number of budget threads.
 #[derive(Clone, Copy)]
 pub struct Parts {
     pub list: ThreadQueue,
     pub realtime_len: u64,
-    pub root: Link,
+    pub root: Option<u64>,
     pub budget_threads: u64,
 }
 
@@ -29,35 +30,28 @@ pub enum Worked {
     Stored { parts: Parts, halted: bool },
 }
 
-// The FIFO total afterwards, or its refusal.
-#[derive(Clone, Copy)]
-enum Total {
-    Length(u64),
-    Refused(Refusal),
-}
-
-fn total_in(fifo: bool, total: u64) -> Total
-    ensures { work.total_answer result ≡ work.total_in fifo total }
+fn total_in(fifo: bool, total: u64) -> Result<u64, Refusal>
+    ensures { by_number result ≡ work.total_in fifo total }
 {
     if fifo {
         if total == 18_446_744_073_709_551_615 {
-            return Total::Refused(Refusal::Damaged);
+            return Err(Refusal::Damaged);
         }
-        return Total::Length(total + 1);
+        return Ok(total + 1);
     }
-    Total::Length(total)
+    Ok(total)
 }
 
-fn total_out(fifo: bool, total: u64) -> Total
-    ensures { work.total_answer result ≡ work.total_out fifo total }
+fn total_out(fifo: bool, total: u64) -> Result<u64, Refusal>
+    ensures { by_number result ≡ work.total_out fifo total }
 {
     if fifo {
         if total == 0 {
-            return Total::Refused(Refusal::Damaged);
+            return Err(Refusal::Damaged);
         }
-        return Total::Length(total - 1);
+        return Ok(total - 1);
     }
-    Total::Length(total)
+    Ok(total)
 }
 
 // One budget thread more, for a budget thread.
@@ -133,7 +127,7 @@ fn insert_into_tree(t: &mut [Row], path: &mut Path, parts: Parts, id: u64, budge
     let realtime_len = parts.realtime_len;
     let budget_threads = parts.budget_threads;
     let old_root = parts.root;
-    let Rooted::Root(root) = insert_under(t, path, old_root, id) else {
+    let Ok(root) = insert_under(t, path, old_root, id) else {
         return Worked::Stored {
             parts,
             halted: true,
@@ -161,7 +155,7 @@ fn remove_from_tree(t: &mut [Row], path: &mut Path, parts: Parts, id: u64, budge
     let realtime_len = parts.realtime_len;
     let budget_threads = parts.budget_threads;
     let old_root = parts.root;
-    let Rooted::Root(root) = remove_under(t, path, old_root, id) else {
+    let Ok(root) = remove_under(t, path, old_root, id) else {
         return Worked::Stored {
             parts,
             halted: true,
@@ -199,12 +193,12 @@ pub fn insert_work(
     let budget_threads = parts.budget_threads;
     let total = total_in(fifo, parts.realtime_len);
     match total {
-        Total::Refused(refusal) => Worked::Refused(refusal),
-        Total::Length(realtime_len) => {
+        Err(refusal) => Worked::Refused(refusal),
+        Ok(realtime_len) => {
             let pushed = push_at(t, front, queue, id, membership);
             match pushed {
-                Listed::Refused(refusal) => Worked::Refused(refusal),
-                Listed::List(list) => insert_into_tree(
+                Err(refusal) => Worked::Refused(refusal),
+                Ok(list) => insert_into_tree(
                     t,
                     path,
                     Parts {
@@ -241,12 +235,12 @@ pub fn remove_work(
     let budget_threads = parts.budget_threads;
     let total = total_out(fifo, parts.realtime_len);
     match total {
-        Total::Refused(refusal) => Worked::Refused(refusal),
-        Total::Length(realtime_len) => {
+        Err(refusal) => Worked::Refused(refusal),
+        Ok(realtime_len) => {
             let removed = remove_from(t, queue, id, membership);
             match removed {
-                Listed::Refused(refusal) => Worked::Refused(refusal),
-                Listed::List(list) => remove_from_tree(
+                Err(refusal) => Worked::Refused(refusal),
+                Ok(list) => remove_from_tree(
                     t,
                     path,
                     Parts {

@@ -1,83 +1,42 @@
 -- The laws by which the calls on a tree by itself meet their definitions: x is what the queue's form answers, r what it
 -- gave, y what the answer given stands for.
-use Rattle.std.specs.Prelude.{ℕ, ◌≡◌, refl, Bool, true, false, List}
-use Rattle.std.proofs.Common.{sym, ap, subst, ◌∙◌}
-use Rattle.refusal.specs.Answer.{Answer, value, refused, damaged}
-use Rattle.thread.specs.declared.Link.{Link}
-use Rattle.thread.specs.declared.Link.TheVariants as link
+use Rattle.std.specs.Prelude.{ℕ, ◌≡◌, refl, List, Result, Ok, Err, IsErr, IsErrAnd}
+use Rattle.std.proofs.Common.{sym, subst, ◌∙◌}
+use Rattle.refusal.specs.Answer.{Answer, value, refused, damaged, by_number, or_damaged}
+use Rattle.refusal.specs.declared.Refusal.{Refusal}
 use Rattle.thread.specs.declared.ThreadRecord.{ThreadRecord}
 use Rattle.rows.specs.Table.{Out, out}
-use Rattle.rows.specs.Asked.{answering}
+use Rattle.rows.specs.Asked.{asked, unchanged, answering}
+use Rattle.rows.specs.AskedLaws.{turned_away}
 use Rattle.rows.specs.Unmoved.{UnmovedBut}
-use Rattle.ready_index.specs.declared.Least.{Least}
-use Rattle.ready_index.specs.declared.Least.TheVariants as least
-use Rattle.ready_index.specs.declared.Contained.{Contained}
-use Rattle.ready_index.specs.declared.Contained.TheVariants as contained
-use Rattle.ready_index.specs.declared.Rooted.{Rooted}
-use Rattle.ready_index.specs.declared.Rooted.TheVariants as rooted
-use Rattle.ready_index.specs.Answers.{least_answer, contained_answer, rooted_answer}
-
--- The cases of an answer that is told under another type.
-pub least_none : {r : Least} → r ≡ least.None → value link.None ≡ least_answer r
-unfolding least_answer
-least_none e = ap least_answer (sym e)
-
-pub least_some : {r : Least} {i : ℕ} → r ≡ least.Some i → value (link.Some i) ≡ least_answer r
-unfolding least_answer
-least_some e = ap least_answer (sym e)
-
-pub least_damaged : {r : Least} → r ≡ least.Damaged → refused damaged ≡ least_answer r
-unfolding least_answer
-least_damaged e = ap least_answer (sym e)
-
-pub contained_yes : {r : Contained} → r ≡ contained.Yes → value true ≡ contained_answer r
-unfolding contained_answer
-contained_yes e = ap contained_answer (sym e)
-
-pub contained_no : {r : Contained} → r ≡ contained.No → value false ≡ contained_answer r
-unfolding contained_answer
-contained_no e = ap contained_answer (sym e)
-
-pub contained_damaged : {r : Contained} → r ≡ contained.Damaged → refused damaged ≡ contained_answer r
-unfolding contained_answer
-contained_damaged e = ap contained_answer (sym e)
-
-pub root_told : {r : Rooted} {l : Link} → r ≡ rooted.Root l → value l ≡ rooted_answer r
-unfolding rooted_answer
-root_told e = ap rooted_answer (sym e)
-
-pub no_root_told : {r : Rooted} → r ≡ rooted.Damaged → refused damaged ≡ rooted_answer r
-unfolding rooted_answer
-no_root_told e = ap rooted_answer (sym e)
-
-pub ruleset tellings = (
-  least_none,
-  least_some,
-  least_damaged,
-  contained_yes,
-  contained_no,
-  contained_damaged,
-  root_told,
-  no_root_told,
-)
+use Rattle.refusal.specs.declared.Damaged.{Damaged}
 
 -- Where the queue's form refuses, that is Damaged, which may have stored.
-pub damaged_stored : {B : Type 0} {y : Answer Link} (b c : B) (r : Rooted) → y ≡ rooted_answer r
+pub damaged_stored : {A B : Type 0} {y : Answer A} (b c : B) (r : Result A Damaged) → y ≡ or_damaged r
     → UnmovedBut damaged y b c
-unfolding rooted_answer
-damaged_stored b c (rooted.Root l) e = subst (λ (x : Answer Link). UnmovedBut damaged x b c) (sym e) tt
-damaged_stored b c rooted.Damaged e =
-    subst (λ (x : Answer Link). UnmovedBut damaged x b c) (sym e) (λ h. absurd (h refl))
+unfolding or_damaged
+damaged_stored {A} b c (Ok l) e = subst (λ (x : Answer A). UnmovedBut damaged x b c) (sym e) tt
+damaged_stored {A} b c (Err _) e = subst (λ (x : Answer A). UnmovedBut damaged x b c) (sym e) (λ h. absurd (h refl))
 
 -- The answer of the queue's form handed on.
-pub least_handed : {y : Answer Link} (r x : Least) → y ≡ least_answer r → least_answer r ≡ least_answer x
-    → y ≡ least_answer x
-least_handed r x h e = h ∙ e
+pub handed : {A : Type 0} {y : Answer A} (r x : Result A Damaged) → y ≡ or_damaged r → or_damaged r ≡ or_damaged x
+    → y ≡ or_damaged x
+handed r x h e = h ∙ e
 
-pub contained_handed : {y : Answer Bool} (r x : Contained) → y ≡ contained_answer r
-    → contained_answer r ≡ contained_answer x → y ≡ contained_answer x
-contained_handed r x h e = h ∙ e
+pub handed_out : {A : Type 0} {y : Answer A} {t : List ThreadRecord} (r : Result A Damaged) (x : Out (Result A Damaged))
+    → y ≡ or_damaged r → out (or_damaged r) t ≡ answering or_damaged x → out y t ≡ answering or_damaged x
+handed_out r x h e = rw h e
 
-pub rooted_handed : {y : Answer Link} {t : List ThreadRecord} (r : Rooted) (x : Out Rooted) → y ≡ rooted_answer r
-    → out (rooted_answer r) t ≡ answering rooted_answer x → out y t ≡ answering rooted_answer x
-rooted_handed r x h e = rw h e
+-- A refusal of what was asked handed up by `?`: the call's answer is the same refusal.
+pub refused_up : {A : Type 0} (t : List ThreadRecord) (id : ℕ) (call : Answer A) {r : Result (Unit {0}) Refusal}
+    (q : Result A Refusal) {e : Refusal} → by_number r ≡ asked t id refused (value tt) → r ≡ Err e
+    → IsErr q × IsErrAnd q (λ x. x ≡ e) → by_number q ≡ asked t id refused call
+refused_up t id call (Ok a) h m k = absurd k.1
+refused_up t id call (Err d) h m k = turned_away t id refused call h m (rw k.1)
+
+-- The same beside the table, which is as it was.
+pub refused_out : {A : Type 0} (t : List ThreadRecord) (id : ℕ) (call : Out (Answer A)) {r : Result (Unit {0}) Refusal}
+    (q : Result A Refusal) {e : Refusal} → by_number r ≡ asked t id refused (value tt) → r ≡ Err e
+    → IsErr q × IsErrAnd q (λ x. x ≡ e) → out (by_number q) t ≡ asked t id (unchanged t) call
+refused_out t id call (Ok a) h m k = absurd k.1
+refused_out t id call (Err d) h m k = turned_away t id (unchanged t) call h m (rw k.1)

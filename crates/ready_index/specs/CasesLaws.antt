@@ -1,12 +1,10 @@
 -- The laws by which proofs of code go by an answer: r is what the call gave, x what its contract says of it.
-use Rattle.std.specs.Prelude.{◌≡◌, List}
+use Rattle.std.specs.Prelude.{◌≡◌, List, Option, Result, Ok, Err, ℕ}
+use Rattle.refusal.specs.Answer.{damage}
 use Rattle.std.proofs.Common.{sym, ◌∙◌}
 use Rattle.order.specs.OrderLaws.{orderings}
-use Rattle.thread.specs.declared.Link.{Link}
 use Rattle.thread.specs.declared.Links.{Links}
 use Rattle.thread.specs.declared.ThreadRecord.{ThreadRecord}
-use Rattle.ready_index.specs.declared.Rooted.{Rooted}
-use Rattle.ready_index.specs.declared.Rooted.TheVariants as rooted
 use Rattle.ready_index.specs.declared.Way.{Way}
 use Rattle.ready_index.specs.declared.Way.TheVariants as way
 use Rattle.ready_index.specs.declared.Sought.{Sought}
@@ -14,24 +12,27 @@ use Rattle.ready_index.specs.declared.Sought.TheVariants as sought
 use Rattle.rotations.specs.CasesLaws.{balancings}
 use Rattle.rows.specs.Table.{Out, out}
 use Rattle.ready_index.specs.Cases.{on_rooted, on_way, on_sought}
+use Rattle.refusal.specs.declared.Damaged.{Damaged}
 
 module _ {A : Type 0} {y : A} {t : List ThreadRecord} (a : List ThreadRecord → A) where
-  pub rooted_root : {r : Rooted} {x : Out Rooted} {l : Link} (f : Link → List ThreadRecord → A) → out r t ≡ x
-      → r ≡ rooted.Root l → y ≡ f l t → y ≡ on_rooted x a f
+  pub rooted_root : {r : Result (Option ℕ) Damaged} {x : Out (Result (Option ℕ) Damaged)} {l : Option ℕ} (f : Option ℕ
+      → List ThreadRecord → A) → out r t ≡ x
+      → r ≡ Ok l → y ≡ f l t → y ≡ on_rooted x a f
   unfolding on_rooted
   rooted_root f e m h = rw (sym e) (rw m h)
 
-  pub rooted_damaged : {r : Rooted} {x : Out Rooted} (f : Link → List ThreadRecord → A) → out r t ≡ x
-      → r ≡ rooted.Damaged → y ≡ a t → y ≡ on_rooted x a f
+  pub rooted_damaged : {r : Result (Option ℕ) Damaged} {x : Out (Result (Option ℕ) Damaged)} (f : Option ℕ
+      → List ThreadRecord → A) → out r t ≡ x
+      → r ≡ (Err damage) → y ≡ a t → y ≡ on_rooted x a f
   unfolding on_rooted
   rooted_damaged f e m h = rw (sym e) (rw m h)
 
-module _ {A : Type 0} {y : A} {r x : Way} (a e : A) (f g : Link → A) where
-  pub way_left : {l : Link} → r ≡ x → r ≡ way.Left l → y ≡ f l → y ≡ on_way x a e f g
+module _ {A : Type 0} {y : A} {r x : Way} (a e : A) (f g : Option ℕ → A) where
+  pub way_left : {l : Option ℕ} → r ≡ x → r ≡ way.Left l → y ≡ f l → y ≡ on_way x a e f g
   unfolding on_way
   way_left p m h = rw (sym p ∙ m) h
 
-  pub way_right : {l : Link} → r ≡ x → r ≡ way.Right l → y ≡ g l → y ≡ on_way x a e f g
+  pub way_right : {l : Option ℕ} → r ≡ x → r ≡ way.Right l → y ≡ g l → y ≡ on_way x a e f g
   unfolding on_way
   way_right p m h = rw (sym p ∙ m) h
 
@@ -43,12 +44,12 @@ module _ {A : Type 0} {y : A} {r x : Way} (a e : A) (f g : Link → A) where
   unfolding on_way
   way_damaged p m h = rw (sym p ∙ m) h
 
-module _ {A : Type 0} {y : A} {r x : Sought} (a : A) (k : Links → A) (f g : Link → A) where
-  pub sought_left : {l : Link} → r ≡ x → r ≡ sought.Left l → y ≡ f l → y ≡ on_sought x a k f g
+module _ {A : Type 0} {y : A} {r x : Sought} (a : A) (k : Links → A) (f g : Option ℕ → A) where
+  pub sought_left : {l : Option ℕ} → r ≡ x → r ≡ sought.Left l → y ≡ f l → y ≡ on_sought x a k f g
   unfolding on_sought
   sought_left p m h = rw (sym p ∙ m) h
 
-  pub sought_right : {l : Link} → r ≡ x → r ≡ sought.Right l → y ≡ g l → y ≡ on_sought x a k f g
+  pub sought_right : {l : Option ℕ} → r ≡ x → r ≡ sought.Right l → y ≡ g l → y ≡ on_sought x a k f g
   unfolding on_sought
   sought_right p m h = rw (sym p ∙ m) h
 
@@ -61,11 +62,12 @@ module _ {A : Type 0} {y : A} {r x : Sought} (a : A) (k : Links → A) (f g : Li
   sought_damaged p m h = rw (sym p ∙ m) h
 
 -- A root made of a link's parts is the answer that has them.
-pub of_parts : {r : Rooted} {l x : Link} → r ≡ rooted.Root l → l ≡ x → rooted.Root x ≡ r
+pub of_parts : {r : Result (Option ℕ) Damaged} {l x : Option ℕ} → r ≡ Ok l → l ≡ x → Ok x ≡ r
 of_parts e m = rw (e, m)
 
 -- An answer made anew and the table with it.
-pub made_anew : {r s : Rooted} {t : List ThreadRecord} {x : Out Rooted} → r ≡ s → out s t ≡ x → out r t ≡ x
+pub made_anew : {r s : Result (Option ℕ) Damaged} {t : List ThreadRecord} {x : Out (Result (Option ℕ) Damaged)} → r ≡ s
+    → out s t ≡ x → out r t ≡ x
 made_anew e h = rw e h
 
 pub ruleset answers = (

@@ -4,8 +4,6 @@ pub mod Cases
 pub mod CasesLaws
 -- The ready index: first, contains, insert, remove.
 pub mod Index
--- What the answers stand for.
-pub mod Answers
 -- Laws of those.
 pub mod AnswersLaws
 -- The calls on a tree by itself, with what is asked first.

@@ -1,5 +1,6 @@
 -- Laws by which each loop goes on from step to step: what is left to do gives what the loop set out to give.
-use Rattle.std.specs.Prelude.{◌≡◌, Bool, List, [], ◌∷◌, ltb, get_or, set}
+use Rattle.std.specs.Prelude.{◌≡◌, Bool, List, [], ◌∷◌, ltb, get_or, set, Option, Some, None, Result, Ok, Err}
+use Rattle.refusal.specs.Answer.{damage}
 use Rattle.std.proofs.Math.Path.{refl}
 use Rattle.std.proofs.Common.{sym, ◌∙◌, length-set}
 use Rattle.std.proofs.Math.Bool.{true, false}
@@ -9,25 +10,15 @@ use Prim.Native.Nat.{ℕ, zero, suc, ◌+◌, ◌-◌, ◌<◌, ◌≤◌}
 use Rattle.std.proofs.Math.ListN.{length}
 use borrow.Author.Tests.{ltb-true, ltb-false}
 use Rattle.refusal.specs.Cases.{choose, if_less, if_equal}
-use Rattle.thread.specs.declared.Link.{Link}
-use Rattle.thread.specs.declared.Link.TheVariants as link
 use Rattle.thread.specs.declared.Links.{Links}
 use Rattle.thread.specs.declared.TreeKey.{TreeKey}
 use Rattle.thread.specs.declared.ThreadRecord.{ThreadRecord}
 use Rattle.thread.specs.Membership.{on_link}
 use Rattle.rows.specs.Table.{Out, out, links_at}
 use Rattle.rows.specs.TableCases.{on_links}
-use Rattle.ready_index.specs.declared.Rooted.{Rooted}
-use Rattle.ready_index.specs.declared.Rooted.TheVariants as rooted
-use Rattle.ready_index.specs.declared.Least.{Least}
-use Rattle.ready_index.specs.declared.Least.TheVariants as least
-use Rattle.ready_index.specs.declared.Contained.{Contained}
-use Rattle.ready_index.specs.declared.Contained.TheVariants as contained
 use Rattle.ready_index.specs.declared.Step.{Step}
 use Rattle.ready_index.specs.declared.Sought.{Sought}
 use Rattle.ready_index.specs.declared.Sought.TheVariants as sought
-use Rattle.ready_index.specs.declared.Walked.{Walked}
-use Rattle.ready_index.specs.declared.Walked.TheVariants as walked
 use Rattle.ready_index.specs.declared.Searched.{Searched}
 use Rattle.ready_index.specs.declared.Searched.TheVariants as searched
 use Rattle.ready_index.specs.declared.Succeeded.{Succeeded}
@@ -40,6 +31,7 @@ use Rattle.ready_index.specs.Index.{sought_at, Search, found, missing, search, S
 use Rattle.ready_index.specs.Path.{step_of, stack, walk_of, walk_steps, last_sought, search_of, search_steps}
 use Rattle.ready_index.specs.Path.{successor_of, successor_steps}
 use Rattle.ready_index.specs.PathLaws.{kept, push, pop, no_steps}
+use Rattle.refusal.specs.declared.Damaged.{Damaged}
 
 -- What a loop set out to give; shut, so that no law of a step applies to it.
 pub whole : {A : Type 0} → A → A
@@ -59,28 +51,28 @@ module _ {A : Type 0} (x : A) where
 
 module _ (t : List ThreadRecord) (i : ℕ) where
   descend_step : (n : ℕ) → 0 < n
-      → descend n t i ≡ on_links (links_at t i) least.Damaged (λ l. on_link l.left (least.Some i) (descend (n - 1) t))
+      → descend n t i ≡ on_links (links_at t i) (Err damage) (λ l. on_link l.left (Ok (Some i)) (descend (n - 1) t))
   unfolding descend
   descend_step zero h = absurd (omega arith)
   descend_step (suc n) h = simp unary_clauses
 
-  pub to_the_left : {y : Least} (n : ℕ) → 0 < n
-      → y ≡ on_links (links_at t i) least.Damaged (λ l. on_link l.left (least.Some i) (descend (n - 1) t))
+  pub to_the_left : {y : Result (Option ℕ) Damaged} (n : ℕ) → 0 < n
+      → y ≡ on_links (links_at t i) (Err damage) (λ l. on_link l.left (Ok (Some i)) (descend (n - 1) t))
       → y ≡ descend n t i
   to_the_left n p h = h ∙ sym (descend_step n p)
 
-  pub too_deep : {y : Least} (n : ℕ) → n ≤ 0 → y ≡ least.Damaged → y ≡ descend n t i
+  pub too_deep : {y : Result (Option ℕ) Damaged} (n : ℕ) → n ≤ 0 → y ≡ (Err damage) → y ≡ descend n t i
   unfolding descend
   too_deep zero p h = h
   too_deep (suc n) p h = absurd (omega arith)
 
 pub ruleset descent = (answers, onward, to_the_left, too_deep)
 
-module _ (t : List ThreadRecord) (key : TreeKey) (id : ℕ) (at : Link) where
-  abbrev look_further : ℕ → Contained
+module _ (t : List ThreadRecord) (key : TreeKey) (id : ℕ) (at : Option ℕ) where
+  abbrev look_further : ℕ → Result Bool Damaged
   look_further n =
-      on_link at contained.No
-      (λ i. on_way (way_at t key i) contained.Damaged (if_equal i id contained.Yes contained.No)
+      on_link at (Ok false)
+      (λ i. on_way (way_at t key i) (Err damage) (if_equal i id (Ok true) (Ok false))
       (λ l. look_for (n - 1) t key id l)
       (λ l. look_for (n - 1) t key id l))
 
@@ -89,17 +81,17 @@ module _ (t : List ThreadRecord) (key : TreeKey) (id : ℕ) (at : Link) where
   look_step zero h = absurd (omega arith)
   look_step (suc n) h = simp unary_clauses
 
-  pub looking : {y : Contained} (n : ℕ) → 0 < n → y ≡ look_further n → y ≡ look_for n t key id at
+  pub looking : {y : Result Bool Damaged} (n : ℕ) → 0 < n → y ≡ look_further n → y ≡ look_for n t key id at
   looking n p h = h ∙ sym (look_step n p)
 
-  pub looked_too_far : {y : Contained} (n : ℕ) → n ≤ 0 → y ≡ contained.Damaged → y ≡ look_for n t key id at
+  pub looked_too_far : {y : Result Bool Damaged} (n : ℕ) → n ≤ 0 → y ≡ (Err damage) → y ≡ look_for n t key id at
   unfolding look_for
   looked_too_far zero p h = h
   looked_too_far (suc n) p h = absurd (omega arith)
 
 pub ruleset lookup = (answers, onward, looking, looked_too_far)
 
-module _ (t : List ThreadRecord) (key : TreeKey) (at : Link) where
+module _ (t : List ThreadRecord) (key : TreeKey) (at : Option ℕ) where
   pub walk_set_out : (rows : List (List ℕ))
       → walk (length rows - 0) t key at (stack rows 0 0) ≡ whole (walk (length rows) t key at [])
   unfolding stack
@@ -141,38 +133,39 @@ module _ (t : List ThreadRecord) (key : TreeKey) (at : Link) where
       let end : n ≡ 0 + n = omega arith in rw (length-set rows n row, push rows 0 n n row end p) h
 
 pub walk_bottom : {w : Walk} (rows : List (List ℕ)) (n : ℕ) → bottom (stack rows 0 n) ≡ w
-    → walk_of (walked.Bottom n) rows ≡ w
+    → walk_of (Ok n) rows ≡ w
 unfolding walk_of
 walk_bottom rows n h = h
 
-pub walk_lost : {w : Walk} (rows : List (List ℕ)) → lost ≡ w → walk_of walked.Damaged rows ≡ w
+pub walk_lost : {w : Walk} (rows : List (List ℕ)) → lost ≡ w → walk_of (Err damage) rows ≡ w
 unfolding walk_of
 walk_lost rows h = h
 
 pub ruleset walks = (answers, onward, walking, walked_far, walk_stored, walk_bottom, walk_lost)
 
 -- How far the walk may have come.
-pub bottom_steps : (n m : ℕ) → n ≤ m → walk_steps (walked.Bottom n) ≤ m
+pub bottom_steps : (n m : ℕ) → n ≤ m → walk_steps (Ok n) ≤ m
 unfolding walk_steps
 bottom_steps n m h = h
 
-pub lost_steps : (m : ℕ) → walk_steps walked.Damaged ≤ m
+pub lost_steps : (m : ℕ) → walk_steps (Err damage) ≤ m
 unfolding walk_steps
 lost_steps m = omega arith
 
-pub walk_within : (r : Walked) (n m : ℕ) → walk_steps r ≤ m → r ≡ walked.Bottom n → 0 + n ≤ m
+pub walk_within : (r : Result ℕ Damaged) (n m : ℕ) → walk_steps r ≤ m → r ≡ Ok n → 0 + n ≤ m
 unfolding walk_steps
 walk_within r n m h e = let h : n ≤ m = rw e at h in omega arith
 
-module _ {y : Out Rooted} (rows : List (List ℕ)) (first n : ℕ) (t : List ThreadRecord) (sub : Link) where
+module _ {y : Out (Result (Option ℕ) Damaged)} (rows : List (List ℕ)) (first n : ℕ) (t : List ThreadRecord) (sub :
+    Option ℕ) where
   pub up : 0 < n
-      → y ≡ on_turned (rebuild_step t (step_of (get_or rows (first + (n - 1)) [])) sub) (out rooted.Damaged)
-      (λ top t₁. rebuild (stack rows first (n - 1)) t₁ (link.Some top))
+      → y ≡ on_turned (rebuild_step t (step_of (get_or rows (first + (n - 1)) [])) sub) (out (Err damage))
+      (λ top t₁. rebuild (stack rows first (n - 1)) t₁ (Some top))
       → y ≡ rebuild (stack rows first n) t sub
   unfolding rebuild
   up p h = rw (pop rows first n p) h
 
-  pub on_top : n ≤ 0 → y ≡ out (rooted.Root sub) t → y ≡ rebuild (stack rows first n) t sub
+  pub on_top : n ≤ 0 → y ≡ out (Ok sub) t → y ≡ rebuild (stack rows first n) t sub
   unfolding rebuild
   on_top p h = rw (no_steps rows first n p) h
 
@@ -188,7 +181,7 @@ module _ (rows : List (List ℕ)) (n : ℕ) (full : length rows - n ≡ 0) where
   last_by (sought.Found l) = rw full
   last_by sought.Damaged = refl
 
-  last_at_lem : (t : List ThreadRecord) (key : TreeKey) (id : ℕ) (at : Link)
+  last_at_lem : (t : List ThreadRecord) (key : TreeKey) (id : ℕ) (at : Option ℕ)
       → search_of (on_link at searched.Damaged
       (λ i. on_sought (sought_at t key id i) searched.Damaged (λ l. searched.Found n l) (λ l. searched.Damaged)
       (λ l. searched.Damaged))) rows
@@ -196,10 +189,10 @@ module _ (rows : List (List ℕ)) (n : ℕ) (full : length rows - n ≡ 0) where
       (λ l. missing)
       (λ l. missing))
   unfolding on_link search_of
-  last_at_lem t key id link.None = refl
-  last_at_lem t key id (link.Some i) = last_by (sought_at t key id i)
+  last_at_lem t key id None = refl
+  last_at_lem t key id (Some i) = last_by (sought_at t key id i)
 
-module _ (t : List ThreadRecord) (key : TreeKey) (id : ℕ) (at : Link) where
+module _ (t : List ThreadRecord) (key : TreeKey) (id : ℕ) (at : Option ℕ) where
   pub search_set_out : (rows : List (List ℕ))
       → search (length rows - 0) t key id at (stack rows 0 0) ≡ whole (search (length rows) t key id at [])
   unfolding stack
@@ -273,13 +266,13 @@ last_steps_by (sought.Right l) n m h = omega arith
 last_steps_by (sought.Found l) n m h = h
 last_steps_by sought.Damaged n m h = omega arith
 
-last_steps_at : (t : List ThreadRecord) (key : TreeKey) (id : ℕ) (at : Link) (n m : ℕ) → n ≤ m
+last_steps_at : (t : List ThreadRecord) (key : TreeKey) (id : ℕ) (at : Option ℕ) (n m : ℕ) → n ≤ m
     → search_steps (last_sought t key id at n) ≤ m
 unfolding last_sought on_link search_steps
-last_steps_at t key id link.None n m h = omega arith
-last_steps_at t key id (link.Some i) n m h = last_steps_by (sought_at t key id i) n m h
+last_steps_at t key id None n m h = omega arith
+last_steps_at t key id (Some i) n m h = last_steps_by (sought_at t key id i) n m h
 
-pub last_steps : {r : Searched} (t : List ThreadRecord) (key : TreeKey) (id : ℕ) (at : Link) (n m : ℕ)
+pub last_steps : {r : Searched} (t : List ThreadRecord) (key : TreeKey) (id : ℕ) (at : Option ℕ) (n m : ℕ)
     → r ≡ last_sought t key id at n → n ≤ m → search_steps r ≤ m
 last_steps t key id at n m e h = rw e (last_steps_at t key id at n m h)
 
@@ -323,7 +316,7 @@ module _ (t : List ThreadRecord) (i : ℕ) where
       let one : first + (n + 1) ≡ first + n + 1 = omega arith in
       rw (length-set rows (first + n) row, push rows first (first + n) n row refl p, one) h
 
-pub successor_next : {w : Successor} (rows : List (List ℕ)) (first n i : ℕ) (r : Link)
+pub successor_next : {w : Successor} (rows : List (List ℕ)) (first n i : ℕ) (r : Option ℕ)
     → next (stack rows first n) i r ≡ w → successor_of (succeeded.Next n i r) rows first ≡ w
 unfolding successor_of
 successor_next rows first n i r h = h
@@ -335,7 +328,8 @@ successor_none rows first h = h
 
 pub ruleset successions = (answers, onward, succeeding, successor_stored, successor_next, successor_none)
 
-pub next_steps : (first n i : ℕ) (r : Link) (m : ℕ) → first + n ≤ m → first + successor_steps (succeeded.Next n i r) ≤ m
+pub next_steps : (first n i : ℕ) (r : Option ℕ) (m : ℕ) → first + n ≤ m
+    → first + successor_steps (succeeded.Next n i r) ≤ m
 unfolding successor_steps
 next_steps first n i r m h = h
 
@@ -343,7 +337,7 @@ pub none_steps : (first m : ℕ) → first ≤ m → first + successor_steps suc
 unfolding successor_steps
 none_steps first m h = omega arith
 
-pub successor_within : (r : Succeeded) (first n i : ℕ) (l : Link) (m : ℕ) → first + successor_steps r ≤ m
+pub successor_within : (r : Succeeded) (first n i : ℕ) (l : Option ℕ) (m : ℕ) → first + successor_steps r ≤ m
     → r ≡ succeeded.Next n i l → first + n ≤ m
 unfolding successor_steps
 successor_within r first n i l m h e = rw e at h

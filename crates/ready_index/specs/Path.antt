@@ -1,18 +1,16 @@
 -- The path that a caller lends, as steps: what its rows stand for, and what the ways down answer in these terms.
-use Rattle.std.specs.Prelude.{not, List, [], ◌∷◌, ℕ, zero, suc, ◌+◌, ◌-◌, eqb, length, get_or}
-use Rattle.thread.specs.declared.Link.{Link}
+use Rattle.std.specs.Prelude.{not, List, [], ◌∷◌, ℕ, zero, suc, ◌+◌, ◌-◌, eqb, length, get_or, Option, Result, Ok, Err}
 use Rattle.thread.specs.declared.TreeKey.{TreeKey}
 use Rattle.thread.specs.declared.ThreadRecord.{ThreadRecord}
 use Rattle.thread.specs.Membership.{on_link}
 use Rattle.ready_index.specs.declared.Step.{Step}
-use Rattle.ready_index.specs.declared.Walked.{Walked}
-use Rattle.ready_index.specs.declared.Walked.TheVariants as walked
 use Rattle.ready_index.specs.declared.Searched.{Searched}
 use Rattle.ready_index.specs.declared.Searched.TheVariants as searched
 use Rattle.ready_index.specs.declared.Succeeded.{Succeeded}
 use Rattle.ready_index.specs.declared.Succeeded.TheVariants as succeeded
 use Rattle.ready_index.specs.Cases.{on_sought}
 use Rattle.ready_index.specs.Index.{sought_at, Walk, bottom, lost, Search, found, missing, Successor, next, none}
+use Rattle.refusal.specs.declared.Damaged.{Damaged}
 
 -- A row of the path: the node's number, and 0 where the path went to its left.
 abbrev pub step_of : List ℕ → Step
@@ -23,16 +21,16 @@ unfoldable pub stack : List (List ℕ) → ℕ → ℕ → List Step
 stack rows first zero = []
 stack rows first (suc n) = step_of (get_or rows (first + n) []) ∷ stack rows first n
 
-unfoldable pub walk_of : Walked → List (List ℕ) → Walk
-walk_of (walked.Bottom n) rows = bottom (stack rows 0 n)
-walk_of walked.Damaged rows = lost
+unfoldable pub walk_of : Result ℕ Damaged → List (List ℕ) → Walk
+walk_of (Ok n) rows = bottom (stack rows 0 n)
+walk_of (Err _) rows = lost
 
 unfoldable pub search_of : Searched → List (List ℕ) → Search
 search_of (searched.Found n l) rows = found (stack rows 0 n) l (length rows - n)
 search_of searched.Damaged rows = missing
 
 -- What the search finds at the end of a full path.
-unfoldable pub last_sought : List ThreadRecord → TreeKey → ℕ → Link → ℕ → Searched
+unfoldable pub last_sought : List ThreadRecord → TreeKey → ℕ → Option ℕ → ℕ → Searched
 last_sought t key id at n =
     on_link at searched.Damaged
     (λ i. on_sought (sought_at t key id i) searched.Damaged (λ l. searched.Found n l) (λ l. searched.Damaged)
@@ -43,9 +41,9 @@ successor_of (succeeded.Next n i r) rows first = next (stack rows first n) i r
 successor_of succeeded.Damaged rows first = none
 
 -- The steps that an answer says were stored.
-unfoldable pub walk_steps : Walked → ℕ
-walk_steps (walked.Bottom n) = n
-walk_steps walked.Damaged = 0
+unfoldable pub walk_steps : Result ℕ Damaged → ℕ
+walk_steps (Ok n) = n
+walk_steps (Err _) = 0
 
 unfoldable pub search_steps : Searched → ℕ
 search_steps (searched.Found n l) = n

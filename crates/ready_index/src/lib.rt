@@ -7,10 +7,9 @@
 mod calls;
 
 ghost use Rattle.std.specs.Prelude.{◌+◌, ◌-◌, ◌≤◌, [], ◌≡◌, length};
+ghost use Rattle.refusal.specs.Answer.{or_damaged};
 ghost use Rattle.rows.specs.Asked.{answering};
 ghost use Rattle.rows.specs.Table.{table, out};
-ghost use Rattle.rotations.specs.Answers.{turned_answer};
-ghost use Rattle.ready_index.specs.Answers.{least_answer, contained_answer, rooted_answer};
 ghost use Rattle.rows.specs.Frame.{Framed};
 ghost use Rattle.ready_index.specs.Index as index;
 ghost use Rattle.ready_index.specs.Path.{step_of, stack, walk_of, walk_steps, last_sought, search_of, search_steps};
@@ -18,11 +17,11 @@ ghost use Rattle.ready_index.specs.Path.{successor_of, successor_steps};
 
 pub use calls::{contains, first, insert, remove};
 use codec::Row;
-use order::Ordering;
-use refusal::Refusal;
-use rotations::{Turned, balance, rebalance};
-use rows::{Change, KeyRead, LinksRead, key_at, links_at, set_left, set_links, set_right};
-use thread::{Link, Links, TreeKey, compare_tree_keys};
+use refusal::Damaged;
+use rotations::{balance, rebalance};
+use rows::{key_at, links_at, set_left, set_links, set_right};
+use std::cmp::Ordering;
+use thread::{Links, TreeKey, compare_tree_keys};
 
 // A 24-bit registry slot namespace cannot contain the 24,157,816 nodes that height 35 needs; forty entries include the
 // removal's successor path.
@@ -35,50 +34,6 @@ pub type PathStep = [u64; PATH_STEP_WORDS];
 
 pub type Path = [PathStep; MAX_PATH];
 
-// The tree's root afterwards.
-#[derive(Clone, Copy)]
-pub enum Rooted {
-    Root(Link),
-    Damaged,
-}
-
-// The least thread of a tree.
-#[derive(Clone, Copy)]
-pub enum Least {
-    None,
-    Some(u64),
-    Damaged,
-}
-
-// Whether a tree holds a thread.
-#[derive(Clone, Copy)]
-pub enum Contained {
-    Yes,
-    No,
-    Damaged,
-}
-
-// What the calls on a tree by itself answer: as the three above, or a refusal by its name.
-#[derive(Clone, Copy)]
-pub enum TreeRoot {
-    Root(Link),
-    Refused(Refusal),
-}
-
-#[derive(Clone, Copy)]
-pub enum TreeLeast {
-    None,
-    Some(u64),
-    Refused(Refusal),
-}
-
-#[derive(Clone, Copy)]
-pub enum TreeContains {
-    Yes,
-    No,
-    Refused(Refusal),
-}
-
 // A step of a path: the node, and whether the path went to its right.
 #[derive(Clone, Copy)]
 pub struct Step {
@@ -89,8 +44,8 @@ pub struct Step {
 // Where a key goes on from a node.
 #[derive(Clone, Copy)]
 pub enum Way {
-    Left(Link),
-    Right(Link),
+    Left(Option<u64>),
+    Right(Option<u64>),
     Equal,
     Damaged,
 }
@@ -98,16 +53,9 @@ pub enum Way {
 // Where the search for a thread goes on from a node.
 #[derive(Clone, Copy)]
 pub enum Sought {
-    Left(Link),
-    Right(Link),
+    Left(Option<u64>),
+    Right(Option<u64>),
     Found(Links),
-    Damaged,
-}
-
-// How many steps of the path lead to where a key is to stand.
-#[derive(Clone, Copy)]
-pub enum Walked {
-    Bottom(usize),
     Damaged,
 }
 
@@ -121,37 +69,41 @@ pub enum Searched {
 // How many steps of the path lead to a right side's leftmost thread, that thread, and its right link.
 #[derive(Clone, Copy)]
 pub enum Succeeded {
-    Next { steps: usize, id: u64, right: Link },
+    Next {
+        steps: usize,
+        id: u64,
+        right: Option<u64>,
+    },
     Damaged,
 }
 
 // Down the left links. The loop of `Tree::first`.
-fn descend(t: &[Row], start: u64) -> Least
+fn descend(t: &[Row], start: u64) -> Result<Option<u64>, Damaged>
     ensures { result ≡ index.descend index.max_path (table t.now) start }
 {
     let mut id = start;
     let mut room = MAX_PATH;
     while 0 < room {
-        let LinksRead::Got(links) = links_at(t, id) else {
-            return Least::Damaged;
+        let Ok(links) = links_at(t, id) else {
+            return Err(Damaged);
         };
         let left = links.left;
-        let Link::Some(next) = left else {
-            return Least::Some(id);
+        let Some(next) = left else {
+            return Ok(Some(id));
         };
         id = next;
         room -= 1;
     }
-    Least::Damaged
+    Err(Damaged)
 }
 
 // The least thread of the tree under a root.
-pub fn first_under(t: &[Row], root: Link) -> Least
-    ensures { least_answer result ≡ least_answer (index.first (table t.now) root) }
+pub fn first_under(t: &[Row], root: Option<u64>) -> Result<Option<u64>, Damaged>
+    ensures { or_damaged result ≡ or_damaged (index.first (table t.now) root) }
 {
     match root {
-        Link::None => Least::None,
-        Link::Some(id) => descend(t, id),
+        None => Ok(None),
+        Some(id) => descend(t, id),
     }
 }
 
@@ -159,12 +111,12 @@ pub fn first_under(t: &[Row], root: Link) -> Least
 fn way_at(t: &[Row], key: TreeKey, node: u64) -> Way
     ensures { result ≡ index.way_at (table t.now) key node }
 {
-    let KeyRead::Got(other) = key_at(t, node) else {
+    let Ok(other) = key_at(t, node) else {
         return Way::Damaged;
     };
     match compare_tree_keys(key, other) {
         Ordering::Less => {
-            let LinksRead::Got(links) = links_at(t, node) else {
+            let Ok(links) = links_at(t, node) else {
                 return Way::Damaged;
             };
             let left = links.left;
@@ -172,7 +124,7 @@ fn way_at(t: &[Row], key: TreeKey, node: u64) -> Way
         }
         Ordering::Equal => Way::Equal,
         Ordering::Greater => {
-            let LinksRead::Got(links) = links_at(t, node) else {
+            let Ok(links) = links_at(t, node) else {
                 return Way::Damaged;
             };
             let right = links.right;
@@ -182,14 +134,14 @@ fn way_at(t: &[Row], key: TreeKey, node: u64) -> Way
 }
 
 // Down from the root by the key. The loop of `Tree::contains`.
-fn look_for(t: &[Row], key: TreeKey, id: u64, root: Link) -> Contained
+fn look_for(t: &[Row], key: TreeKey, id: u64, root: Option<u64>) -> Result<bool, Damaged>
     ensures { result ≡ index.look_for index.max_path (table t.now) key id root }
 {
     let mut current = root;
     let mut room = MAX_PATH;
     while 0 < room {
-        let Link::Some(node) = current else {
-            return Contained::No;
+        let Some(node) = current else {
+            return Ok(false);
         };
         match way_at(t, key, node) {
             Way::Left(next) => {
@@ -202,30 +154,30 @@ fn look_for(t: &[Row], key: TreeKey, id: u64, root: Link) -> Contained
             }
             Way::Equal => {
                 if node == id {
-                    return Contained::Yes;
+                    return Ok(true);
                 }
-                return Contained::No;
+                return Ok(false);
             }
             Way::Damaged => {
-                return Contained::Damaged;
+                return Err(Damaged);
             }
         }
     }
-    Contained::Damaged
+    Err(Damaged)
 }
 
 // Whether the tree under a root holds a thread.
-pub fn contains_under(t: &[Row], root: Link, id: u64) -> Contained
-    ensures { contained_answer result ≡ contained_answer (index.contains (table t.now) root id) }
+pub fn contains_under(t: &[Row], root: Option<u64>, id: u64) -> Result<bool, Damaged>
+    ensures { or_damaged result ≡ or_damaged (index.contains (table t.now) root id) }
 {
-    let KeyRead::Got(key) = key_at(t, id) else {
-        return Contained::Damaged;
+    let Ok(key) = key_at(t, id) else {
+        return Err(Damaged);
     };
     look_for(t, key, id, root)
 }
 
 // Down from the root to where a key is to stand; each step is stored on the path. The loop of `insert_at`.
-fn walk(t: &[Row], path: &mut [PathStep], key: TreeKey, root: Link) -> Walked
+fn walk(t: &[Row], path: &mut [PathStep], key: TreeKey, root: Option<u64>) -> Result<usize, Damaged>
     ensures path_after { walk_of result path.new ≡ index.walk (length path.old)
         (table t.now) key root [] }
     ensures result_in_bounds { walk_steps result ≤ length path.new }
@@ -233,8 +185,8 @@ fn walk(t: &[Row], path: &mut [PathStep], key: TreeKey, root: Link) -> Walked
     let mut current = root;
     let mut len: usize = 0;
     while len < path.len() {
-        let Link::Some(parent) = current else {
-            return Walked::Bottom(len);
+        let Some(parent) = current else {
+            return Ok(len);
         };
         match way_at(t, key, parent) {
             Way::Left(next) => {
@@ -248,60 +200,66 @@ fn walk(t: &[Row], path: &mut [PathStep], key: TreeKey, root: Link) -> Walked
                 len += 1;
             }
             Way::Equal => {
-                return Walked::Damaged;
+                return Err(Damaged);
             }
             Way::Damaged => {
-                return Walked::Damaged;
+                return Err(Damaged);
             }
         }
     }
     match current {
-        Link::None => Walked::Bottom(len),
-        Link::Some(_) => Walked::Damaged,
+        None => Ok(len),
+        Some(_) => Err(Damaged),
     }
 }
 
 // One step up: the new subtree is hung under the node where the step led, and the node balanced. Its links are read
 // before the store and not again: a load that may or may not meet a store just made waits for it.
-fn rebuild_step(t: &mut [Row], step: [u64; 2], sub: Link) -> Turned
-    ensures t_after { out (turned_answer result) (table t.new)
-        ≡ answering turned_answer (index.rebuild_step (table t.old) (step_of step) sub) }
+fn rebuild_step(t: &mut [Row], step: [u64; 2], sub: Option<u64>) -> Result<u64, Damaged>
+    ensures t_after { out (or_damaged result) (table t.new)
+        ≡ answering or_damaged (index.rebuild_step (table t.old) (step_of step) sub) }
     ensures framed { Framed t.old t.new }
 {
     let parent = step[0];
-    let LinksRead::Got(links) = links_at(t, parent) else {
-        return Turned::Damaged;
+    let Ok(links) = links_at(t, parent) else {
+        return Err(Damaged);
     };
     let left = links.left;
     let right = links.right;
     if step[1] == 0 {
-        let Change::Made = set_left(t, parent, sub) else {
-            return Turned::Damaged;
+        let Ok(()) = set_left(t, parent, sub) else {
+            return Err(Damaged);
         };
         return rebalance(t, parent, sub, right);
     }
-    let Change::Made = set_right(t, parent, sub) else {
-        return Turned::Damaged;
+    let Ok(()) = set_right(t, parent, sub) else {
+        return Err(Damaged);
     };
     rebalance(t, parent, left, sub)
 }
 
 // The same answer made anew of its parts, so that it is stored part by part and read so: as a whole it could only be
 // read once the stores of its parts are through.
-fn by_parts(rooted: Rooted) -> Rooted
+fn by_parts(rooted: Result<Option<u64>, Damaged>) -> Result<Option<u64>, Damaged>
     ensures { result ≡ rooted }
 {
     match rooted {
-        Rooted::Root(link) => match link {
-            Link::None => Rooted::Root(Link::None),
-            Link::Some(id) => Rooted::Root(Link::Some(id)),
+        Ok(link) => match link {
+            None => Ok(None),
+            Some(id) => Ok(Some(id)),
         },
-        Rooted::Damaged => Rooted::Damaged,
+        Err(Damaged) => Err(Damaged),
     }
 }
 
 // Up along so many steps of the path, those from the row `start` on. After `rebuild`.
-fn rebuild(t: &mut [Row], path: &[PathStep], start: usize, steps: usize, subtree: Link) -> Rooted
+fn rebuild(
+    t: &mut [Row],
+    path: &[PathStep],
+    start: usize,
+    steps: usize,
+    subtree: Option<u64>,
+) -> Result<Option<u64>, Damaged>
     requires { start + steps ≤ length path.now }
     ensures t_after { out result (table t.new) ≡ index.rebuild (stack path.now start steps)
         (table t.old) subtree }
@@ -313,38 +271,49 @@ fn rebuild(t: &mut [Row], path: &[PathStep], start: usize, steps: usize, subtree
         len -= 1;
         let k = start + len;
         let step = path[k];
-        let Turned::Root(top) = rebuild_step(t, step, sub) else {
-            return Rooted::Damaged;
+        let Ok(top) = rebuild_step(t, step, sub) else {
+            return Err(Damaged);
         };
-        sub = Link::Some(top);
+        sub = Some(top);
     }
-    by_parts(Rooted::Root(sub))
+    by_parts(Ok(sub))
 }
 
 // Duplicates and overlong paths are refused before an existing record is changed. After `insert_at`.
-fn insert_at(t: &mut [Row], path: &mut [PathStep], key: TreeKey, root: Link, id: u64) -> Rooted
+fn insert_at(
+    t: &mut [Row],
+    path: &mut [PathStep],
+    key: TreeKey,
+    root: Option<u64>,
+    id: u64,
+) -> Result<Option<u64>, Damaged>
     ensures t_after { out result (table t.new) ≡ index.insert_at (table t.old)
         (length path.old) key root id }
     ensures framed { Framed t.old t.new }
 {
-    let Walked::Bottom(steps) = walk(t, path, key, root) else {
-        return Rooted::Damaged;
+    let Ok(steps) = walk(t, path, key, root) else {
+        return Err(Damaged);
     };
-    let Change::Made = set_links(t, id, Links::EMPTY) else {
-        return Rooted::Damaged;
+    let Ok(()) = set_links(t, id, Links::EMPTY) else {
+        return Err(Damaged);
     };
-    let rebuilt = rebuild(t, path, 0, steps, Link::Some(id));
+    let rebuilt = rebuild(t, path, 0, steps, Some(id));
     by_parts(rebuilt)
 }
 
 // A thread put into the tree under a root, by a path that is lent for the time of the call.
-pub fn insert_under(t: &mut [Row], path: &mut Path, root: Link, id: u64) -> Rooted
-    ensures t_after { out (rooted_answer result) (table t.new)
-        ≡ answering rooted_answer (index.insert (table t.old) root id) }
+pub fn insert_under(
+    t: &mut [Row],
+    path: &mut Path,
+    root: Option<u64>,
+    id: u64,
+) -> Result<Option<u64>, Damaged>
+    ensures t_after { out (or_damaged result) (table t.new)
+        ≡ answering or_damaged (index.insert (table t.old) root id) }
     ensures framed { Framed t.old t.new }
 {
-    let KeyRead::Got(key) = key_at(t, id) else {
-        return Rooted::Damaged;
+    let Ok(key) = key_at(t, id) else {
+        return Err(Damaged);
     };
     insert_at(t, path, key, root, id)
 }
@@ -353,10 +322,10 @@ pub fn insert_under(t: &mut [Row], path: &mut Path, root: Link, id: u64) -> Root
 fn sought_at(t: &[Row], key: TreeKey, id: u64, node: u64) -> Sought
     ensures { result ≡ index.sought_at (table t.now) key id node }
 {
-    let LinksRead::Got(links) = links_at(t, node) else {
+    let Ok(links) = links_at(t, node) else {
         return Sought::Damaged;
     };
-    let KeyRead::Got(other) = key_at(t, node) else {
+    let Ok(other) = key_at(t, node) else {
         return Sought::Damaged;
     };
     match compare_tree_keys(key, other) {
@@ -378,10 +347,10 @@ fn sought_at(t: &[Row], key: TreeKey, id: u64, node: u64) -> Sought
 }
 
 // The end of a search whose path is full: the thread stands here or is not found.
-fn last_sought(t: &[Row], key: TreeKey, id: u64, at: Link, steps: usize) -> Searched
+fn last_sought(t: &[Row], key: TreeKey, id: u64, at: Option<u64>, steps: usize) -> Searched
     ensures { result ≡ last_sought (table t.now) key id at steps }
 {
-    let Link::Some(node) = at else {
+    let Some(node) = at else {
         return Searched::Damaged;
     };
     match sought_at(t, key, id, node) {
@@ -393,7 +362,7 @@ fn last_sought(t: &[Row], key: TreeKey, id: u64, at: Link, steps: usize) -> Sear
 }
 
 // Down from the root to a thread; each step is stored on the path. The first loop of `remove_at`.
-fn search(t: &[Row], path: &mut [PathStep], key: TreeKey, id: u64, root: Link) -> Searched
+fn search(t: &[Row], path: &mut [PathStep], key: TreeKey, id: u64, root: Option<u64>) -> Searched
     ensures path_after { search_of result path.new ≡ index.search (length path.old)
         (table t.now) key id root [] }
     ensures result_in_bounds { search_steps result ≤ length path.new }
@@ -401,7 +370,7 @@ fn search(t: &[Row], path: &mut [PathStep], key: TreeKey, id: u64, root: Link) -
     let mut current = root;
     let mut len: usize = 0;
     while len < path.len() {
-        let Link::Some(parent) = current else {
+        let Some(parent) = current else {
             return Searched::Damaged;
         };
         match sought_at(t, key, id, parent) {
@@ -438,12 +407,12 @@ fn successor(t: &[Row], path: &mut [PathStep], start: usize, node: u64) -> Succe
     let mut id = node;
     let mut len: usize = 0;
     loop {
-        let LinksRead::Got(links) = links_at(t, id) else {
+        let Ok(links) = links_at(t, id) else {
             return Succeeded::Damaged;
         };
         let left = links.left;
         let right = links.right;
-        let Link::Some(next) = left else {
+        let Some(next) = left else {
             return Succeeded::Next {
                 steps: len,
                 id,
@@ -461,17 +430,17 @@ fn successor(t: &[Row], path: &mut [PathStep], start: usize, node: u64) -> Succe
 }
 
 // These links stored at a record, which is then balanced.
-fn store_balanced(t: &mut [Row], i: u64, links: Links) -> Rooted
+fn store_balanced(t: &mut [Row], i: u64, links: Links) -> Result<Option<u64>, Damaged>
     ensures t_after { out result (table t.new) ≡ index.store_balanced (table t.old) i links }
     ensures framed { Framed t.old t.new }
 {
-    let Change::Made = set_links(t, i, links) else {
-        return Rooted::Damaged;
+    let Ok(()) = set_links(t, i, links) else {
+        return Err(Damaged);
     };
-    let Turned::Root(top) = balance(t, i) else {
-        return Rooted::Damaged;
+    let Ok(top) = balance(t, i) else {
+        return Err(Damaged);
     };
-    Rooted::Root(Link::Some(top))
+    Ok(Some(top))
 }
 
 // A removed thread with two sides is replaced by its successor, whose own path is rebuilt first; that lies above the
@@ -482,7 +451,7 @@ fn replace_by_successor(
     steps: usize,
     left: u64,
     right: u64,
-) -> Rooted
+) -> Result<Option<u64>, Damaged>
     requires { steps ≤ length path.old }
     ensures t_after { out result (table t.new) ≡ index.replace_by_successor (table t.old)
         (length path.old - steps) left right }
@@ -495,16 +464,16 @@ fn replace_by_successor(
         right: rest,
     } = successor(t, path, steps, right)
     else {
-        return Rooted::Damaged;
+        return Err(Damaged);
     };
-    let Rooted::Root(sub) = rebuild(t, path, steps, more, rest) else {
-        return Rooted::Damaged;
+    let Ok(sub) = rebuild(t, path, steps, more, rest) else {
+        return Err(Damaged);
     };
     store_balanced(
         t,
         id,
         Links {
-            left: Link::Some(left),
+            left: Some(left),
             right: sub,
             height: 1,
         },
@@ -512,41 +481,59 @@ fn replace_by_successor(
 }
 
 // What takes the place of a removed thread with these links.
-fn replace(t: &mut [Row], path: &mut [PathStep], steps: usize, left: Link, right: Link) -> Rooted
+fn replace(
+    t: &mut [Row],
+    path: &mut [PathStep],
+    steps: usize,
+    left: Option<u64>,
+    right: Option<u64>,
+) -> Result<Option<u64>, Damaged>
     requires { steps ≤ length path.old }
     ensures t_after { out result (table t.new)
         ≡ index.replace (table t.old) (length path.old - steps) left right }
     ensures steps_unchanged { stack path.new 0 steps ≡ stack path.old 0 steps }
     ensures framed { Framed t.old t.new }
 {
-    let Link::Some(a) = left else {
-        return Rooted::Root(right);
+    let Some(a) = left else {
+        return Ok(right);
     };
-    let Link::Some(b) = right else {
-        return Rooted::Root(Link::Some(a));
+    let Some(b) = right else {
+        return Ok(Some(a));
     };
     replace_by_successor(t, path, steps, a, b)
 }
 
 // The path to a removed thread is rebuilt over what took its place, and the thread's own links are emptied last.
-fn rebuild_removed(t: &mut [Row], path: &[PathStep], steps: usize, sub: Link, id: u64) -> Rooted
+fn rebuild_removed(
+    t: &mut [Row],
+    path: &[PathStep],
+    steps: usize,
+    sub: Option<u64>,
+    id: u64,
+) -> Result<Option<u64>, Damaged>
     requires { steps ≤ length path.now }
     ensures t_after { out result (table t.new) ≡ index.rebuild_removed (table t.old)
         (stack path.now 0 steps) sub id }
     ensures framed { Framed t.old t.new }
 {
-    let Rooted::Root(top) = rebuild(t, path, 0, steps, sub) else {
-        return Rooted::Damaged;
+    let Ok(top) = rebuild(t, path, 0, steps, sub) else {
+        return Err(Damaged);
     };
     let emptied = Links::EMPTY;
-    let Change::Made = set_links(t, id, emptied) else {
-        return Rooted::Damaged;
+    let Ok(()) = set_links(t, id, emptied) else {
+        return Err(Damaged);
     };
-    by_parts(Rooted::Root(top))
+    by_parts(Ok(top))
 }
 
 // The thread that so many steps lead to is replaced, and the path to it rebuilt.
-fn remove_found(t: &mut [Row], path: &mut [PathStep], steps: usize, links: Links, id: u64) -> Rooted
+fn remove_found(
+    t: &mut [Row],
+    path: &mut [PathStep],
+    steps: usize,
+    links: Links,
+    id: u64,
+) -> Result<Option<u64>, Damaged>
     requires { steps ≤ length path.old }
     ensures t_after { out result (table t.new) ≡ index.remove_found (table t.old)
         (stack path.old 0 steps) links (length path.old - steps) id }
@@ -554,32 +541,43 @@ fn remove_found(t: &mut [Row], path: &mut [PathStep], steps: usize, links: Links
 {
     let left = links.left;
     let right = links.right;
-    let Rooted::Root(sub) = replace(t, path, steps, left, right) else {
-        return Rooted::Damaged;
+    let Ok(sub) = replace(t, path, steps, left, right) else {
+        return Err(Damaged);
     };
     rebuild_removed(t, path, steps, sub, id)
 }
 
 // After `remove_at`.
-fn remove_at(t: &mut [Row], path: &mut [PathStep], key: TreeKey, root: Link, id: u64) -> Rooted
+fn remove_at(
+    t: &mut [Row],
+    path: &mut [PathStep],
+    key: TreeKey,
+    root: Option<u64>,
+    id: u64,
+) -> Result<Option<u64>, Damaged>
     ensures t_after { out result (table t.new) ≡ index.remove_at (table t.old)
         (length path.old) key root id }
     ensures framed { Framed t.old t.new }
 {
     let Searched::Found { steps, links } = search(t, path, key, id, root) else {
-        return Rooted::Damaged;
+        return Err(Damaged);
     };
     remove_found(t, path, steps, links, id)
 }
 
 // A thread taken out of the tree under a root, by a path that is lent for the time of the call.
-pub fn remove_under(t: &mut [Row], path: &mut Path, root: Link, id: u64) -> Rooted
-    ensures t_after { out (rooted_answer result) (table t.new)
-        ≡ answering rooted_answer (index.remove (table t.old) root id) }
+pub fn remove_under(
+    t: &mut [Row],
+    path: &mut Path,
+    root: Option<u64>,
+    id: u64,
+) -> Result<Option<u64>, Damaged>
+    ensures t_after { out (or_damaged result) (table t.new)
+        ≡ answering or_damaged (index.remove (table t.old) root id) }
     ensures framed { Framed t.old t.new }
 {
-    let KeyRead::Got(key) = key_at(t, id) else {
-        return Rooted::Damaged;
+    let Ok(key) = key_at(t, id) else {
+        return Err(Damaged);
     };
     remove_at(t, path, key, root, id)
 }

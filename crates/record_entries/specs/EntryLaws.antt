@@ -1,103 +1,77 @@
 -- The laws by which the entries meet their contracts: an answer's value was stored, or its refusal's number is told.
-use Rattle.std.specs.Prelude.{ℕ, ◌%◌, ◌≡◌, List, [], ◌∷◌}
+use Rattle.std.specs.Prelude.{ℕ, ◌%◌, ◌≡◌, List, [], ◌∷◌, Option, Some, None, Result, Ok, Err}
 use Rattle.std.proofs.Math.Path.{refl, sym}
 use Rattle.std.proofs.Common.{◌∙◌, ap, ap₂}
-use Rattle.std.proofs.Math.Option.{Option, none, some}
 use Rattle.refusal.specs.declared.Refusal.{Refusal}
-use Rattle.refusal.specs.Answer.{Answer, number_of}
+use Rattle.refusal.specs.Answer.{Answer, number_of, by_number}
 use Rattle.refusal.specs.Cases.{choose, if_equal}
-use Rattle.time.specs.declared.Deadline.{Deadline}
 use Rattle.policy.specs.declared.BudgetParameters.{BudgetParameters}
-use Rattle.policy.specs.declared.BudgetMade.{BudgetMade}
-use Rattle.policy.specs.declared.BudgetMade.TheVariants as made
-use Rattle.policy.specs.declared.ParametersOption.{ParametersOption}
-use Rattle.policy.specs.declared.ParametersOption.TheVariants as parameters
-use Rattle.policy.specs.declared.PriorityOption.{PriorityOption}
-use Rattle.policy.specs.declared.PriorityOption.TheVariants as priority
 use Rattle.policy.specs.declared.SchedulingParameters.{SchedulingParameters}
 use Rattle.policy.specs.declared.SchedulingPolicy.{SchedulingPolicy}
 use Rattle.policy.specs.declared.SchedulingRole.{SchedulingRole}
 use Rattle.policy.specs.declared.SchedulingClass.{SchedulingClass}
 use Rattle.policy.specs.declared.FairBackend.{FairBackend}
-use Rattle.policy.specs.declared.BudgetOption.{BudgetOption}
 use Rattle.policy.specs.declared.ThreadPriority.{ThreadPriority}
 use Rattle.policy.specs.declared.ThreadWeight.{ThreadWeight}
-use Rattle.policy.specs.declared.WeightOption.{WeightOption}
-use Rattle.policy.specs.declared.WeightOption.TheVariants as weight
-use Rattle.policy.specs.Budget.{budget_made}
 use Rattle.policy.specs.Parameters.{new_weight, class_of, priority_of}
 use Rattle.algorithms.specs.declared.RuntimeKey.{RuntimeKey}
 use Rattle.budget.specs.declared.BudgetRuntime.{BudgetRuntime}
-use Rattle.budget.specs.declared.BudgetAnswer.{BudgetAnswer}
-use Rattle.budget.specs.declared.BudgetAnswer.TheVariants as budget
-use Rattle.budget.specs.declared.DeadlineAnswer.{DeadlineAnswer}
-use Rattle.budget.specs.declared.DeadlineAnswer.TheVariants as deadline
-use Rattle.budget.specs.declared.BudgetDeadline.{BudgetDeadline}
-use Rattle.budget.specs.declared.BudgetDeadline.TheVariants as both
-use Rattle.budget.specs.declared.Reconfigured.{Reconfigured}
-use Rattle.budget.specs.declared.Reconfigured.TheVariants as reconfigured
-use Rattle.budget.specs.Answers.{budget_answer, deadline_answer, budget_deadline, reconfigured_answer}
 use Rattle.algorithms.specs.declared.PolicyRuntime.{PolicyRuntime}
-use Rattle.algorithms.specs.declared.RuntimeAnswer.{RuntimeAnswer}
-use Rattle.algorithms.specs.declared.RuntimeAnswer.TheVariants as runtime
-use Rattle.algorithms.specs.declared.RuntimeDeadline.{RuntimeDeadline}
-use Rattle.algorithms.specs.declared.RuntimeDeadline.TheVariants as due
-use Rattle.algorithms.specs.Answers.{runtime_answer, runtime_deadline}
 use Rattle.policy_words.specs.PolicyWords.{word, epoch_from, policy_from, role_from, backend_from, budget_from}
 use Rattle.policy_words.specs.PolicyWords.{parameters_of}
 use Rattle.record_entries.specs.RecordWords.{budget_of, budget_runtime_of, runtime_option_of, runtime_key_of}
 use Rattle.record_entries.specs.RecordWords.{priority_option_of, class_number, weight_number}
 use Rattle.record_entries.specs.Entries.{Told, told, told_of, parameters_told}
 
-module _ (before : BudgetParameters) {x : BudgetMade} {z : Answer BudgetParameters} where
-  pub budget_made_lem : {b : BudgetParameters} (ns period burst : ℕ) → budget_made x ≡ z → x ≡ made.Made b
+module _ (before : BudgetParameters) {x : Result BudgetParameters Refusal} {z : Answer BudgetParameters} where
+  pub budget_made_lem : {b : BudgetParameters} (ns period burst : ℕ) → by_number x ≡ z → x ≡ Ok b
       → ns ≡ b.budget_ns → period ≡ b.period_ns → burst ≡ b.burst_ns
       → told 0 (budget_of (ns ∷ period ∷ burst ∷ [])) ≡ told_of before z
   unfolding told_of budget_of
   budget_made_lem ns period burst h e e₁ e₂ e₃ = rw (sym h, e, e₁, e₂, e₃) refl
 
-  pub budget_not_made : {r : Refusal} (n : ℕ) → budget_made x ≡ z → x ≡ made.Refused r → n ≡ number_of r
+  pub budget_not_made : {r : Refusal} (n : ℕ) → by_number x ≡ z → x ≡ Err r → n ≡ number_of r
       → told n before ≡ told_of before z
   unfolding told_of
   budget_not_made n h e f = rw (sym h, e, f) refl
 
-module _ {p : PriorityOption} where
-  pub priority_words : {x : ThreadPriority} (n : ℕ) {m : ℕ} → p ≡ priority.Some x → m ≡ x.0 → n % 256 ≡ m
+module _ {p : Option ThreadPriority} where
+  pub priority_words : {x : ThreadPriority} (n : ℕ) {m : ℕ} → p ≡ Some x → m ≡ x.0 → n % 256 ≡ m
       → priority_option_of (1 ∷ n ∷ []) ≡ p
   unfolding priority_option_of if_equal choose
   priority_words n h e f = rw (h, f, e) refl
 
-  pub no_priority_words : p ≡ priority.None → priority_option_of (0 ∷ 0 ∷ []) ≡ p
+  pub no_priority_words : p ≡ None → priority_option_of (0 ∷ 0 ∷ []) ≡ p
   unfolding priority_option_of if_equal choose
   no_priority_words h = sym h
 
-pub policy_told : (tag priority : ℕ) (q : SchedulingPolicy) (k : SchedulingClass) {n : ℕ} {o a : PriorityOption}
+pub policy_told : (tag priority : ℕ) (q : SchedulingPolicy) (k : SchedulingClass) {n : ℕ} {o a : Option ThreadPriority}
     → q ≡ policy_from tag priority → o ≡ priority_of q → a ≡ o → k ≡ class_of q → n ≡ class_number k
     → told n a ≡ told (class_number (class_of (policy_from tag priority))) (priority_of (policy_from tag priority))
 policy_told tag priority q k e₁ e₃ e₄ e₅ e₆ = rw (sym e₁, e₄, e₃, e₆, e₅) refl
 
-module _ {x : WeightOption} (n : ℕ) {r : ℕ} where
-  pub weight_made : {w : ThreadWeight} → x ≡ new_weight n → x ≡ weight.Some w → r ≡ w.0
+module _ {x : Option ThreadWeight} (n : ℕ) {r : ℕ} where
+  pub weight_made : {w : ThreadWeight} → x ≡ new_weight n → x ≡ Some w → r ≡ w.0
       → r ≡ weight_number (new_weight n)
   weight_made e m h = rw (sym e, m) h
 
-  pub no_weight : x ≡ new_weight n → x ≡ weight.None → r ≡ 0 → r ≡ weight_number (new_weight n)
+  pub no_weight : x ≡ new_weight n → x ≡ None → r ≡ 0 → r ≡ weight_number (new_weight n)
   no_weight e m h = rw (sym e, m) h
 
-module _ (before : SchedulingParameters) {x : ParametersOption} where
-  pub parameters_made : {q after : SchedulingParameters} → x ≡ parameters.Some q → after ≡ q
+module _ (before : SchedulingParameters) {x : Option SchedulingParameters} where
+  pub parameters_made : {q after : SchedulingParameters} → x ≡ Some q → after ≡ q
       → told 1 after ≡ parameters_told before x
   unfolding parameters_told
   parameters_made e h = rw (e, h) refl
 
-  pub no_parameters : x ≡ parameters.None → told 0 before ≡ parameters_told before x
+  pub no_parameters : x ≡ None → told 0 before ≡ parameters_told before x
   unfolding parameters_told
   no_parameters e = rw e refl
 
 -- The readers give the parts, and each part's words stand for it.
 pub readers_words : (p : SchedulingParameters) (a b : List ℕ) (band role weight quantum backend : ℕ)
     {q : SchedulingPolicy} {x : ThreadPriority} {r : SchedulingRole} {w : ThreadWeight} {f : FairBackend}
-    {o : BudgetOption}
+    {o : Option BudgetParameters}
     → policy_from (word a 0) (word a 1) ≡ q → q ≡ p.policy
     → band % 256 ≡ x.0 → x ≡ p.band
     → role_from role ≡ r → r ≡ p.role
@@ -121,75 +95,75 @@ pub runtime_key_words : (k : RuntimeKey) → runtime_key_of (k.pass.high ∷ k.p
 unfolding runtime_key_of
 runtime_key_words k = refl
 
-module _ (before : BudgetRuntime) {x : BudgetAnswer} where
-  pub budget_stored_lem : {b after : BudgetRuntime} → x ≡ budget.Runtime b → after ≡ b
-      → told 0 after ≡ told_of before (budget_answer x)
+module _ (before : BudgetRuntime) {x : Result BudgetRuntime Refusal} where
+  pub budget_stored_lem : {b after : BudgetRuntime} → x ≡ Ok b → after ≡ b
+      → told 0 after ≡ told_of before (by_number x)
   unfolding told_of
   budget_stored_lem e h = rw (e, h) refl
 
-  pub budget_refused : {r : Refusal} (n : ℕ) → x ≡ budget.Refused r → n ≡ number_of r
-      → told n before ≡ told_of before (budget_answer x)
+  pub budget_refused : {r : Refusal} (n : ℕ) → x ≡ Err r → n ≡ number_of r
+      → told n before ≡ told_of before (by_number x)
   unfolding told_of
   budget_refused n e h = rw (e, h) refl
 
-module _ (before : Deadline) {x : DeadlineAnswer} where
-  pub deadline_stored : {d after : Deadline} → x ≡ deadline.Deadline d → after ≡ d
-      → told 0 after ≡ told_of before (deadline_answer x)
+module _ (before : Option ℕ) {x : Result (Option ℕ) Refusal} where
+  pub deadline_stored : {d after : Option ℕ} → x ≡ Ok d → after ≡ d
+      → told 0 after ≡ told_of before (by_number x)
   unfolding told_of
   deadline_stored e h = rw (e, h) refl
 
-  pub deadline_refused : {r : Refusal} (n : ℕ) → x ≡ deadline.Refused r → n ≡ number_of r
-      → told n before ≡ told_of before (deadline_answer x)
+  pub deadline_refused : {r : Refusal} (n : ℕ) → x ≡ Err r → n ≡ number_of r
+      → told n before ≡ told_of before (by_number x)
   unfolding told_of
   deadline_refused n e h = rw (e, h) refl
 
-module _ (before : BudgetRuntime × Deadline) {x : BudgetDeadline} where
-  pub both_stored : {b after : BudgetRuntime} {d end : Deadline} → x ≡ both.Deadline b d → after ≡ b → end ≡ d
-      → told 0 (after, end) ≡ told_of before (budget_deadline x)
+module _ (before : BudgetRuntime × Option ℕ) {x : Result (BudgetRuntime × Option ℕ) Refusal} where
+  pub both_stored : {b after : BudgetRuntime} {d end : Option ℕ} → x ≡ Ok (b, d) → after ≡ b → end ≡ d
+      → told 0 (after, end) ≡ told_of before (by_number x)
   unfolding told_of
   both_stored e f g = rw (e, f, g) refl
 
-  pub both_refused : {r : Refusal} (n : ℕ) → x ≡ both.Refused r → n ≡ number_of r
-      → told n before ≡ told_of before (budget_deadline x)
+  pub both_refused : {r : Refusal} (n : ℕ) → x ≡ Err r → n ≡ number_of r
+      → told n before ≡ told_of before (by_number x)
   unfolding told_of
   both_refused n e h = rw (e, h) refl
 
-module _ (before : Option BudgetRuntime) {x : Reconfigured} where
-  pub changed : {b : BudgetRuntime} (a : List ℕ) → x ≡ reconfigured.Changed b → budget_runtime_of a ≡ b
+module _ (before : Option BudgetRuntime) {x : Result (Option BudgetRuntime) Refusal} where
+  pub changed : {b : BudgetRuntime} (a : List ℕ) → x ≡ Ok (Some b) → budget_runtime_of a ≡ b
       → told 0 (runtime_option_of (word a 0 ∷ word a 1 ∷ word a 2 ∷ word a 3 ∷ 1 ∷ []))
-      ≡ told_of before (reconfigured_answer x)
+      ≡ told_of before (by_number x)
   unfolding told_of runtime_option_of budget_runtime_of if_equal choose
   changed a e h = rw (e, sym h) refl
 
-  pub other_period : x ≡ reconfigured.OtherPeriod
-      → told 0 (runtime_option_of (0 ∷ 0 ∷ 0 ∷ 0 ∷ 0 ∷ [])) ≡ told_of before (reconfigured_answer x)
+  pub other_period : x ≡ (Ok None)
+      → told 0 (runtime_option_of (0 ∷ 0 ∷ 0 ∷ 0 ∷ 0 ∷ [])) ≡ told_of before (by_number x)
   unfolding told_of runtime_option_of if_equal choose
   other_period e = rw e refl
 
-  pub not_reconfigured : {r : Refusal} (n : ℕ) → x ≡ reconfigured.Refused r → n ≡ number_of r
-      → told n before ≡ told_of before (reconfigured_answer x)
+  pub not_reconfigured : {r : Refusal} (n : ℕ) → x ≡ Err r → n ≡ number_of r
+      → told n before ≡ told_of before (by_number x)
   unfolding told_of
   not_reconfigured n e h = rw (e, h) refl
 
-module _ (before : PolicyRuntime) {x : RuntimeAnswer} where
-  pub runtime_stored_lem : {a after : PolicyRuntime} → x ≡ runtime.Runtime a → after ≡ a
-      → told 0 after ≡ told_of before (runtime_answer x)
+module _ (before : PolicyRuntime) {x : Result PolicyRuntime Refusal} where
+  pub runtime_stored_lem : {a after : PolicyRuntime} → x ≡ Ok a → after ≡ a
+      → told 0 after ≡ told_of before (by_number x)
   unfolding told_of
   runtime_stored_lem e h = rw (e, h) refl
 
-  pub runtime_refused : {r : Refusal} (n : ℕ) → x ≡ runtime.Refused r → n ≡ number_of r
-      → told n before ≡ told_of before (runtime_answer x)
+  pub runtime_refused : {r : Refusal} (n : ℕ) → x ≡ Err r → n ≡ number_of r
+      → told n before ≡ told_of before (by_number x)
   unfolding told_of
   runtime_refused n e h = rw (e, h) refl
 
-module _ (before : PolicyRuntime × Deadline) {x : RuntimeDeadline} where
-  pub due_stored : {a after : PolicyRuntime} {d end : Deadline} → x ≡ due.Deadline a d → after ≡ a → end ≡ d
-      → told 0 (after, end) ≡ told_of before (runtime_deadline x)
+module _ (before : PolicyRuntime × Option ℕ) {x : Result (PolicyRuntime × Option ℕ) Refusal} where
+  pub due_stored : {a after : PolicyRuntime} {d end : Option ℕ} → x ≡ Ok (a, d) → after ≡ a → end ≡ d
+      → told 0 (after, end) ≡ told_of before (by_number x)
   unfolding told_of
   due_stored e f g = rw (e, f, g) refl
 
-  pub due_refused : {r : Refusal} (n : ℕ) → x ≡ due.Refused r → n ≡ number_of r
-      → told n before ≡ told_of before (runtime_deadline x)
+  pub due_refused : {r : Refusal} (n : ℕ) → x ≡ Err r → n ≡ number_of r
+      → told n before ≡ told_of before (by_number x)
   unfolding told_of
   due_refused n e h = rw (e, h) refl
 
@@ -246,6 +220,6 @@ pub told_by : {A : Type 0} {y : Told A} {x z : Answer A} (before : A) → y ≡ 
     → y ≡ told_of before z
 told_by before h e = h ∙ ap (told_of before) e
 
-pub parameters_by : {y : Told SchedulingParameters} {x z : ParametersOption} (before : SchedulingParameters)
+pub parameters_by : {y : Told SchedulingParameters} {x z : Option SchedulingParameters} (before : SchedulingParameters)
     → y ≡ parameters_told before x → x ≡ z → y ≡ parameters_told before z
 parameters_by before h e = h ∙ ap (parameters_told before) e

@@ -1,19 +1,16 @@
 -- What the words of a budget, of its runtime and of the answers about parameters and runtimes stand for.
-use Rattle.std.specs.Prelude.{ℕ, ◌%◌, List, [], ◌∷◌}
-use Rattle.std.proofs.Math.Option.{Option, none, some}
+use Rattle.std.specs.Prelude.{ℕ, ◌%◌, List, [], ◌∷◌, Option, Some, None}
 use Rattle.refusal.specs.Cases.{if_equal}
 use Rattle.policy.specs.declared.BudgetParameters.{BudgetParameters}
-use Rattle.policy.specs.declared.PriorityOption.{PriorityOption}
-use Rattle.policy.specs.declared.PriorityOption.TheVariants as priority
 use Rattle.policy.specs.declared.SchedulingPolicy.{SchedulingPolicy}
 use Rattle.policy.specs.declared.SchedulingClass.{SchedulingClass}
 use Rattle.policy.specs.declared.SchedulingClass.TheVariants as class
-use Rattle.policy.specs.declared.WeightOption.{WeightOption}
-use Rattle.policy.specs.declared.WeightOption.TheVariants as weight
 use Rattle.budget.specs.declared.BudgetRuntime.{BudgetRuntime}
 use Rattle.algorithms.specs.declared.PolicyRuntime.{PolicyRuntime}
 use Rattle.algorithms.specs.declared.RuntimeKey.{RuntimeKey}
 use Rattle.policy_words.specs.PolicyWords.{word, policy_tag, fifo_priority, epoch_from, policy_from, runtime_from}
+use Rattle.policy.specs.declared.ThreadPriority.{ThreadPriority}
+use Rattle.policy.specs.declared.ThreadWeight.{ThreadWeight}
 
 -- Budget, period and burst.
 abbrev pub budget_ns_word : ℕ
@@ -59,7 +56,7 @@ budget_runtime_of w =
 
 -- A budget's runtime, or none.
 unfoldable pub runtime_option_of : List ℕ → Option BudgetRuntime
-runtime_option_of w = if_equal (word w runtime_there) 0 none (some (budget_runtime_of w))
+runtime_option_of w = if_equal (word w runtime_there) 0 None (Some (budget_runtime_of w))
 
 -- A policy's tag and its priority.
 abbrev pub policy_of : List ℕ → SchedulingPolicy
@@ -74,8 +71,8 @@ unfoldable pub runtime_key_of : List ℕ → RuntimeKey
 runtime_key_of w = record { pass = record { high = word w 0; low = word w 1 }; turn = word w 2 }
 
 -- 0 none, else the priority.
-unfoldable pub priority_option_of : List ℕ → PriorityOption
-priority_option_of w = if_equal (word w 0) 0 priority.None (priority.Some (record { 0 = word w 1 % 256 }))
+unfoldable pub priority_option_of : List ℕ → Option ThreadPriority
+priority_option_of w = if_equal (word w 0) 0 None (Some (record { 0 = word w 1 % 256 }))
 
 abbrev pub class_number : SchedulingClass → ℕ
 class_number class.RealTime = 0
@@ -84,9 +81,9 @@ class_number class.Budget = 2
 class_number class.Idle = 3
 
 -- 0 where there is none.
-abbrev pub weight_number : WeightOption → ℕ
-weight_number (weight.Some w) = w.0
-weight_number weight.None = 0
+abbrev pub weight_number : Option ThreadWeight → ℕ
+weight_number (Some w) = w.0
+weight_number None = 0
 
 -- `ThreadPriority::HIGHEST`, `NORMAL` and `LOWEST`, `ThreadWeight::DEFAULT` and `MAX`,
 -- `BudgetParameters::MAX_PERIOD_NS`.

@@ -4,26 +4,23 @@
 #![tactic(auto)]
 
 ghost use Rattle.std.specs.Prelude.{◌≡◌, ◌≢◌};
+ghost use Rattle.refusal.specs.Answer.{by_number};
 ghost use Rattle.policy_words.specs.PolicyWords.{word, parameters_of, runtime_of, policy_from, role_from, backend_from};
 ghost use Rattle.policy_words.specs.PolicyWords.{deadline_of};
-ghost use Rattle.policy.specs.Budget.{new_budget, budget_made};
+ghost use Rattle.policy.specs.Budget.{new_budget};
 ghost use Rattle.policy.specs.Parameters.{new_weight, new_fair, of_budget, of_fifo, of_idle, class_of, priority_of};
-ghost use Rattle.budget.specs.Answers.{budget_answer, deadline_answer, budget_deadline, reconfigured_answer};
 ghost use Rattle.budget.specs.Runtime as budgets;
-ghost use Rattle.algorithms.specs.Answers.{runtime_answer, runtime_deadline};
 ghost use Rattle.algorithms.specs.Runtime as runtimes;
 ghost use Rattle.record_entries.specs.RecordWords.{budget_of, budget_runtime_of, runtime_option_of, policy_of};
 ghost use Rattle.record_entries.specs.RecordWords.{policy_runtime_of, runtime_key_of, priority_option_of, class_number};
 ghost use Rattle.record_entries.specs.RecordWords.{weight_number, constants};
 ghost use Rattle.record_entries.specs.Entries.{told, told_of, parameters_told};
 
-use algorithms::{
-    FairRuntime, PolicyRuntime, RuntimeAnswer, RuntimeDeadline, RuntimeKey, Wide, same_kind,
-};
-use budget::{BudgetAnswer, BudgetDeadline, BudgetRuntime, DeadlineAnswer, Reconfigured};
+use algorithms::{FairRuntime, PolicyRuntime, RuntimeKey, Wide, same_kind};
+use budget::BudgetRuntime;
 use policy::{
-    BudgetMade, BudgetParameters, ParametersOption, PriorityOption, SchedulingClass,
-    SchedulingParameters, SchedulingPolicy, ThreadPriority, ThreadWeight, WeightOption,
+    BudgetParameters, SchedulingClass, SchedulingParameters, SchedulingPolicy, ThreadPriority,
+    ThreadWeight,
 };
 use policy_words::{
     DeadlineWords, FIFO_PRIORITY, POLICY_TAG, ParameterWords, PolicyRuntimeWords, Row,
@@ -31,6 +28,7 @@ use policy_words::{
     word_of_byte, word_of_half, word_of_role, words_of_budget, words_of_deadline, words_of_epoch,
     words_of_parameters, words_of_policy, words_of_runtime,
 };
+use refusal::Refusal;
 
 // A budget's parameters, and its runtime.
 pub const BUDGET_WORDS: usize = 3;
@@ -74,11 +72,11 @@ pub extern "C" fn budget_parameters_new(
 {
     let made = BudgetParameters::new(budget_ns, period_ns, burst_ns);
     match made {
-        BudgetMade::Made(budget) => {
+        Ok(budget) => {
             *answer = [budget.budget_ns(), budget.period_ns(), budget.burst_ns()];
             0
         }
-        BudgetMade::Refused(refusal) => refusal.number(),
+        Err(refusal) => refusal.number(),
     }
 }
 
@@ -89,8 +87,8 @@ pub extern "C" fn thread_weight_new(value: u16) -> u16
 {
     let made = ThreadWeight::new(value);
     match made {
-        WeightOption::Some(weight) => weight.get(),
-        WeightOption::None => 0,
+        Some(weight) => weight.get(),
+        None => 0,
     }
 }
 
@@ -151,12 +149,12 @@ pub extern "C" fn policy_class_and_priority(tag: u64, priority: u64, answer: &mu
     number_of_class(policy.class())
 }
 
-fn words_of_priority(priority: PriorityOption) -> PairWords
+fn words_of_priority(priority: Option<ThreadPriority>) -> PairWords
     ensures { priority_option_of result ≡ priority }
 {
     match priority {
-        PriorityOption::Some(number) => [1, word_of_byte(number.get())],
-        PriorityOption::None => [0, 0],
+        Some(number) => [1, word_of_byte(number.get())],
+        None => [0, 0],
     }
 }
 
@@ -194,16 +192,16 @@ pub extern "C" fn parameters_fair(
     store_parameters(answer, made)
 }
 
-fn store_parameters(answer: &mut ParameterWords, made: ParametersOption) -> u64
+fn store_parameters(answer: &mut ParameterWords, made: Option<SchedulingParameters>) -> u64
     ensures { told result (parameters_of answer.new)
         ≡ parameters_told (parameters_of answer.old) made }
 {
     match made {
-        ParametersOption::Some(parameters) => {
+        Some(parameters) => {
             *answer = words_of_parameters(parameters);
             1
         }
-        ParametersOption::None => 0,
+        None => 0,
     }
 }
 
@@ -313,31 +311,31 @@ fn words_of_budget_runtime(runtime: BudgetRuntime) -> RuntimeWords
     ]
 }
 
-fn store_budget_runtime(runtime: &mut RuntimeWords, answer: BudgetAnswer) -> u64
+fn store_budget_runtime(runtime: &mut RuntimeWords, answer: Result<BudgetRuntime, Refusal>) -> u64
     ensures runtime_after { told result (budget_runtime_of runtime.new) ≡ told_of (budget_runtime_of runtime.old)
-        (budget_answer answer) }
+        (by_number answer) }
     ensures runtime_unchanged { result ≢ 0 → runtime.new ≡ runtime.old }
 {
     match answer {
-        BudgetAnswer::Runtime(after) => {
+        Ok(after) => {
             *runtime = words_of_budget_runtime(after);
             0
         }
-        BudgetAnswer::Refused(refusal) => refusal.number(),
+        Err(refusal) => refusal.number(),
     }
 }
 
-fn store_deadline(answer: &mut DeadlineWords, given: DeadlineAnswer) -> u64
+fn store_deadline(answer: &mut DeadlineWords, given: Result<Option<u64>, Refusal>) -> u64
     ensures answer_after { told result (deadline_of answer.new) ≡ told_of (deadline_of answer.old)
-        (deadline_answer given) }
+        (by_number given) }
     ensures answer_unchanged { result ≢ 0 → answer.new ≡ answer.old }
 {
     match given {
-        DeadlineAnswer::Deadline(deadline) => {
+        Ok(deadline) => {
             *answer = words_of_deadline(deadline);
             0
         }
-        DeadlineAnswer::Refused(refusal) => refusal.number(),
+        Err(refusal) => refusal.number(),
     }
 }
 
@@ -410,23 +408,24 @@ pub extern "C" fn budget_period_deadline(
     store_deadline(answer, given)
 }
 
+#[tactic(auto, using(crate::specs::EntryLaws::entries), unfolding(crate::specs::Entries::told_of))]
 fn store_budget_deadline(
     runtime: &mut RuntimeWords,
     answer: &mut DeadlineWords,
-    given: BudgetDeadline,
+    given: Result<(BudgetRuntime, Option<u64>), Refusal>,
 ) -> u64
     ensures answer_after { told result (budget_runtime_of runtime.new, deadline_of answer.new)
-        ≡ told_of (budget_runtime_of runtime.old, deadline_of answer.old) (budget_deadline given) }
+        ≡ told_of (budget_runtime_of runtime.old, deadline_of answer.old) (by_number given) }
     ensures runtime_unchanged { result ≢ 0 → runtime.new ≡ runtime.old }
     ensures answer_unchanged { result ≢ 0 → answer.new ≡ answer.old }
 {
     match given {
-        BudgetDeadline::Deadline(after, deadline) => {
+        Ok((after, deadline)) => {
             *runtime = words_of_budget_runtime(after);
             *answer = words_of_deadline(deadline);
             0
         }
-        BudgetDeadline::Refused(refusal) => refusal.number(),
+        Err(refusal) => refusal.number(),
     }
 }
 
@@ -467,36 +466,46 @@ pub extern "C" fn budget_reconfigure(
     store_reconfigured(answer, given)
 }
 
-fn store_reconfigured(answer: &mut PolicyRuntimeWords, given: Reconfigured) -> u64
+#[tactic(auto,
+// The laws, and the definitions that are opened.
+using(crate::specs::EntryLaws::entries), unfolding(crate::specs::Entries::told_of,
+// And what those rest on.
+crate::specs::RecordWords::runtime_option_of, crate::specs::RecordWords::budget_runtime_of,
+// And so on.
+refusal::specs::Cases::if_equal, refusal::specs::Cases::choose))]
+fn store_reconfigured(
+    answer: &mut PolicyRuntimeWords,
+    given: Result<Option<BudgetRuntime>, Refusal>,
+) -> u64
     ensures answer_after { told result (runtime_option_of answer.new) ≡ told_of (runtime_option_of answer.old)
-        (reconfigured_answer given) }
+        (by_number given) }
     ensures answer_unchanged { result ≢ 0 → answer.new ≡ answer.old }
 {
     match given {
-        Reconfigured::Changed(runtime) => {
+        Ok(Some(runtime)) => {
             let w = words_of_budget_runtime(runtime);
             *answer = [w[EPOCH_TAG], w[EPOCH], w[TIME_LEFT], w[BURST_LEFT], 1];
             0
         }
-        Reconfigured::OtherPeriod => {
+        Ok(None) => {
             *answer = [0, 0, 0, 0, 0];
             0
         }
-        Reconfigured::Refused(refusal) => refusal.number(),
+        Err(refusal) => refusal.number(),
     }
 }
 
-fn store_runtime(answer: &mut PolicyRuntimeWords, given: RuntimeAnswer) -> u64
+fn store_runtime(answer: &mut PolicyRuntimeWords, given: Result<PolicyRuntime, Refusal>) -> u64
     ensures answer_after { told result (policy_runtime_of answer.new) ≡ told_of (policy_runtime_of answer.old)
-        (runtime_answer given) }
+        (by_number given) }
     ensures answer_unchanged { result ≢ 0 → answer.new ≡ answer.old }
 {
     match given {
-        RuntimeAnswer::Runtime(runtime) => {
+        Ok(runtime) => {
             *answer = words_of_runtime(runtime);
             0
         }
-        RuntimeAnswer::Refused(refusal) => refusal.number(),
+        Err(refusal) => refusal.number(),
     }
 }
 
@@ -596,23 +605,24 @@ pub extern "C" fn runtime_same_kind(row: &Row) -> bool
     )
 }
 
+#[tactic(auto, using(crate::specs::EntryLaws::entries), unfolding(crate::specs::Entries::told_of))]
 fn store_runtime_deadline(
     after: &mut PolicyRuntimeWords,
     answer: &mut DeadlineWords,
-    given: RuntimeDeadline,
+    given: Result<(PolicyRuntime, Option<u64>), Refusal>,
 ) -> u64
     ensures answer_after { told result (policy_runtime_of after.new, deadline_of answer.new)
-        ≡ told_of (policy_runtime_of after.old, deadline_of answer.old) (runtime_deadline given) }
+        ≡ told_of (policy_runtime_of after.old, deadline_of answer.old) (by_number given) }
     ensures after_unchanged { result ≢ 0 → after.new ≡ after.old }
     ensures answer_unchanged { result ≢ 0 → answer.new ≡ answer.old }
 {
     match given {
-        RuntimeDeadline::Deadline(runtime, deadline) => {
+        Ok((runtime, deadline)) => {
             *after = words_of_runtime(runtime);
             *answer = words_of_deadline(deadline);
             0
         }
-        RuntimeDeadline::Refused(refusal) => refusal.number(),
+        Err(refusal) => refusal.number(),
     }
 }
 

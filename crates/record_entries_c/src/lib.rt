@@ -2,11 +2,11 @@
 #![tactic(auto)]
 
 ghost use Rattle.std.specs.Prelude.{◌≡◌, ◌≢◌};
+ghost use Rattle.refusal.specs.Answer.{by_number};
 ghost use Rattle.policy_words.specs.PolicyWords.{parameters_of, runtime_of, policy_from, role_from, backend_from};
 ghost use Rattle.policy_words.specs.PolicyWords.{deadline_of};
 ghost use Rattle.policy.specs.Budget.{new_budget};
 ghost use Rattle.policy.specs.Parameters.{new_weight, new_fair, of_budget, of_fifo, of_idle, class_of, priority_of};
-ghost use Rattle.budget.specs.Answers.{budget_deadline};
 ghost use Rattle.budget.specs.Runtime as budgets;
 ghost use Rattle.algorithms.specs.Runtime as runtimes;
 ghost use Rattle.record_entries.specs.RecordWords.{budget_of, budget_runtime_of, runtime_option_of, policy_of};

@@ -5,45 +5,40 @@
 #![tactic(auto)]
 
 ghost use Rattle.std.specs.Prelude.{◌<◌, true, false, ◌≡◌, length, take, drop};
-ghost use Rattle.refusal.specs.Answer.{refused, bad_table};
-ghost use Rattle.arbitration.specs.Answers.{verdict_of, window_step};
+ghost use Rattle.refusal.specs.Answer.{refused, bad_table, by_number};
+ghost use Rattle.arbitration.specs.Answers.{window_step};
 ghost use Rattle.arbitration.specs.Calls.{with};
 ghost use Rattle.rows.specs.Table.{table, out};
 ghost use Rattle.rows.specs.Unmoved.{Spared};
 ghost use Rattle.queue.specs.Queue.{step, enqueue_call, remove_call};
-ghost use Rattle.queue.specs.Answers.{verdict_answer};
 ghost use Rattle.lent_queue.specs.LentQueue.{queue_of};
 ghost use Rattle.lent_queue.specs.Frame.{QueueFramed};
 ghost use Rattle.lent_selection.specs.Early.{Early};
 ghost use Rattle.selection.specs.Peek.{peeked, peek_next};
-ghost use Rattle.selection.specs.Answers.{peek_answer};
 ghost use Rattle.runtime.specs.Prepare.{counted, prepare_enqueue};
 ghost use Rattle.runtime.specs.Account.{account_current, finish_turn};
 ghost use Rattle.runtime.specs.Answers.{prepared_answer};
 ghost use Rattle.records.specs.Lent.{within, used};
 
-use arbitration::{CpuWindow, DispatchMode, WindowStep};
+use arbitration::{Candidate, CpuWindow, DispatchMode, WindowStep};
 use codec::{Row, decode, encode};
 use decisions::Turns;
-use demands::CandidateOption;
 use lent_queue::{QueueRows, enqueue_lent, remove_lent};
 use lent_selection::peek_lent;
-use queue::Verdict;
 use ready_index::Path;
 use refusal::Refusal;
 use runtime::Prepared;
-use selection::{PeekAnswer, WindowPeek};
+use selection::WindowPeek;
 use thread::{CpuIndex, ThreadId, ThreadRecord};
 
+// (By an index, here and below: what a loop over a `zip` with `iter_mut` leaves in a slice, std's contracts do not say,
+// and no proof closes.)
 fn to_rows(t: &[ThreadRecord], rows: &mut [Row])
     requires { length rows.old ≡ length t.now }
     ensures { table rows.new ≡ t.now }
 {
-    let n = t.len();
-    let mut i = 0;
-    while i < n {
-        rows[i] = encode(t[i]);
-        i = i + 1;
+    for (i, row) in rows.iter_mut().enumerate() {
+        *row = encode(t[i]);
     }
 }
 
@@ -51,11 +46,8 @@ fn from_rows(t: &mut [ThreadRecord], rows: &[Row])
     requires { length rows.now ≡ length t.old }
     ensures { t.new ≡ table rows.now }
 {
-    let n = t.len();
-    let mut i = 0;
-    while i < n {
-        t[i] = decode(rows[i]);
-        i = i + 1;
+    for (i, record) in t.iter_mut().enumerate() {
+        *record = decode(rows[i]);
     }
 }
 
@@ -68,21 +60,21 @@ fn insert(
     id: ThreadId,
     cpu: CpuIndex,
     front: bool,
-) -> Verdict
-    ensures t_after { out (step (verdict_answer result) (queue_of q.new)) t.new
+) -> Result<(), Refusal>
+    ensures t_after { out (step (by_number result) (queue_of q.new)) t.new
         ≡ within rows.old t.old (step (refused bad_table) (queue_of q.old))
         (enqueue_call front t.old (queue_of q.old) id.0 cpu) }
     ensures rows_unchanged { drop (used rows.old t.old) rows.new
         ≡ drop (used rows.old t.old) rows.old }
     ensures rows_after { table (take (used rows.old t.old) rows.new)
         ≡ take (used rows.old t.old) t.new }
-    ensures spared { Spared (verdict_answer result) q.old q.new }
+    ensures spared { Spared (by_number result) q.old q.new }
     ensures q_unchanged { (queue_of q.old).halted ≡ true → q.new ≡ q.old }
     ensures queue_framed { QueueFramed q.old q.new }
 {
     let n = t.len();
     if rows.len() < n {
-        return Verdict::Refused(Refusal::BadTable);
+        return Err(Refusal::BadTable);
     }
     let part = &mut rows[0..n];
     to_rows(t, part);
@@ -98,15 +90,15 @@ pub fn enqueue(
     path: &mut Path,
     id: ThreadId,
     cpu: CpuIndex,
-) -> Verdict
-    ensures t_after { out (step (verdict_answer result) (queue_of q.new)) t.new
+) -> Result<(), Refusal>
+    ensures t_after { out (step (by_number result) (queue_of q.new)) t.new
         ≡ within rows.old t.old (step (refused bad_table) (queue_of q.old))
         (enqueue_call false t.old (queue_of q.old) id.0 cpu) }
     ensures rows_unchanged { drop (used rows.old t.old) rows.new
         ≡ drop (used rows.old t.old) rows.old }
     ensures rows_after { table (take (used rows.old t.old) rows.new)
         ≡ take (used rows.old t.old) t.new }
-    ensures spared { Spared (verdict_answer result) q.old q.new }
+    ensures spared { Spared (by_number result) q.old q.new }
     ensures q_unchanged { (queue_of q.old).halted ≡ true → q.new ≡ q.old }
     ensures queue_framed { QueueFramed q.old q.new }
 {
@@ -120,15 +112,15 @@ pub fn enqueue_front(
     path: &mut Path,
     id: ThreadId,
     cpu: CpuIndex,
-) -> Verdict
-    ensures t_after { out (step (verdict_answer result) (queue_of q.new)) t.new
+) -> Result<(), Refusal>
+    ensures t_after { out (step (by_number result) (queue_of q.new)) t.new
         ≡ within rows.old t.old (step (refused bad_table) (queue_of q.old))
         (enqueue_call true t.old (queue_of q.old) id.0 cpu) }
     ensures rows_unchanged { drop (used rows.old t.old) rows.new
         ≡ drop (used rows.old t.old) rows.old }
     ensures rows_after { table (take (used rows.old t.old) rows.new)
         ≡ take (used rows.old t.old) t.new }
-    ensures spared { Spared (verdict_answer result) q.old q.new }
+    ensures spared { Spared (by_number result) q.old q.new }
     ensures q_unchanged { (queue_of q.old).halted ≡ true → q.new ≡ q.old }
     ensures queue_framed { QueueFramed q.old q.new }
 {
@@ -142,21 +134,21 @@ pub fn remove(
     path: &mut Path,
     id: ThreadId,
     cpu: CpuIndex,
-) -> Verdict
-    ensures t_after { out (step (verdict_answer result) (queue_of q.new)) t.new
+) -> Result<(), Refusal>
+    ensures t_after { out (step (by_number result) (queue_of q.new)) t.new
         ≡ within rows.old t.old (step (refused bad_table) (queue_of q.old))
         (remove_call t.old (queue_of q.old) id.0 cpu) }
     ensures rows_unchanged { drop (used rows.old t.old) rows.new
         ≡ drop (used rows.old t.old) rows.old }
     ensures rows_after { table (take (used rows.old t.old) rows.new)
         ≡ take (used rows.old t.old) t.new }
-    ensures spared { Spared (verdict_answer result) q.old q.new }
+    ensures spared { Spared (by_number result) q.old q.new }
     ensures q_unchanged { (queue_of q.old).halted ≡ true → q.new ≡ q.old }
     ensures queue_framed { QueueFramed q.old q.new }
 {
     let n = t.len();
     if rows.len() < n {
-        return Verdict::Refused(Refusal::BadTable);
+        return Err(Refusal::BadTable);
     }
     let part = &mut rows[0..n];
     to_rows(t, part);
@@ -174,9 +166,9 @@ pub fn peek_next(
     cpu: CpuIndex,
     reading: u64,
     window: CpuWindow,
-    current: CandidateOption,
+    current: Option<Candidate>,
 ) -> WindowPeek
-    ensures t_after { out (peeked (peek_answer result.answer) result.window (queue_of q.new)) t.new
+    ensures t_after { out (peeked (by_number result.answer) result.window (queue_of q.new)) t.new
         ≡ within rows.old t.old (peeked (refused bad_table) window (queue_of q.old))
         (peek_next t.old (queue_of q.old) cpu reading window current) }
     ensures rows_unchanged { drop (used rows.old t.old) rows.new
@@ -190,7 +182,7 @@ pub fn peek_next(
     let n = t.len();
     if rows.len() < n {
         return WindowPeek {
-            answer: PeekAnswer::Refused(Refusal::BadTable),
+            answer: Err(Refusal::BadTable),
             window,
         };
     }
@@ -219,7 +211,7 @@ pub fn prepare_enqueue(
     let n = t.len();
     if rows.len() < n {
         return Prepared {
-            answer: arbitration::Verdict::Refused(Refusal::BadTable),
+            answer: Err(Refusal::BadTable),
             turns,
         };
     }
@@ -249,7 +241,7 @@ pub fn account_current(
     let n = t.len();
     if rows.len() < n {
         return WindowStep {
-            answer: arbitration::Verdict::Refused(Refusal::BadTable),
+            answer: Err(Refusal::BadTable),
             window,
         };
     }
@@ -260,8 +252,8 @@ pub fn account_current(
     answer
 }
 
-pub fn finish_turn(t: &mut [ThreadRecord], rows: &mut [Row], id: ThreadId) -> arbitration::Verdict
-    ensures t_after { out (verdict_of result) t.new ≡ within rows.old t.old (refused bad_table)
+pub fn finish_turn(t: &mut [ThreadRecord], rows: &mut [Row], id: ThreadId) -> Result<(), Refusal>
+    ensures t_after { out (by_number result) t.new ≡ within rows.old t.old (refused bad_table)
         (finish_turn t.old id.0) }
     ensures rows_unchanged { drop (used rows.old t.old) rows.new
         ≡ drop (used rows.old t.old) rows.old }
@@ -270,7 +262,7 @@ pub fn finish_turn(t: &mut [ThreadRecord], rows: &mut [Row], id: ThreadId) -> ar
 {
     let n = t.len();
     if rows.len() < n {
-        return arbitration::Verdict::Refused(Refusal::BadTable);
+        return Err(Refusal::BadTable);
     }
     let part = &mut rows[0..n];
     to_rows(t, part);

@@ -1,5 +1,6 @@
 -- What a call answers: a value, or the number of a refusal in document 01, "Turned down".
-use Rattle.std.specs.Prelude.{ℕ}
+use Rattle.std.specs.Prelude.{ℕ, Result, Ok, Err}
+use Rattle.refusal.specs.declared.Damaged.{Damaged as Damage}
 use Rattle.refusal.specs.declared.Refusal.{Refusal}
 use Rattle.refusal.specs.declared.Refusal.TheVariants.{Damaged, BadState, Already, NoThread, BadConfig}
 use Rattle.refusal.specs.declared.Refusal.TheVariants.{BadBudget, BackInTime, TurnsSpent, Halted, BadTable}
@@ -61,3 +62,17 @@ number_of Halted = queue_halted
 number_of BadTable = bad_table
 number_of BadRecord = bad_record
 number_of RecordOrder = record_order
+
+-- What a function that may refuse answers, the refusal by its number.
+abbrev pub by_number : {A : Type 0} → Result A Refusal → Answer A
+by_number (Ok a) = value a
+by_number (Err r) = refused (number_of r)
+
+-- Where a table is found damaged.
+abbrev pub damage : Damage
+damage = record {}
+
+-- The same of a function that can only find its table damaged. It stays shut in proofs of code.
+unfoldable pub or_damaged : {A : Type 0} → Result A Damage → Answer A
+or_damaged (Ok a) = value a
+or_damaged (Err _) = refused damaged

@@ -2,7 +2,8 @@
 #![tactic(auto)]
 
 ghost use Rattle.std.specs.Prelude.{◌≡◌};
-ghost use Rattle.refusal.specs.Answer.{number_of};
+ghost use Rattle.refusal.specs.Answer.{number_of, by_number, or_damaged};
+ghost use Rattle.refusal.specs.declared.Refusal.TheVariants as refusal;
 
 #[derive(Clone, Copy)]
 pub enum Refusal {
@@ -18,6 +19,27 @@ pub enum Refusal {
     BadTable,
     BadRecord,
     RecordOrder,
+}
+
+// What a function answers that reads or changes a table and finds it damaged: a number that is no record's, a height or
+// a length that does not fit, a path with no end. A call hands it on as `Refusal::Damaged`.
+#[derive(Clone, Copy)]
+pub struct Damaged;
+
+impl From<Damaged> for Refusal {
+    ghost from_gives = { λ _ r. r ≡ refusal.Damaged };
+
+    fn from(_: Damaged) -> Self {
+        Refusal::Damaged
+    }
+}
+
+// The same answer where damage is one refusal among others.
+#[tactic(auto, unfolding(crate::specs::Answer::or_damaged))]
+pub fn told<T>(answer: Result<T, Damaged>) -> Result<T, Refusal>
+    ensures { by_number result ≡ or_damaged answer }
+{
+    Ok(answer?)
 }
 
 // The number of the refusal that leaves a mark.

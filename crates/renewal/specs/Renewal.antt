@@ -1,13 +1,11 @@
 -- The change of period: every thread of the exhausted trees is refreshed and filed as ready. After the first loop of
 -- `CpuRunQueue::peek_next`.
-use Rattle.std.specs.Prelude.{ℕ, zero, suc, ◌+◌, ◌-◌, Bool, true, false, List, eqb, length, get_or, set}
-use Rattle.refusal.specs.Answer.{Answer, value, refused, damaged, queue_halted, bad_record}
+use Rattle.std.specs.Prelude.{ℕ, zero, suc, ◌+◌, ◌-◌, Bool, true, false, List, eqb, length, get_or, set, Option, Some}
+use Rattle.std.specs.Prelude.{None}
+use Rattle.refusal.specs.Answer.{Answer, value, refused, damaged, queue_halted, bad_record, or_damaged}
 use Rattle.refusal.specs.Cases.{choose, given}
-use Rattle.time.specs.declared.Epoch.{Epoch}
-use Rattle.time.specs.declared.Epoch.TheVariants as epoch
 use Rattle.policy.specs.PolicyCases.{on_budget}
 use Rattle.algorithms.specs.Runtime.{epoch_refreshed}
-use Rattle.thread.specs.declared.Link.{Link}
 use Rattle.thread.specs.declared.ThreadRecord.{ThreadRecord}
 use Rattle.thread.specs.Membership.{on_link}
 use Rattle.thread.specs.Records.{with_runtime}
@@ -15,7 +13,6 @@ use Rattle.thread.specs.Judgement.{is_bad_record}
 use Rattle.rows.specs.Table.{Out, out, after, record_at, set_runtime}
 use Rattle.rows.specs.TableCases.{on_record}
 use Rattle.lists.specs.Lists.{on_answer, on_out}
-use Rattle.ready_index.specs.Answers.{least_answer}
 use Rattle.ready_index.specs.Cases.{on_rooted}
 use Rattle.ready_index.specs.Index as index
 use Rattle.queue.specs.declared.Root.{Root}
@@ -26,8 +23,8 @@ use Rattle.renewal.specs.Leaves.{Leaves, leaves, on_leaves}
 use Rattle.thread.specs.Filing.{budget_exhausted, budget_ready}
 
 -- The head of a tree, or none of an empty tree; an error on the way to it is Damaged.
-unfoldable pub head_of : List ThreadRecord → Link → Answer Link
-head_of t root = least_answer (index.first t root)
+unfoldable pub head_of : List ThreadRecord → Option ℕ → Answer (Option ℕ)
+head_of t root = or_damaged (index.first t root)
 
 -- A record that was read: judged, then refreshed to now, and stored where it has a budget (`refresh_runtime`). The
 -- answer is the record as it then stands.
@@ -42,7 +39,7 @@ refresh_record t id r now =
 unfoldable pub refresh_runtime : List ThreadRecord → ℕ → ℕ → Out (Answer ThreadRecord)
 refresh_runtime t id now = on_record (record_at t id) (out (refused damaged) t) (λ r. refresh_record t id r now)
 
-abbrev pub budget_trees : Link → Link → ℕ → BudgetTrees
+abbrev pub budget_trees : Option ℕ → Option ℕ → ℕ → BudgetTrees
 budget_trees exhausted ready moves = record { exhausted = exhausted; ready = ready; moves = moves }
 
 -- One thread out of the exhausted tree, refreshed, and into the ready one. Any error in a tree's removal or insertion
@@ -59,7 +56,7 @@ move_one t trees id now =
     (λ top t₃. out (leaves (value tt) (budget_trees rest top trees.moves)) t₃))))
 
 -- Until the exhausted tree is empty, in so many moves at most: the move beyond is Damaged before its first store.
-unfoldable pub move_all : ℕ → List ThreadRecord → Link → Link → ℕ → Out (Leaves (Unit {0}) BudgetTrees)
+unfoldable pub move_all : ℕ → List ThreadRecord → Option ℕ → Option ℕ → ℕ → Out (Leaves (Unit {0}) BudgetTrees)
 move_all zero t exhausted ready now =
     on_answer (head_of t exhausted)
     (λ n. out (leaves (refused n) (budget_trees exhausted ready 0)) t)
@@ -76,7 +73,7 @@ move_all (suc moves) t exhausted ready now =
     (λ n trees. out (leaves (refused n) trees) t₁)
     (λ u trees. move_all moves t₁ trees.exhausted trees.ready now))))
 
-abbrev pub root_at : List Root → ℕ → Link
+abbrev pub root_at : List Root → ℕ → Option ℕ
 root_at roots k = (get_or roots k empty_root).root
 
 -- The roots of a role's budget trees stored back.
@@ -97,9 +94,9 @@ renew_roles (suc left) moves t roots now =
     (λ u trees. renew_roles left trees.moves t₁ (with_trees roots role trees) now)))
 
 -- `budget_epoch == Some(epoch)`.
-unfoldable pub is_epoch : Epoch → ℕ → Bool
-is_epoch epoch.None e = false
-is_epoch (epoch.Some last) e = eqb last e
+unfoldable pub is_epoch : Option ℕ → ℕ → Bool
+is_epoch None e = false
+is_epoch (Some last) e = eqb last e
 
 -- Halted leaves the mark.
 unfoldable pub is_halt : ℕ → Bool
@@ -116,4 +113,4 @@ renew t p now e =
     (λ n roots. out (leaves (refused n)
     (record { indices = roots; budget_epoch = p.budget_epoch; halted = choose (is_halt n) true p.halted })) t₁)
     (λ u roots. out (leaves (value tt)
-    (record { indices = roots; budget_epoch = epoch.Some e; halted = p.halted })) t₁)))
+    (record { indices = roots; budget_epoch = Some e; halted = p.halted })) t₁)))

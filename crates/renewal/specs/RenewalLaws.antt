@@ -3,7 +3,7 @@
 use Prim.Native.Nat.{ℕ, zero, suc, ◌+◌, ◌-◌, ◌<◌, ◌≤◌}
 use Rattle.std.proofs.Common.{arith, ◌∙◌}
 use Rattle.std.proofs.Math.Numerals.{unary_clauses}
-use Rattle.std.specs.Prelude.{◌≡◌, Bool, length, get_or}
+use Rattle.std.specs.Prelude.{◌≡◌, Bool, length, get_or, Option, Some, None, Result, Ok, Err, not, is_some}
 use Rattle.std.proofs.Math.Path.{refl, sym, ap}
 use Rattle.std.proofs.Math.Bool.{true, false}
 use mathlib.Core.List.{List, [], ◌∷◌}
@@ -11,13 +11,10 @@ use Rattle.std.proofs.Math.Dec.{eqb}
 use Rattle.std.proofs.lemmas.List.{length-map}
 use Rattle.std.proofs.Math.ListN.{set}
 use borrow.Author.Tests.{eq-eqb, ne_eqb, eqb-true}
-use Rattle.refusal.specs.Answer.{Answer, value, refused, number_of, damaged, queue_halted, bad_record}
+use Rattle.refusal.specs.Answer.{Answer, value, refused, number_of, damaged, queue_halted, bad_record, by_number}
+use Rattle.refusal.specs.Answer.{or_damaged, damage}
 use Rattle.refusal.specs.declared.Refusal.{Refusal}
 use Rattle.refusal.specs.Cases.{never, choose, given, if_equal}
-use Rattle.time.specs.declared.Epoch.{Epoch}
-use Rattle.time.specs.declared.Epoch.TheVariants as epoch
-use Rattle.policy.specs.declared.BudgetOption.{BudgetOption}
-use Rattle.policy.specs.declared.BudgetOption.TheVariants as budget
 use Rattle.policy.specs.declared.BudgetParameters.{BudgetParameters}
 use Rattle.policy.specs.declared.SchedulingParameters.{SchedulingParameters}
 use Rattle.policy.specs.PolicyCases.{on_budget, no_budget, some_budget}
@@ -25,110 +22,94 @@ use Rattle.policy.specs.Budget.{sound_budget}
 use Rattle.budget.specs.Runtime.{judged, refreshed_judged}
 use Rattle.codec.specs.Codec.{word, parameters_of, runtime_of, decoded}
 use Rattle.algorithms.specs.declared.PolicyRuntime.{PolicyRuntime}
-use Rattle.algorithms.specs.declared.RuntimeAnswer.{RuntimeAnswer}
-use Rattle.algorithms.specs.declared.RuntimeAnswer.TheVariants as runtime
-use Rattle.algorithms.specs.Answers.{runtime_answer}
 use Rattle.algorithms.specs.Runtime.{on_runtime, of_budget, epoch_refreshed}
-use Rattle.thread.specs.declared.Link.{Link}
-use Rattle.thread.specs.declared.Link.TheVariants as link
 use Rattle.thread.specs.declared.ThreadRecord.{ThreadRecord}
 use Rattle.thread.specs.Judgement.{is_bad_record}
 use Rattle.thread.specs.Membership.{on_link, is_none}
-use Rattle.thread.specs.MembershipLaws.{is_none_true}
+use Rattle.thread.specs.MembershipLaws.{is_none_true, none_told}
 use Rattle.thread.specs.Records.{with_runtime}
-use Rattle.rows.specs.declared.RecordRead.{RecordRead}
-use Rattle.rows.specs.declared.RecordRead.TheVariants as read
 use Rattle.rows.specs.Table.{Out, out, after, table, record_of, record_at, set_runtime}
 use Rattle.rows.specs.TableCases.{on_record}
 use Rattle.rows.specs.TableLaws.{record_within, record_got_within, record_set_runtime_same}
 use Rattle.rows.specs.RowTableLaws.{record_inside}
 use Rattle.lists.specs.ListsLaws.{left_by_lem}
 use Rattle.lists.specs.Lists.{on_answer, on_out}
-use Rattle.rows.specs.declared.Change.{Change}
 use Rattle.rows.specs.Asked.{answering}
-use Rattle.rows.specs.Answers.{change_answer}
-use Rattle.ready_index.specs.declared.Least.{Least}
-use Rattle.ready_index.specs.declared.Least.TheVariants as least
 use Rattle.ready_index.specs.Cases.{on_rooted}
 use Rattle.ready_index.specs.Index as index
 use Rattle.ready_index.specs.LoopLaws.{whole, setting_out, onward}
 use Rattle.renewal.specs.declared.BudgetTrees.{BudgetTrees}
-use Rattle.renewal.specs.declared.HeadRead.{HeadRead}
-use Rattle.renewal.specs.declared.HeadRead.TheVariants as head
-use Rattle.renewal.specs.declared.RoleStep.{RoleStep}
-use Rattle.renewal.specs.declared.RoleStep.TheVariants as role
 use Rattle.renewal.specs.declared.Moved.{Moved}
 use Rattle.renewal.specs.declared.Moved.TheVariants as move
 use Rattle.renewal.specs.declared.NextMove.{NextMove}
 use Rattle.renewal.specs.declared.NextMove.TheVariants as next
 use Rattle.renewal.specs.Leaves.{Leaves, leaves, on_leaves}
 use Rattle.queue.specs.declared.Root.{Root}
-use Rattle.queue.specs.declared.Verdict.{Verdict}
-use Rattle.queue.specs.declared.Verdict.TheVariants as verdict
-use Rattle.queue.specs.Answers.{verdict_answer}
 use Rattle.queue.specs.Queue.{empty_root}
 use Rattle.queue.specs.RowJudgement.{kind_from, bad_row, budget_parameters, judged_by_tags, kind_of_two, budget_runs}
 use Rattle.queue.specs.RowJudgement.{without_budget, with_budget}
 use Rattle.renewal.specs.RootRows.{roots_of}
-use Rattle.ready_index.specs.Answers.{least_answer}
 use Rattle.renewal.specs.Renewal.{head_of, refresh_record, refresh_runtime, budget_trees, move_one}
 use Rattle.renewal.specs.Renewal.{move_all, root_at, with_trees, renew_roles, is_epoch}
 use Rattle.renewal.specs.Steps.{refreshed_stored, budget_refreshed, row_refreshed, runtime_refreshed, refiled, Next}
 use Rattle.renewal.specs.Steps.{emptied, moved, stopped, on_next, next_move, last_move, role_renewed}
-use Rattle.renewal.specs.Answers.{head_answer, move_answer, next_answer, role_answer}
+use Rattle.renewal.specs.Answers.{move_answer, next_answer}
 use Rattle.policy_words.specs.PolicyWords.{policy_tag, budget_tag, runtime_tag}
 use Rattle.thread.specs.Filing.{budget_exhausted, budget_ready}
+use Rattle.refusal.specs.declared.Damaged.{Damaged}
 
 -- By the least thread of a tree.
-module _ {y : Answer Link} {r : Least} (x : Least) where
-  pub least_none : least_answer r ≡ least_answer x → r ≡ least.None → y ≡ value link.None → y ≡ least_answer x
-  unfolding least_answer
-  least_none e m h = h ∙ ap least_answer (sym m) ∙ e
+module _ {y : Answer (Option ℕ)} {r : Result (Option ℕ) Damaged} (x : Result (Option ℕ) Damaged) where
+  pub least_none : or_damaged r ≡ or_damaged x → r ≡ (Ok None) → y ≡ value None → y ≡ or_damaged x
+  unfolding or_damaged
+  least_none e m h = h ∙ ap or_damaged (sym m) ∙ e
 
-  pub least_some : {n : ℕ} → least_answer r ≡ least_answer x → r ≡ least.Some n → y ≡ value (link.Some n)
-      → y ≡ least_answer x
-  unfolding least_answer
-  least_some e m h = h ∙ ap least_answer (sym m) ∙ e
+  pub least_some : {n : ℕ} → or_damaged r ≡ or_damaged x → r ≡ Ok (Some n) → y ≡ value (Some n)
+      → y ≡ or_damaged x
+  unfolding or_damaged
+  least_some e m h = h ∙ ap or_damaged (sym m) ∙ e
 
-  pub least_damaged : least_answer r ≡ least_answer x → r ≡ least.Damaged → y ≡ refused damaged → y ≡ least_answer x
-  unfolding least_answer
-  least_damaged e m h = h ∙ ap least_answer (sym m) ∙ e
+  pub least_damaged : or_damaged r ≡ or_damaged x → r ≡ (Err damage) → y ≡ refused damaged → y ≡ or_damaged x
+  unfolding or_damaged
+  least_damaged e m h = h ∙ ap or_damaged (sym m) ∙ e
 
 -- By a tree's head.
-module _ {B : Type 0} {y : B} {r : HeadRead} {x : Answer Link} (g : ℕ → B) (f : Link → B) where
-  pub head_found : {l : Link} → head_answer r ≡ x → r ≡ head.Head l → y ≡ f l → y ≡ on_answer x g f
-  unfolding on_answer
-  head_found e m h = rw (sym e, m) h
+module _ {B : Type 0} {y : B} {r : Result (Option ℕ) Damaged} {x : Answer (Option ℕ)} (g : ℕ → B) (f : Option ℕ → B)
+  where
+    pub head_found : {l : Option ℕ} → or_damaged r ≡ x → r ≡ Ok l → y ≡ f l → y ≡ on_answer x g f
+    unfolding on_answer or_damaged
+    head_found e m h = rw (sym e, m) h
 
-  pub head_damaged : head_answer r ≡ x → r ≡ head.Damaged → y ≡ g 1 → y ≡ on_answer x g f
-  unfolding on_answer
-  head_damaged e m h = rw (sym e, m) h
+    pub head_damaged : or_damaged r ≡ x → r ≡ (Err damage) → y ≡ g 1 → y ≡ on_answer x g f
+    unfolding on_answer or_damaged
+    head_damaged e m h = rw (sym e, m) h
 
 -- By a runtime that is refreshed.
-module _ {B : Type 0} {y : B} {r : RuntimeAnswer} (g : ℕ → B) (f : PolicyRuntime → B) where
-  pub runtime_fresh : {v : PolicyRuntime} → r ≡ runtime.Runtime v → y ≡ f v → y ≡ on_answer (runtime_answer r) g f
+module _ {B : Type 0} {y : B} {r : Result PolicyRuntime Refusal} (g : ℕ → B) (f : PolicyRuntime → B) where
+  pub runtime_fresh : {v : PolicyRuntime} → r ≡ Ok v → y ≡ f v → y ≡ on_answer (by_number r) g f
   unfolding on_answer
   runtime_fresh m h = rw m h
 
-  pub runtime_refused : {n : Refusal} → r ≡ runtime.Refused n → y ≡ g (number_of n)
-      → y ≡ on_answer (runtime_answer r) g f
+  pub runtime_refused : {n : Refusal} → r ≡ Err n → y ≡ g (number_of n)
+      → y ≡ on_answer (by_number r) g f
   unfolding on_answer
   runtime_refused m h = rw m h
 
 -- By a verdict.
-module _ {B : Type 0} {y : B} {r : Verdict} (g : ℕ → B) (f : Unit {0} → B) where
-  pub was_accepted : r ≡ verdict.Accepted → y ≡ f tt → y ≡ on_answer (verdict_answer r) g f
+module _ {B : Type 0} {y : B} {r : Result (Unit {0}) Refusal} (g : ℕ → B) (f : Unit {0} → B) where
+  pub was_accepted : r ≡ (Ok tt) → y ≡ f tt → y ≡ on_answer (by_number r) g f
   unfolding on_answer
   was_accepted m h = rw m h
 
-  pub was_turned_down : {n : Refusal} → r ≡ verdict.Refused n → y ≡ g (number_of n)
-      → y ≡ on_answer (verdict_answer r) g f
+  pub was_turned_down : {n : Refusal} → r ≡ Err n → y ≡ g (number_of n)
+      → y ≡ on_answer (by_number r) g f
   unfolding on_answer
   was_turned_down m h = rw m h
 
 -- An answer and the table after a store.
-pub stored_after : {A : Type 0} {a : A} (c : Change) (x : Out Change) {t : List ThreadRecord}
-    → out (change_answer c) t ≡ answering change_answer x → out a t ≡ out a (after x)
+pub stored_after : {A : Type 0} {a : A} (c : Result (Unit {0}) Damaged) (x : Out (Result (Unit {0}) Damaged)) {t : List
+    ThreadRecord}
+    → out (or_damaged c) t ≡ answering or_damaged x → out a t ≡ out a (after x)
 stored_after c x s = rw (left_by_lem c x s)
 
 -- By the budget that a row's words say.
@@ -218,7 +199,7 @@ module _ (w : List ℕ) where
       go false two none sound e₁ e₂ e₃ h = never cc
 
   -- A budget that is not sound is refused by its refresh.
-  unsound : (t : List ThreadRecord) (id now : ℕ) → record_at t id ≡ read.Got (decoded w) → (word w budget_tag ≡ 0 → ⊥)
+  unsound : (t : List ThreadRecord) (id now : ℕ) → record_at t id ≡ Ok (decoded w) → (word w budget_tag ≡ 0 → ⊥)
       → word w runtime_tag ≡ 2 → sound_budget (budget_parameters w) ≡ false
       → budget_refreshed t id now ≡ out (refused bad_record) t
   unfolding budget_refreshed refreshed_stored given on_record epoch_refreshed on_runtime on_budget refreshed_judged
@@ -238,7 +219,7 @@ module _ {y : Out (Answer (Unit {0}))} (t : List ThreadRecord) (id : ℕ) (w : L
   unfolding row_refreshed if_equal choose on_budget
   row_plain e n m h = rw (plain_row w e m, eq-eqb (word w budget_tag) 0 n, without_budget w n) h
 
-  row_budget : record_at t id ≡ read.Got (decoded w) → word w runtime_tag ≡ word w policy_tag
+  row_budget : record_at t id ≡ Ok (decoded w) → word w runtime_tag ≡ word w policy_tag
       → (word w budget_tag ≡ 0 → ⊥)
       → word w runtime_tag ≡ 2 → y ≡ budget_refreshed t id now → y ≡ row_refreshed t id (decoded w) now
   unfolding row_refreshed if_equal choose on_budget
@@ -283,14 +264,14 @@ row_budget_inside rows id now l = row_budget (table rows) id (get_or rows id [])
 pub ruleset by_tags = (row_without_budget, row_plain, row_budget_inside, row_strange, row_bad, row_idle)
 
 -- A record that was read is, once refreshed, what then stands in the table.
-module _ (t : List ThreadRecord) (id now : ℕ) {r : ThreadRecord} (got : record_at t id ≡ read.Got r) where
+module _ (t : List ThreadRecord) (id now : ℕ) {r : ThreadRecord} (got : record_at t id ≡ Ok r) where
   the_record : record_of t id ≡ r
   unfolding on_record
   the_record = ap (λ x. on_record x r (λ s. s)) (sym (record_within t id (record_got_within t id got)) ∙ got)
 
-  stands : (x : PolicyRuntime) → record_at (after (set_runtime t id x)) id ≡ read.Got (with_runtime x r)
+  stands : (x : PolicyRuntime) → record_at (after (set_runtime t id x)) id ≡ Ok (with_runtime x r)
   stands x =
-      record_set_runtime_same t id x (record_got_within t id got) ∙ ap (λ s. read.Got (with_runtime x s)) the_record
+      record_set_runtime_same t id x (record_got_within t id got) ∙ ap (λ s. Ok (with_runtime x s)) the_record
 
   pub refreshed_then : {B : Type 0} (g : ℕ → List ThreadRecord → B) (d : List ThreadRecord → B)
       (f : ThreadRecord → List ThreadRecord → B)
@@ -302,7 +283,7 @@ module _ (t : List ThreadRecord) (id now : ℕ) {r : ThreadRecord} (got : record
   refreshed_then {B} g d f =
       rw got (go (is_bad_record r) r.parameters.budget (epoch_refreshed r.runtime now r.parameters))
     where
-      go : (bad : Bool) (b : BudgetOption) (a : Answer PolicyRuntime)
+      go : (bad : Bool) (b : Option BudgetParameters) (a : Answer PolicyRuntime)
           → on_out (choose bad (out (refused bad_record) t)
           (on_budget b (out (value r) t) (λ q. on_answer a (λ n. out (refused bad_record) t)
           (λ x. out (value (with_runtime x r)) (after (set_runtime t id x))))))
@@ -313,9 +294,9 @@ module _ (t : List ThreadRecord) (id now : ℕ) {r : ThreadRecord} (got : record
           (λ x. out (value (tt {0})) (after (set_runtime t id x))))))
           (λ a t₁. on_answer a (λ n. g n t₁) (λ u. on_record (record_at t₁ id) (d t₁) (λ s. f s t₁)))
       go true b a = refl
-      go false budget.None a = rw got refl
-      go false (budget.Some q) (refused n) = refl
-      go false (budget.Some q) (value x) = rw (stands x) refl
+      go false None a = rw got refl
+      go false (Some q) (refused n) = refl
+      go false (Some q) (value x) = rw (stands x) refl
 
 -- The second half of a move, as `move_one` has it.
 pub refiled_so : {y : Out (Leaves (Unit {0}) BudgetTrees)} (t : List ThreadRecord) (trees : BudgetTrees) (id now : ℕ)
@@ -336,10 +317,10 @@ refiled_so t trees id now h = h ∙ sym (go (record_at t id) refl)
         (λ t₃. out (leaves (refused queue_halted) trees) t₃)
         (λ top t₃. out (leaves (value tt) (budget_trees trees.exhausted top trees.moves)) t₃)
 
-    either_way : (x : RecordRead) (t₁ : List ThreadRecord)
+    either_way : (x : Result ThreadRecord Damaged) (t₁ : List ThreadRecord)
         → on_record x (insertion t₁) (λ s. insertion t₁) ≡ insertion t₁
-    either_way (read.Got s) t₁ = refl
-    either_way read.Damaged t₁ = refl
+    either_way (Ok s) t₁ = refl
+    either_way (Err _) t₁ = refl
 
     all_ways : (x : Out (Answer (Unit {0})))
         → on_out x (λ a t₁. on_answer a (λ n. out (leaves (refused n) trees) t₁)
@@ -348,18 +329,18 @@ refiled_so t trees id now h = h ∙ sym (go (record_at t id) refl)
     all_ways (out (value u) t₁) = either_way (record_at t₁ id) t₁
     all_ways (out (refused n) t₁) = refl
 
-    go : (x : RecordRead) → record_at t id ≡ x
+    go : (x : Result ThreadRecord Damaged) → record_at t id ≡ x
         → on_out (on_record x (out (refused damaged) t) (λ r. refresh_record t id r now))
         (λ a t₂. on_answer a (λ n. out (leaves (refused n) trees) t₂) (λ r. insertion t₂))
         ≡ on_out (on_record x (out (refused damaged) t) (λ r. row_refreshed t id r now))
         (λ a t₂. on_answer a (λ n. out (leaves (refused n) trees) t₂) (λ u. insertion t₂))
-    go (read.Got r) e =
+    go (Ok r) e =
         refreshed_then t id now e (λ n t₁. out (leaves (refused n) trees) t₁) insertion (λ s t₁. insertion t₁)
         ∙ all_ways (row_refreshed t id r now)
-    go read.Damaged e = refl
+    go (Err _) e = refl
 
 -- The moves that are left go by the next move.
-module _ (t : List ThreadRecord) (exhausted ready : Link) (now : ℕ) where
+module _ (t : List ThreadRecord) (exhausted ready : Option ℕ) (now : ℕ) where
   abbrev by_next : ℕ → Out Next → Out (Leaves (Unit {0}) BudgetTrees)
   by_next n x =
       on_next x
@@ -383,7 +364,7 @@ module _ (t : List ThreadRecord) (exhausted ready : Link) (now : ℕ) where
       worked (out (leaves (value u) trees) t₁) = refl
       worked (out (leaves (refused k) trees) t₁) = refl
 
-      go : (a : Answer Link)
+      go : (a : Answer (Option ℕ))
           → on_answer a
           (λ k. out (leaves (refused k) (budget_trees exhausted ready (suc n))) t)
           (λ head. on_link head
@@ -404,8 +385,8 @@ module _ (t : List ThreadRecord) (exhausted ready : Link) (now : ℕ) where
           (λ trees t₁. move_all n t₁ trees.exhausted trees.ready now)
           (λ k trees t₁. out (leaves (refused k) trees) t₁)
       go (refused k) = refl
-      go (value link.None) = refl
-      go (value (link.Some id)) = worked (move_one t (budget_trees exhausted ready n) id now)
+      go (value None) = refl
+      go (value (Some id)) = worked (move_one t (budget_trees exhausted ready n) id now)
 
   module _ {y : Out (Leaves (Unit {0}) BudgetTrees)} {r : NextMove} {t₁ : List ThreadRecord} (n : ℕ) where
     pub moves_emptied : 0 < n → out (next_answer r) t₁ ≡ next_move n t exhausted ready now → r ≡ next.Emptied
@@ -439,9 +420,9 @@ set_same [] k d = refl
 set_same (x ∷ l) zero d = refl
 set_same {A} (x ∷ l) (suc k) d = ap {B = List A} (λ r. x ∷ r) (set_same l k d)
 
-no_exhausted : (moves : ℕ) (t : List ThreadRecord) (ready : Link) (now : ℕ)
-    → move_all moves t link.None ready now ≡ out (leaves (value tt) (budget_trees link.None ready moves)) t
-unfolding move_all head_of index.first least_answer on_answer on_link
+no_exhausted : (moves : ℕ) (t : List ThreadRecord) (ready : Option ℕ) (now : ℕ)
+    → move_all moves t None ready now ≡ out (leaves (value tt) (budget_trees None ready moves)) t
+unfolding move_all head_of index.first or_damaged on_answer on_link
 no_exhausted zero t ready now = refl
 no_exhausted (suc moves) t ready now = refl
 
@@ -449,29 +430,29 @@ module _ (rows : List (List ℕ)) (role moves : ℕ) (t : List ThreadRecord) (no
   abbrev the_roots : List Root
   the_roots = roots_of rows
 
-  same_trees : (spent : Link) → spent ≡ root_at the_roots (budget_exhausted + role)
+  same_trees : (spent : Option ℕ) → spent ≡ root_at the_roots (budget_exhausted + role)
       → with_trees the_roots role (budget_trees spent (root_at the_roots (budget_ready + role)) moves) ≡ the_roots
   unfolding with_trees
   same_trees spent e =
-      ap (λ (x : Link). set (set the_roots (budget_exhausted + role) (record { root = x })) (budget_ready + role)
+      ap (λ (x : Option ℕ). set (set the_roots (budget_exhausted + role) (record { root = x })) (budget_ready + role)
       (record { root = root_at the_roots (budget_ready + role) })) e
       ∙ ap (λ (l : List Root). set l (budget_ready + role) (record { root = root_at the_roots (budget_ready + role) }))
       (set_same the_roots (budget_exhausted + role) empty_root)
       ∙ set_same the_roots (budget_ready + role) empty_root
 
   -- An empty exhausted tree is passed over.
-  pub role_empty : {exhausted : Link} {r : Bool} → exhausted ≡ root_at (roots_of rows) (budget_exhausted + role) → r
-      ≡ is_none exhausted
-      → r ≡ true
+  pub role_empty : {exhausted : Option ℕ} {r : Bool} → exhausted ≡ root_at (roots_of rows) (budget_exhausted + role)
+      → is_some exhausted ≡ not r → r ≡ true
       → out (leaves (value moves) (roots_of rows)) t ≡ role_renewed role moves t (roots_of rows) now
   unfolding role_renewed on_out on_leaves
-  role_empty {exhausted} e test h =
-      let none : link.None ≡ root_at the_roots (budget_exhausted + role) = sym (is_none_true exhausted (sym test ∙ h))
+  role_empty {exhausted} {r} e test h =
+      let none : None ≡ root_at the_roots (budget_exhausted + role) =
+      sym (is_none_true exhausted (sym (none_told exhausted r test) ∙ h))
       ∙ e in
       rw (sym none, no_exhausted moves t (root_at the_roots (budget_ready + role)) now)
-      (ap (λ l. out (leaves (value moves) l) t) (sym (same_trees link.None none)))
+      (ap (λ l. out (leaves (value moves) l) t) (sym (same_trees None none)))
 
-  module _ {s : Moved} {exhausted ready : Link} {t₁ : List ThreadRecord} {trees : BudgetTrees}
+  module _ {s : Moved} {exhausted ready : Option ℕ} {t₁ : List ThreadRecord} {trees : BudgetTrees}
       {roots₁ : List Root} where
     pub role_moved : exhausted ≡ root_at (roots_of rows) (budget_exhausted + role) → ready ≡ root_at (roots_of rows)
         (budget_ready + role)
@@ -531,16 +512,17 @@ module _ (t : List ThreadRecord) (moves : ℕ) (roots : List Root) (now : ℕ) w
       let one : suc n - 1 ≡ n = omega arith in
       rw (role, one) (roles_next n)
 
-  module _ {y : Out (Leaves (Unit {0}) (List Root))} {s : RoleStep} {t₁ : List ThreadRecord} {roots₁ : List Root}
+  module _ {y : Out (Leaves (Unit {0}) (List Root))} {s : Result ℕ Refusal} {t₁ : List ThreadRecord} {roots₁ : List
+      Root}
       (n : ℕ) where
-    pub role_done : {m : ℕ} → 0 < n → out (leaves (role_answer s) roots₁) t₁ ≡ role_renewed (3 - n) moves t roots now
-        → s ≡ role.Done m
+    pub role_done : {m : ℕ} → 0 < n → out (leaves (by_number s) roots₁) t₁ ≡ role_renewed (3 - n) moves t roots now
+        → s ≡ Ok m
         → y ≡ renew_roles (n - 1) m t₁ roots₁ now → y ≡ renew_roles n moves t roots now
     unfolding on_out on_leaves
     role_done p e m h = rw (roles_step n p, sym e, m) h
 
     pub role_refused : {k : Refusal} → 0 < n
-        → out (leaves (role_answer s) roots₁) t₁ ≡ role_renewed (3 - n) moves t roots now → s ≡ role.Refused k
+        → out (leaves (by_number s) roots₁) t₁ ≡ role_renewed (3 - n) moves t roots now → s ≡ Err k
         → y ≡ out (leaves (refused (number_of k)) roots₁) t₁ → y ≡ renew_roles n moves t roots now
     unfolding on_out on_leaves
     role_refused p e m h = rw (roles_step n p, sym e, m) h
@@ -562,23 +544,23 @@ roles_set_out rows roots now =
 pub ruleset roles = (onward, role_done, role_refused, roles_over)
 
 -- By the queue's epoch.
-module _ {y : Bool} {x : Epoch} (e : ℕ) where
-  pub no_epoch : x ≡ epoch.None → y ≡ false → y ≡ is_epoch x e
+module _ {y : Bool} {x : Option ℕ} (e : ℕ) where
+  pub no_epoch : x ≡ None → y ≡ false → y ≡ is_epoch x e
   unfolding is_epoch
   no_epoch m h = rw m h
 
-  pub some_epoch : {n : ℕ} → x ≡ epoch.Some n → y ≡ eqb n e → y ≡ is_epoch x e
+  pub some_epoch : {n : ℕ} → x ≡ Some n → y ≡ eqb n e → y ≡ is_epoch x e
   unfolding is_epoch
   some_epoch m h = rw m h
 
 -- By a verdict that stands beside what a step left.
-module _ {A B : Type 0} {y : A} {r : Verdict} {b : B} (g : ℕ → B → A) (f : Unit {0} → B → A) where
-  pub step_accepted : r ≡ verdict.Accepted → y ≡ f tt b → y ≡ on_leaves (leaves (verdict_answer r) b) g f
+module _ {A B : Type 0} {y : A} {r : Result (Unit {0}) Refusal} {b : B} (g : ℕ → B → A) (f : Unit {0} → B → A) where
+  pub step_accepted : r ≡ (Ok tt) → y ≡ f tt b → y ≡ on_leaves (leaves (by_number r) b) g f
   unfolding on_leaves
   step_accepted m h = rw m h
 
-  pub step_refused : {n : Refusal} → r ≡ verdict.Refused n → y ≡ g (number_of n) b
-      → y ≡ on_leaves (leaves (verdict_answer r) b) g f
+  pub step_refused : {n : Refusal} → r ≡ Err n → y ≡ g (number_of n) b
+      → y ≡ on_leaves (leaves (by_number r) b) g f
   unfolding on_leaves
   step_refused m h = rw m h
 

@@ -1,12 +1,11 @@
 -- Parts of the change of period that have a function of their own; each is a part of a definition's text, or the
 -- definition goes by it (RenewalLaws).
-use Rattle.std.specs.Prelude.{ℕ, ◌+◌, ◌-◌, List}
+use Rattle.std.specs.Prelude.{ℕ, ◌+◌, ◌-◌, List, Option}
 use Rattle.refusal.specs.Answer.{Answer, value, refused, damaged, queue_halted, bad_record}
 use Rattle.refusal.specs.Cases.{choose, given}
 use Rattle.policy.specs.PolicyCases.{on_budget}
 use Rattle.algorithms.specs.declared.PolicyRuntime.{PolicyRuntime}
 use Rattle.algorithms.specs.Runtime.{epoch_refreshed}
-use Rattle.thread.specs.declared.Link.{Link}
 use Rattle.thread.specs.declared.ThreadRecord.{ThreadRecord}
 use Rattle.thread.specs.Judgement.{is_bad_record}
 use Rattle.thread.specs.Membership.{on_link}
@@ -64,7 +63,7 @@ on_next (out (moved trees) t) a f g = f trees t
 on_next (out (stopped n trees) t) a f g = g n trees t
 
 -- With so many moves left, of which there is one.
-unfoldable pub next_move : ℕ → List ThreadRecord → Link → Link → ℕ → Out Next
+unfoldable pub next_move : ℕ → List ThreadRecord → Option ℕ → Option ℕ → ℕ → Out Next
 next_move moves t exhausted ready now =
     on_answer (head_of t exhausted)
     (λ n. out (stopped n (budget_trees exhausted ready moves)) t)
@@ -76,7 +75,7 @@ next_move moves t exhausted ready now =
     (λ u trees. out (moved trees) t₁))))
 
 -- With no move left.
-unfoldable pub last_move : List ThreadRecord → Link → Link → Out (Leaves (Unit {0}) BudgetTrees)
+unfoldable pub last_move : List ThreadRecord → Option ℕ → Option ℕ → Out (Leaves (Unit {0}) BudgetTrees)
 last_move t exhausted ready =
     on_answer (head_of t exhausted)
     (λ n. out (leaves (refused n) (budget_trees exhausted ready 0)) t)

@@ -5,28 +5,25 @@
 mod roots;
 
 ghost use Rattle.std.specs.Prelude.{◌<◌, ◌≡◌, length, get_or, []};
-ghost use Rattle.algorithms.specs.Answers.{runtime_answer};
+ghost use Rattle.refusal.specs.Answer.{by_number, or_damaged};
 ghost use Rattle.codec.specs.Codec.{decoded};
 ghost use Rattle.rows.specs.Table.{table, out};
 ghost use Rattle.rows.specs.Frame.{Framed};
 ghost use Rattle.lent_queue.specs.Frame.{RootsFramed};
-ghost use Rattle.queue.specs.Answers.{verdict_answer};
 ghost use Rattle.renewal.specs.Renewal as renewal;
 ghost use Rattle.renewal.specs.Steps as steps;
 ghost use Rattle.renewal.specs.Leaves.{leaves};
 ghost use Rattle.renewal.specs.RootRows.{roots_of};
-ghost use Rattle.renewal.specs.Answers.{head_answer, move_answer, next_answer, role_answer};
+ghost use Rattle.renewal.specs.Answers.{move_answer, next_answer};
 
-use algorithms::RuntimeAnswer;
+use algorithms::PolicyRuntime;
 use codec::{BUDGET_TAG, POLICY_TAG, RUNTIME_TAG, Row, parameters_of, runtime_of};
 use lent_queue::QueueRow;
-use queue::{Root, Verdict, is_bad_row};
-use ready_index::{Least, Path, Rooted, first_under, insert_under, remove_under};
-use refusal::Refusal;
+use queue::{Root, is_bad_row};
+use ready_index::{Path, first_under, insert_under, remove_under};
+use refusal::{Damaged, Refusal};
 pub use roots::{root_at, set_root};
 use rows::set_runtime;
-use thread::Link;
-use time::Epoch;
 
 // The first tree of a kind, as a place in the array of roots.
 const READY: usize = queue::BUDGET_READY as usize;
@@ -36,16 +33,9 @@ const EXHAUSTED: usize = queue::BUDGET_EXHAUSTED as usize;
 // The two budget trees of a role, and how many moves a change of period has left.
 #[derive(Clone, Copy)]
 pub struct BudgetTrees {
-    pub exhausted: Link,
-    pub ready: Link,
+    pub exhausted: Option<u64>,
+    pub ready: Option<u64>,
     pub moves: u64,
-}
-
-// The head of a tree, none where it is empty.
-#[derive(Clone, Copy)]
-pub enum HeadRead {
-    Head(Link),
-    Damaged,
 }
 
 // The trees after a move, or as they are left where it is refused.
@@ -63,41 +53,35 @@ enum NextMove {
     Refused(Refusal, BudgetTrees),
 }
 
-// How many moves one role left of those that it was given.
-#[derive(Clone, Copy)]
-enum RoleStep {
-    Done(u64),
-    Refused(Refusal),
-}
-
 // The head of a tree, or none of an empty tree.
-pub fn head_of(t: &[Row], root: Link) -> HeadRead
-    ensures { head_answer result ≡ renewal.head_of (table t.now) root }
+#[tactic(auto, unfolding(crate::specs::Renewal::head_of))]
+pub fn head_of(t: &[Row], root: Option<u64>) -> Result<Option<u64>, Damaged>
+    ensures { or_damaged result ≡ renewal.head_of (table t.now) root }
 {
-    match first_under(t, root) {
-        Least::None => HeadRead::Head(Link::None),
-        Least::Some(id) => HeadRead::Head(Link::Some(id)),
-        Least::Damaged => HeadRead::Damaged,
-    }
+    first_under(t, root)
 }
 
-fn store_refreshed(t: &mut [Row], id: u64, refreshed: RuntimeAnswer) -> Verdict
-    ensures t_after { out (verdict_answer result) (table t.new) ≡ steps.refreshed_stored (table t.old) id
-        (runtime_answer refreshed) }
+fn store_refreshed(
+    t: &mut [Row],
+    id: u64,
+    refreshed: Result<PolicyRuntime, Refusal>,
+) -> Result<(), Refusal>
+    ensures t_after { out (by_number result) (table t.new) ≡ steps.refreshed_stored (table t.old) id
+        (by_number refreshed) }
     ensures framed { Framed t.old t.new }
 {
     match refreshed {
-        RuntimeAnswer::Refused(_) => Verdict::Refused(Refusal::BadRecord),
-        RuntimeAnswer::Runtime(fresh) => {
-            set_runtime(t, id, fresh);
-            Verdict::Accepted
+        Err(_) => Err(Refusal::BadRecord),
+        Ok(fresh) => {
+            let _ = set_runtime(t, id, fresh);
+            Ok(())
         }
     }
 }
 
 // A record's budget refreshed to the reading and stored: only the words of its runtime are read again.
-fn refresh_budget(t: &mut [Row], id: u64, reading: u64) -> Verdict
-    ensures t_after { out (verdict_answer result) (table t.new)
+fn refresh_budget(t: &mut [Row], id: u64, reading: u64) -> Result<(), Refusal>
+    ensures t_after { out (by_number result) (table t.new)
         ≡ steps.budget_refreshed (table t.old) id reading }
     ensures framed { Framed t.old t.new }
 {
@@ -109,29 +93,29 @@ fn refresh_budget(t: &mut [Row], id: u64, reading: u64) -> Verdict
         let refreshed = runtime.epoch_refresh(reading, parameters);
         return store_refreshed(t, id, refreshed);
     }
-    Verdict::Refused(Refusal::Damaged)
+    Err(Refusal::Damaged)
 }
 
 // A record of this row: judged, then refreshed to the reading where it has a budget. After `refresh_runtime`.
-pub fn refresh_row(t: &mut [Row], id: u64, row: Row, reading: u64) -> Verdict
-    ensures t_after { out (verdict_answer result) (table t.new) ≡ steps.row_refreshed (table t.old) id
+pub fn refresh_row(t: &mut [Row], id: u64, row: Row, reading: u64) -> Result<(), Refusal>
+    ensures t_after { out (by_number result) (table t.new) ≡ steps.row_refreshed (table t.old) id
         (decoded row) reading }
     ensures framed { Framed t.old t.new }
 {
     if is_bad_row(row) {
-        return Verdict::Refused(Refusal::BadRecord);
+        return Err(Refusal::BadRecord);
     }
     if row[BUDGET_TAG] == 0 {
-        return Verdict::Accepted;
+        return Ok(());
     }
     refresh_budget(t, id, reading)
 }
 
 // The same where the record is a budget's, as in a move: where policy and runtime have the same tag, three words
 // decide, and a budget is judged by its refresh.
-fn refresh_at(t: &mut [Row], id: u64, reading: u64) -> Verdict
+fn refresh_at(t: &mut [Row], id: u64, reading: u64) -> Result<(), Refusal>
     requires { id < length t.old }
-    ensures t_after { out (verdict_answer result) (table t.new) ≡ steps.row_refreshed (table t.old) id
+    ensures t_after { out (by_number result) (table t.new) ≡ steps.row_refreshed (table t.old) id
         (decoded (get_or t.old id [])) reading }
     ensures framed { Framed t.old t.new }
 {
@@ -140,24 +124,24 @@ fn refresh_at(t: &mut [Row], id: u64, reading: u64) -> Verdict
     if tag == t[k][POLICY_TAG] {
         if t[k][BUDGET_TAG] == 0 {
             if tag == 2 {
-                return Verdict::Refused(Refusal::BadRecord);
+                return Err(Refusal::BadRecord);
             }
-            return Verdict::Accepted;
+            return Ok(());
         }
         if tag == 2 {
             return refresh_budget(t, id, reading);
         }
-        return Verdict::Refused(Refusal::BadRecord);
+        return Err(Refusal::BadRecord);
     }
     let row = t[k];
     if is_bad_row(row) {
-        return Verdict::Refused(Refusal::BadRecord);
+        return Err(Refusal::BadRecord);
     }
-    Verdict::Accepted
+    Ok(())
 }
 
-fn refresh_runtime(t: &mut [Row], id: u64, reading: u64) -> Verdict
-    ensures t_after { out (verdict_answer result) (table t.new)
+fn refresh_runtime(t: &mut [Row], id: u64, reading: u64) -> Result<(), Refusal>
+    ensures t_after { out (by_number result) (table t.new)
         ≡ steps.runtime_refreshed (table t.old) id reading }
     ensures framed { Framed t.old t.new }
 {
@@ -165,7 +149,7 @@ fn refresh_runtime(t: &mut [Row], id: u64, reading: u64) -> Verdict
     if k < t.len() {
         return refresh_at(t, id, reading);
     }
-    Verdict::Refused(Refusal::Damaged)
+    Err(Refusal::Damaged)
 }
 
 // A thread that is out of the exhausted tree is refreshed, and goes into the ready one.
@@ -178,9 +162,9 @@ fn refile(t: &mut [Row], path: &mut Path, trees: BudgetTrees, id: u64, reading: 
     let old = trees.ready;
     let refreshed = refresh_runtime(t, id, reading);
     match refreshed {
-        Verdict::Refused(refusal) => Moved::Refused(refusal, trees),
-        Verdict::Accepted => {
-            let Rooted::Root(ready) = insert_under(t, path, old, id) else {
+        Err(refusal) => Moved::Refused(refusal, trees),
+        Ok(()) => {
+            let Ok(ready) = insert_under(t, path, old, id) else {
                 return Moved::Refused(Refusal::Halted, trees);
             };
             Moved::Done(BudgetTrees {
@@ -200,7 +184,7 @@ fn move_one(t: &mut [Row], path: &mut Path, trees: BudgetTrees, id: u64, reading
 {
     let old = trees.exhausted;
     let ready = trees.ready;
-    let Rooted::Root(exhausted) = remove_under(t, path, old, id) else {
+    let Ok(exhausted) = remove_under(t, path, old, id) else {
         return Moved::Refused(Refusal::Halted, trees);
     };
     refile(
@@ -220,8 +204,8 @@ fn move_one(t: &mut [Row], path: &mut Path, trees: BudgetTrees, id: u64, reading
 fn next_move(
     t: &mut [Row],
     path: &mut Path,
-    exhausted: Link,
-    ready: Link,
+    exhausted: Option<u64>,
+    ready: Option<u64>,
     moves: u64,
     reading: u64,
 ) -> NextMove
@@ -230,7 +214,7 @@ fn next_move(
         ≡ steps.next_move moves (table t.old) exhausted ready reading }
     ensures framed { Framed t.old t.new }
 {
-    let HeadRead::Head(head) = head_of(t, exhausted) else {
+    let Ok(head) = head_of(t, exhausted) else {
         return NextMove::Refused(
             Refusal::Damaged,
             BudgetTrees {
@@ -240,7 +224,7 @@ fn next_move(
             },
         );
     };
-    let Link::Some(id) = head else {
+    let Some(id) = head else {
         return NextMove::Emptied;
     };
     let left = moves - 1;
@@ -256,7 +240,7 @@ fn next_move(
 }
 
 // With no move left, the exhausted tree must be empty.
-fn last_move(t: &[Row], exhausted: Link, ready: Link) -> Moved
+fn last_move(t: &[Row], exhausted: Option<u64>, ready: Option<u64>) -> Moved
     ensures { out (move_answer result) (table t.now)
         ≡ steps.last_move (table t.now) exhausted ready }
 {
@@ -265,12 +249,12 @@ fn last_move(t: &[Row], exhausted: Link, ready: Link) -> Moved
         ready,
         moves: 0,
     };
-    let HeadRead::Head(head) = head_of(t, exhausted) else {
+    let Ok(head) = head_of(t, exhausted) else {
         return Moved::Refused(Refusal::Damaged, trees);
     };
     match head {
-        Link::None => Moved::Done(trees),
-        Link::Some(_) => Moved::Refused(Refusal::Damaged, trees),
+        None => Moved::Done(trees),
+        Some(_) => Moved::Refused(Refusal::Damaged, trees),
     }
 }
 
@@ -278,8 +262,8 @@ fn last_move(t: &[Row], exhausted: Link, ready: Link) -> Moved
 fn move_all(
     t: &mut [Row],
     path: &mut Path,
-    old_exhausted: Link,
-    old_ready: Link,
+    old_exhausted: Option<u64>,
+    old_ready: Option<u64>,
     moves: u64,
     reading: u64,
 ) -> Moved
@@ -332,33 +316,38 @@ fn renew_role(
     role: usize,
     moves: u64,
     reading: u64,
-) -> RoleStep
+) -> Result<u64, Refusal>
     requires { role < 3 }
-    ensures t_after { out (leaves (role_answer result) (roots_of roots.new)) (table t.new)
+    ensures t_after { out (leaves (by_number result) (roots_of roots.new)) (table t.new)
         ≡ steps.role_renewed role moves (table t.old) (roots_of roots.old) reading }
     ensures framed { Framed t.old t.new }
     ensures roots_framed { RootsFramed roots.old roots.new }
 {
     let exhausted = root_at(roots, EXHAUSTED + role);
     if exhausted.is_none() {
-        return RoleStep::Done(moves);
+        return Ok(moves);
     }
     let ready = root_at(roots, READY + role);
     match move_all(t, path, exhausted, ready, moves, reading) {
         Moved::Done(trees) => {
             store_trees(roots, role, trees);
-            RoleStep::Done(trees.moves)
+            Ok(trees.moves)
         }
         Moved::Refused(refusal, trees) => {
             store_trees(roots, role, trees);
-            RoleStep::Refused(refusal)
+            Err(refusal)
         }
     }
 }
 
 // The three roles in turn, in as many moves as there are records for all of them together.
-pub fn renew_roles(t: &mut [Row], path: &mut Path, roots: &mut [QueueRow], reading: u64) -> Verdict
-    ensures t_after { out (leaves (verdict_answer result) (roots_of roots.new)) (table t.new)
+pub fn renew_roles(
+    t: &mut [Row],
+    path: &mut Path,
+    roots: &mut [QueueRow],
+    reading: u64,
+) -> Result<(), Refusal>
+    ensures t_after { out (leaves (by_number result) (roots_of roots.new)) (table t.new)
         ≡ renewal.renew_roles 3 (length (table t.old)) (table t.old)
         (roots_of roots.old) reading }
     ensures framed { Framed t.old t.new }
@@ -369,24 +358,26 @@ pub fn renew_roles(t: &mut [Row], path: &mut Path, roots: &mut [QueueRow], readi
     while 0 < left {
         let role = 3 - left;
         match renew_role(t, path, roots, role, moves, reading) {
-            RoleStep::Done(rest) => {
+            Ok(rest) => {
                 moves = rest;
                 left -= 1;
             }
-            RoleStep::Refused(refusal) => {
-                return Verdict::Refused(refusal);
+            Err(refusal) => {
+                return Err(refusal);
             }
         }
     }
-    Verdict::Accepted
+    Ok(())
 }
 
 // Whether the queue's epoch is this one.
-pub fn is_epoch(last: Epoch, epoch: u64) -> bool
+#[tactic(auto,
+// The definitions that are opened.
+unfolding(crate::specs::Renewal::is_epoch, refusal::specs::Cases::if_equal, refusal::specs::Cases::choose,
+// And what those rest on.
+thread::specs::Membership::on_link))]
+pub fn is_epoch(last: Option<u64>, epoch: u64) -> bool
     ensures { result ≡ renewal.is_epoch last epoch }
 {
-    match last {
-        Epoch::None => false,
-        Epoch::Some(number) => number == epoch,
-    }
+    last == Some(epoch)
 }

@@ -6,20 +6,19 @@ ghost use Rattle.renewal.specs.RootRows.{roots_of};
 
 use codec::{link_from, words_of_link};
 use lent_queue::{HEAD, HEAD_TAG, QueueRow};
-use thread::Link;
 
 // A root beyond the rows is none.
-pub fn root_at(rows: &[QueueRow], k: usize) -> Link
+pub fn root_at(rows: &[QueueRow], k: usize) -> Option<u64>
     ensures { result ≡ root_at (roots_of rows.now) k }
 {
     if k < rows.len() {
         let row = rows[k];
         return link_from(row[HEAD_TAG], row[HEAD]);
     }
-    Link::None
+    None
 }
 
-pub fn set_root(rows: &mut [QueueRow], index: usize, root: Link)
+pub fn set_root(rows: &mut [QueueRow], index: usize, root: Option<u64>)
     ensures rows_after { roots_of rows.new ≡ set (roots_of rows.old) index (record { root = root }) }
     ensures roots_framed { RootsFramed rows.old rows.new }
 {

@@ -1,7 +1,5 @@
 -- Going by what a call answered.
 pub mod Cases
--- What the answer stands for.
-pub mod Answers
 -- Laws of that.
 pub mod AnswersLaws
 -- The laws by which proofs of code go by an answer.

@@ -2,44 +2,30 @@
 #![tactic(auto)]
 
 ghost use Rattle.std.specs.Prelude.{◌+◌, ◌-◌, ◌≡◌};
+ghost use Rattle.refusal.specs.Answer.{or_damaged};
 ghost use Rattle.avl.specs.Rotation.{lean_of};
-ghost use Rattle.rows.specs.Answers.{change_answer};
 ghost use Rattle.rows.specs.Asked.{answering};
 ghost use Rattle.rows.specs.Table.{table, out};
-ghost use Rattle.rotations.specs.Answers.{turned_answer};
 ghost use Rattle.rows.specs.Frame.{Framed};
 ghost use Rattle.rotations.specs.Balance as spec;
 ghost use Rattle.rotations.specs.InPlace.{is_even, height_stored, balance_by};
 
 use avl::{Lean, lean_of};
 use codec::Row;
-use rows::{Change, LinksRead, links_at, set_height, set_links};
-use thread::{Link, Links};
+use refusal::Damaged;
+use rows::{links_at, set_height, set_links};
+use thread::Links;
 
-// The stored height of a subtree.
-#[derive(Clone, Copy)]
-pub enum HeightRead {
-    Got(u8),
-    Damaged,
-}
-
-// The thread that a rotation or a balancing left on top.
-#[derive(Clone, Copy)]
-pub enum Turned {
-    Root(u64),
-    Damaged,
-}
-
-fn height(t: &[Row], l: Link) -> HeightRead
+fn height(t: &[Row], l: Option<u64>) -> Result<u8, Damaged>
     ensures { result ≡ spec.height (table t.now) l }
 {
     match l {
-        Link::None => HeightRead::Got(0),
-        Link::Some(i) => {
-            let LinksRead::Got(links) = links_at(t, i) else {
-                return HeightRead::Damaged;
+        None => Ok(0),
+        Some(i) => {
+            let Ok(links) = links_at(t, i) else {
+                return Err(Damaged);
             };
-            HeightRead::Got(links.height)
+            Ok(links.height)
         }
     }
 }
@@ -50,18 +36,18 @@ fn larger(a: u8, b: u8) -> u8
     if a < b { b } else { a }
 }
 
-fn update(t: &mut [Row], i: u64, links: Links) -> Change
-    ensures t_after { out (change_answer result) (table t.new)
-        ≡ answering change_answer (spec.update (table t.old) i links) }
+fn update(t: &mut [Row], i: u64, links: Links) -> Result<(), Damaged>
+    ensures t_after { out (or_damaged result) (table t.new)
+        ≡ answering or_damaged (spec.update (table t.old) i links) }
     ensures framed { Framed t.old t.new }
 {
     let left = links.left;
     let right = links.right;
-    let HeightRead::Got(a) = height(t, left) else {
-        return Change::Damaged;
+    let Ok(a) = height(t, left) else {
+        return Err(Damaged);
     };
-    let HeightRead::Got(b) = height(t, right) else {
-        return Change::Damaged;
+    let Ok(b) = height(t, right) else {
+        return Err(Damaged);
     };
     let m = larger(a, b);
     if m < 255 {
@@ -75,27 +61,27 @@ fn update(t: &mut [Row], i: u64, links: Links) -> Change
             },
         );
     }
-    Change::Damaged
+    Err(Damaged)
 }
 
-fn rotate_left(t: &mut [Row], i: u64) -> Turned
+fn rotate_left(t: &mut [Row], i: u64) -> Result<u64, Damaged>
     ensures t_after { out result (table t.new) ≡ spec.rotate_left (table t.old) i }
     ensures framed { Framed t.old t.new }
 {
-    let LinksRead::Got(links) = links_at(t, i) else {
-        return Turned::Damaged;
+    let Ok(links) = links_at(t, i) else {
+        return Err(Damaged);
     };
     let right_link = links.right;
-    let Link::Some(right) = right_link else {
-        return Turned::Damaged;
+    let Some(right) = right_link else {
+        return Err(Damaged);
     };
-    let LinksRead::Got(replacement) = links_at(t, right) else {
-        return Turned::Damaged;
+    let Ok(replacement) = links_at(t, right) else {
+        return Err(Damaged);
     };
     let outer = links.left;
     let inner = replacement.left;
     let other = replacement.right;
-    let Change::Made = update(
+    let Ok(()) = update(
         t,
         i,
         Links {
@@ -104,40 +90,40 @@ fn rotate_left(t: &mut [Row], i: u64) -> Turned
             height: links.height,
         },
     ) else {
-        return Turned::Damaged;
+        return Err(Damaged);
     };
-    let Change::Made = update(
+    let Ok(()) = update(
         t,
         right,
         Links {
-            left: Link::Some(i),
+            left: Some(i),
             right: other,
             height: replacement.height,
         },
     ) else {
-        return Turned::Damaged;
+        return Err(Damaged);
     };
-    Turned::Root(right)
+    Ok(right)
 }
 
-fn rotate_right(t: &mut [Row], i: u64) -> Turned
+fn rotate_right(t: &mut [Row], i: u64) -> Result<u64, Damaged>
     ensures t_after { out result (table t.new) ≡ spec.rotate_right (table t.old) i }
     ensures framed { Framed t.old t.new }
 {
-    let LinksRead::Got(links) = links_at(t, i) else {
-        return Turned::Damaged;
+    let Ok(links) = links_at(t, i) else {
+        return Err(Damaged);
     };
     let left_link = links.left;
-    let Link::Some(left) = left_link else {
-        return Turned::Damaged;
+    let Some(left) = left_link else {
+        return Err(Damaged);
     };
-    let LinksRead::Got(replacement) = links_at(t, left) else {
-        return Turned::Damaged;
+    let Ok(replacement) = links_at(t, left) else {
+        return Err(Damaged);
     };
     let outer = links.right;
     let inner = replacement.right;
     let other = replacement.left;
-    let Change::Made = update(
+    let Ok(()) = update(
         t,
         i,
         Links {
@@ -146,87 +132,87 @@ fn rotate_right(t: &mut [Row], i: u64) -> Turned
             height: links.height,
         },
     ) else {
-        return Turned::Damaged;
+        return Err(Damaged);
     };
-    let Change::Made = update(
+    let Ok(()) = update(
         t,
         left,
         Links {
             left: other,
-            right: Link::Some(i),
+            right: Some(i),
             height: replacement.height,
         },
     ) else {
-        return Turned::Damaged;
+        return Err(Damaged);
     };
-    Turned::Root(left)
+    Ok(left)
 }
 
 // The right child is rotated outward, and then the old copy of the links is written back with it.
-fn double_left(t: &mut [Row], i: u64, links: Links, right: u64) -> Turned
+fn double_left(t: &mut [Row], i: u64, links: Links, right: u64) -> Result<u64, Damaged>
     ensures t_after { out result (table t.new) ≡ spec.double_left (table t.old) i links right }
     ensures framed { Framed t.old t.new }
 {
     let kept = links.left;
-    let Turned::Root(top) = rotate_right(t, right) else {
-        return Turned::Damaged;
+    let Ok(top) = rotate_right(t, right) else {
+        return Err(Damaged);
     };
-    let Change::Made = set_links(
+    let Ok(()) = set_links(
         t,
         i,
         Links {
             left: kept,
-            right: Link::Some(top),
+            right: Some(top),
             height: links.height,
         },
     ) else {
-        return Turned::Damaged;
+        return Err(Damaged);
     };
     rotate_left(t, i)
 }
 
 // The left child is rotated outward, and then the old copy of the links is written back with it.
-fn double_right(t: &mut [Row], i: u64, links: Links, left: u64) -> Turned
+fn double_right(t: &mut [Row], i: u64, links: Links, left: u64) -> Result<u64, Damaged>
     ensures t_after { out result (table t.new) ≡ spec.double_right (table t.old) i links left }
     ensures framed { Framed t.old t.new }
 {
     let kept = links.right;
-    let Turned::Root(top) = rotate_left(t, left) else {
-        return Turned::Damaged;
+    let Ok(top) = rotate_left(t, left) else {
+        return Err(Damaged);
     };
-    let Change::Made = set_links(
+    let Ok(()) = set_links(
         t,
         i,
         Links {
-            left: Link::Some(top),
+            left: Some(top),
             right: kept,
             height: links.height,
         },
     ) else {
-        return Turned::Damaged;
+        return Err(Damaged);
     };
     rotate_right(t, i)
 }
 
 // The left side is too high: its inner side is brought outward first where that is the higher.
-fn balance_left(t: &mut [Row], i: u64, links: Links) -> Turned
+fn balance_left(t: &mut [Row], i: u64, links: Links) -> Result<u64, Damaged>
     ensures t_after { out result (table t.new) ≡ spec.balance_left (table t.old) i links }
     ensures framed { Framed t.old t.new }
 {
     let left_link = links.left;
-    let Link::Some(left) = left_link else {
-        return Turned::Damaged;
+    let Some(left) = left_link else {
+        return Err(Damaged);
     };
-    let LinksRead::Got(child) = links_at(t, left) else {
-        return Turned::Damaged;
+    let Ok(child) = links_at(t, left) else {
+        return Err(Damaged);
     };
     let outer = child.left;
     let inner = child.right;
-    let HeightRead::Got(a) = height(t, outer) else {
-        return Turned::Damaged;
+    let Ok(a) = height(t, outer) else {
+        return Err(Damaged);
     };
-    let HeightRead::Got(b) = height(t, inner) else {
-        return Turned::Damaged;
+    let Ok(b) = height(t, inner) else {
+        return Err(Damaged);
     };
     if a < b {
         return double_right(t, i, links, left);
@@ -235,24 +221,24 @@ fn balance_left(t: &mut [Row], i: u64, links: Links) -> Turned
 }
 
 // The right side is too high.
-fn balance_right(t: &mut [Row], i: u64, links: Links) -> Turned
+fn balance_right(t: &mut [Row], i: u64, links: Links) -> Result<u64, Damaged>
     ensures t_after { out result (table t.new) ≡ spec.balance_right (table t.old) i links }
     ensures framed { Framed t.old t.new }
 {
     let right_link = links.right;
-    let Link::Some(right) = right_link else {
-        return Turned::Damaged;
+    let Some(right) = right_link else {
+        return Err(Damaged);
     };
-    let LinksRead::Got(child) = links_at(t, right) else {
-        return Turned::Damaged;
+    let Ok(child) = links_at(t, right) else {
+        return Err(Damaged);
     };
     let outer = child.right;
     let inner = child.left;
-    let HeightRead::Got(a) = height(t, outer) else {
-        return Turned::Damaged;
+    let Ok(a) = height(t, outer) else {
+        return Err(Damaged);
     };
-    let HeightRead::Got(b) = height(t, inner) else {
-        return Turned::Damaged;
+    let Ok(b) = height(t, inner) else {
+        return Err(Damaged);
     };
     if a < b {
         return double_left(t, i, links, right);
@@ -267,30 +253,30 @@ fn lean(left: u8, right: u8) -> Lean
     lean_of(left as u64, right as u64)
 }
 
-pub fn balance(t: &mut [Row], i: u64) -> Turned
-    ensures t_after { out (turned_answer result) (table t.new)
-        ≡ answering turned_answer (spec.balance (table t.old) i) }
+pub fn balance(t: &mut [Row], i: u64) -> Result<u64, Damaged>
+    ensures t_after { out (or_damaged result) (table t.new)
+        ≡ answering or_damaged (spec.balance (table t.old) i) }
     ensures framed { Framed t.old t.new }
 {
-    let LinksRead::Got(links) = links_at(t, i) else {
-        return Turned::Damaged;
+    let Ok(links) = links_at(t, i) else {
+        return Err(Damaged);
     };
     let left = links.left;
     let right = links.right;
-    let HeightRead::Got(a) = height(t, left) else {
-        return Turned::Damaged;
+    let Ok(a) = height(t, left) else {
+        return Err(Damaged);
     };
-    let HeightRead::Got(b) = height(t, right) else {
-        return Turned::Damaged;
+    let Ok(b) = height(t, right) else {
+        return Err(Damaged);
     };
     match lean(a, b) {
         Lean::Left => balance_left(t, i, links),
         Lean::Right => balance_right(t, i, links),
         Lean::Even => {
-            let Change::Made = update(t, i, links) else {
-                return Turned::Damaged;
+            let Ok(()) = update(t, i, links) else {
+                return Err(Damaged);
             };
-            Turned::Root(i)
+            Ok(i)
         }
     }
 }
@@ -311,38 +297,43 @@ fn is_even(left: u8, right: u8) -> bool
 }
 
 // The height above sides of these heights, stored at a node that stays where it is.
-fn store_height(t: &mut [Row], i: u64, left: u8, right: u8) -> Turned
+fn store_height(t: &mut [Row], i: u64, left: u8, right: u8) -> Result<u64, Damaged>
     ensures t_after { out result (table t.new) ≡ height_stored (table t.old) i left right }
     ensures framed { Framed t.old t.new }
 {
     let m = larger(left, right);
     if m < 255 {
-        let Change::Made = set_height(t, i, m + 1) else {
-            return Turned::Damaged;
+        let Ok(()) = set_height(t, i, m + 1) else {
+            return Err(Damaged);
         };
-        return Turned::Root(i);
+        return Ok(i);
     }
-    Turned::Damaged
+    Err(Damaged)
 }
 
 // `balance` for the way up, where the node's links are known and nearly every node stays in its place: then nothing is
 // read again, the height alone is stored, and no call is made.
-pub fn rebalance(t: &mut [Row], i: u64, left: Link, right: Link) -> Turned
-    ensures t_after { out (turned_answer result) (table t.new)
-        ≡ answering turned_answer (balance_by (table t.old) i left right) }
+pub fn rebalance(
+    t: &mut [Row],
+    i: u64,
+    left: Option<u64>,
+    right: Option<u64>,
+) -> Result<u64, Damaged>
+    ensures t_after { out (or_damaged result) (table t.new)
+        ≡ answering or_damaged (balance_by (table t.old) i left right) }
     ensures framed { Framed t.old t.new }
 {
-    let HeightRead::Got(a) = height(t, left) else {
-        return Turned::Damaged;
+    let Ok(a) = height(t, left) else {
+        return Err(Damaged);
     };
-    let HeightRead::Got(b) = height(t, right) else {
-        return Turned::Damaged;
+    let Ok(b) = height(t, right) else {
+        return Err(Damaged);
     };
     if is_even(a, b) {
         return store_height(t, i, a, b);
     }
-    let Turned::Root(top) = balance(t, i) else {
-        return Turned::Damaged;
+    let Ok(top) = balance(t, i) else {
+        return Err(Damaged);
     };
-    Turned::Root(top)
+    Ok(top)
 }

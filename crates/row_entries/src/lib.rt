@@ -3,21 +3,20 @@
 #![tactic(auto)]
 
 ghost use Rattle.std.specs.Prelude.{◌≡◌, ◌≢◌};
-ghost use Rattle.refusal.specs.Answer.{damaged};
+ghost use Rattle.refusal.specs.Answer.{damaged, by_number};
 ghost use Rattle.codec.specs.Codec.{link_from, membership_from};
 ghost use Rattle.rows.specs.Asked.{answering};
 ghost use Rattle.rows.specs.Table.{table, out};
 ghost use Rattle.rows.specs.Frame.{Framed};
-ghost use Rattle.lists.specs.Answers.{listed};
 ghost use Rattle.lists.specs.Calls as lists;
-ghost use Rattle.ready_index.specs.Answers.{tree_least, tree_contains, tree_root};
 ghost use Rattle.ready_index.specs.Calls as index;
 ghost use Rattle.row_entries.specs.Words.{list_from, link_words, list_words, index_words, contains_words};
 
 use codec::{Row, link_from, membership_from};
-use lists::{Listed, push, push_front};
-use ready_index::{Path, TreeContains, TreeLeast, TreeRoot, contains, first, insert};
-use thread::{Link, ThreadQueue};
+use lists::{push, push_front};
+use ready_index::{Path, contains, first, insert};
+use refusal::Refusal;
+use thread::ThreadQueue;
 
 // A record's number, or none.
 #[repr(C)]
@@ -67,20 +66,20 @@ fn list_of(head_some: u64, head: u64, tail_some: u64, tail: u64, len: u64) -> Th
     }
 }
 
-fn link_words(link: Link) -> LinkWords
+fn link_words(link: Option<u64>) -> LinkWords
     ensures { result ≡ link_words link }
 {
     match link {
-        Link::None => LinkWords::NONE,
-        Link::Some(number) => LinkWords { some: 1, number },
+        None => LinkWords::NONE,
+        Some(number) => LinkWords { some: 1, number },
     }
 }
 
-fn list_words(answer: Listed) -> ListAnswer
-    ensures { result ≡ list_words (listed answer) }
+fn list_words(answer: Result<ThreadQueue, Refusal>) -> ListAnswer
+    ensures { result ≡ list_words (by_number answer) }
 {
     match answer {
-        Listed::List(list) => {
+        Ok(list) => {
             let head = list.head;
             let tail = list.tail;
             ListAnswer {
@@ -90,7 +89,7 @@ fn list_words(answer: Listed) -> ListAnswer
                 len: list.len,
             }
         }
-        Listed::Refused(refusal) => ListAnswer {
+        Err(refusal) => ListAnswer {
             number: refusal.number(),
             head: LinkWords::NONE,
             tail: LinkWords::NONE,
@@ -174,53 +173,31 @@ pub extern "C" fn rows_list_remove(
     list_words(lists::remove(t, list, id, membership))
 }
 
-fn least_words(answer: TreeLeast) -> IndexAnswer
-    ensures { result ≡ index_words (tree_least answer) }
+#[tactic(auto, unfolding(crate::specs::Words::contains_words))]
+fn contains_words(answer: Result<bool, Refusal>) -> ContainsAnswer
+    ensures { result ≡ contains_words (by_number answer) }
 {
     match answer {
-        TreeLeast::None => IndexAnswer {
+        Ok(holds) => ContainsAnswer {
             number: 0,
-            thread: LinkWords::NONE,
+            holds: u64::from(holds),
         },
-        TreeLeast::Some(number) => IndexAnswer {
-            number: 0,
-            thread: LinkWords { some: 1, number },
-        },
-        TreeLeast::Refused(refusal) => IndexAnswer {
-            number: refusal.number(),
-            thread: LinkWords::NONE,
-        },
-    }
-}
-
-fn contains_words(answer: TreeContains) -> ContainsAnswer
-    ensures { result ≡ contains_words (tree_contains answer) }
-{
-    match answer {
-        TreeContains::Yes => ContainsAnswer {
-            number: 0,
-            holds: 1,
-        },
-        TreeContains::No => ContainsAnswer {
-            number: 0,
-            holds: 0,
-        },
-        TreeContains::Refused(refusal) => ContainsAnswer {
+        Err(refusal) => ContainsAnswer {
             number: refusal.number(),
             holds: 0,
         },
     }
 }
 
-fn root_words(answer: TreeRoot) -> IndexAnswer
-    ensures { result ≡ index_words (tree_root answer) }
+fn index_words(answer: Result<Option<u64>, Refusal>) -> IndexAnswer
+    ensures { result ≡ index_words (by_number answer) }
 {
     match answer {
-        TreeRoot::Root(root) => IndexAnswer {
+        Ok(root) => IndexAnswer {
             number: 0,
             thread: link_words(root),
         },
-        TreeRoot::Refused(refusal) => IndexAnswer {
+        Err(refusal) => IndexAnswer {
             number: refusal.number(),
             thread: LinkWords::NONE,
         },
@@ -233,7 +210,7 @@ pub extern "C" fn rows_index_first(t: &[Row], some: u64, number: u64) -> IndexAn
     ensures { result ≡ index_words (index.first_call (table t.now) (link_from some number)) }
 {
     let root = link_from(some, number);
-    least_words(first(t, root))
+    index_words(first(t, root))
 }
 
 // ready_index::contains
@@ -260,7 +237,7 @@ pub extern "C" fn rows_index_insert(
     ensures framed { Framed t.old t.new }
 {
     let root = link_from(some, number);
-    root_words(insert(t, path, root, id))
+    index_words(insert(t, path, root, id))
 }
 
 // ready_index::remove, with a path that the caller lends.
@@ -278,5 +255,5 @@ pub extern "C" fn rows_index_remove(
     ensures framed { Framed t.old t.new }
 {
     let root = link_from(some, number);
-    root_words(ready_index::remove(t, path, root, id))
+    index_words(ready_index::remove(t, path, root, id))
 }

@@ -1,19 +1,16 @@
 -- Laws by which a call asks on rows what its definition asks of the table: r is what `asked` gave.
-use Rattle.std.specs.Prelude.{ℕ, ◌<◌, ◌≤◌, refl, Bool, List, ltb, length}
+use Rattle.std.specs.Prelude.{ℕ, ◌<◌, ◌≤◌, refl, Bool, List, ltb, length, Result, Ok, Err}
 use Rattle.std.proofs.Math.Path.{◌≡◌, ap}
 use Rattle.std.proofs.Common.{sym, ◌∙◌}
 use Rattle.std.proofs.Math.Bool.{true, false}
 use borrow.Author.Tests.{lt-ltb, le-ltb}
 use Rattle.refusal.specs.declared.Refusal.{Refusal}
-use Rattle.refusal.specs.Answer.{Answer, value, refused, number_of, bad_table, no_thread}
+use Rattle.refusal.specs.Answer.{Answer, value, refused, number_of, bad_table, no_thread, by_number}
 use Rattle.refusal.specs.Cases.{never, choose, if_less}
 use Rattle.thread.specs.declared.ThreadRecord.{ThreadRecord}
-use Rattle.rows.specs.declared.Permission.{Permission}
-use Rattle.rows.specs.declared.Permission.TheVariants as answer
 use Rattle.rows.specs.Table.{Out, out, table, max_records}
 use Rattle.rows.specs.RowTableLaws.{table_length}
 use Rattle.rows.specs.Asked.{asked_table, asked, answering}
-use Rattle.rows.specs.Answers.{permission_answer}
 
 -- The record count is the count of rows.
 module _ {A : Type 0} {y : A} (a b : A) (n : ℕ) (rows : List (List ℕ)) where
@@ -34,11 +31,12 @@ module _ {A : Type 0} {y : A} (refuse : ℕ → A) (call : A) (rows : List (List
   unfolding asked_table
   table_granted p h = not_below_count (refuse bad_table) call max_records rows p h
 
-module _ {A : Type 0} {y : A} {r : Permission} (t : List ThreadRecord) (id : ℕ) (refuse : ℕ → A) (call : A) where
-  pub granted : permission_answer r ≡ asked t id refused (value tt) → r ≡ answer.Granted → y ≡ call
+module _ {A : Type 0} {y : A} {r : Result (Unit {0}) Refusal} (t : List ThreadRecord) (id : ℕ) (refuse : ℕ → A)
+    (call : A) where
+  pub granted : by_number r ≡ asked t id refused (value tt) → r ≡ (Ok tt) → y ≡ call
       → y ≡ asked t id refuse call
   unfolding asked asked_table if_less choose
-  granted e m h = go (ltb max_records (length t)) (ltb id (length t)) (ap permission_answer (sym m) ∙ e)
+  granted e m h = go (ltb max_records (length t)) (ltb id (length t)) (ap by_number (sym m) ∙ e)
     where
       go : (many below : Bool)
           → ◌≡◌ {A = Answer (Unit {0})} (value tt)
@@ -48,10 +46,10 @@ module _ {A : Type 0} {y : A} {r : Permission} (t : List ThreadRecord) (id : ℕ
       go false true k = h
       go false false k = never cc
 
-  pub turned_away : {n : Refusal} → permission_answer r ≡ asked t id refused (value tt) → r ≡ answer.Refused n
+  pub turned_away : {n : Refusal} → by_number r ≡ asked t id refused (value tt) → r ≡ Err n
       → y ≡ refuse (number_of n) → y ≡ asked t id refuse call
   unfolding asked asked_table if_less choose
-  turned_away {n} e m h = go (ltb max_records (length t)) (ltb id (length t)) (ap permission_answer (sym m) ∙ e)
+  turned_away {n} e m h = go (ltb max_records (length t)) (ltb id (length t)) (ap by_number (sym m) ∙ e)
     where
       go : (many below : Bool)
           → ◌≡◌ {A = Answer (Unit {0})} (refused (number_of n))
@@ -91,3 +89,5 @@ unfolding answering
 answered_by f h e = rw (e, sym h) refl
 
 pub ruleset counts = (below_count, not_below_count)
+
+pub ruleset asking = (counts, table_refused, table_granted)

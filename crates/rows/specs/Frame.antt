@@ -1,7 +1,7 @@
 -- What calls leave of the words of a table's rows (crate codec, Frame.antt, has one row's): as many rows as before, and
 -- each what became of the one with its number.
 use Rattle.std.specs.Prelude.{ℕ, zero, suc, ◌≡◌, refl, List, [], ◌∷◌, length, get_or, set}
-use Rattle.std.proofs.Common.{sym, ap, ◌∙◌}
+use Rattle.std.proofs.Common.{ap, ◌∙◌}
 use Rattle.codec.specs.Frame.{RowFramed}
 use Rattle.codec.specs.FrameLaws.{row_as_it_was, row_then}
 

@@ -2,8 +2,6 @@
 pub mod Table
 -- What a call on one tree or one list asks first.
 pub mod Asked
--- What the answers stand for.
-pub mod Answers
 -- Laws of those.
 pub mod AnswersLaws
 -- Choosing by what was read, and by whether a store was made.
@@ -14,6 +12,8 @@ pub mod RowTableLaws
 pub mod TableLaws
 -- Laws by which a call asks on rows what it asks first.
 pub mod AskedLaws
+-- Laws by which a read or a store of one part meets them.
+pub mod PartLaws
 -- What a refusal leaves, word for word.
 pub mod Unmoved
 -- What any call leaves of the rows' words.

@@ -1,15 +1,13 @@
 -- The queue that a value stands for, part by part, and what the answers of its calls stand for.
-use Rattle.std.specs.Prelude.{ℕ, Bool, List, map, ◌≡◌}
-use Rattle.time.specs.declared.Epoch.{Epoch}
+use Rattle.std.specs.Prelude.{ℕ, Bool, List, map, ◌≡◌, Option}
+use Rattle.refusal.specs.Answer.{by_number}
 use Rattle.thread.specs.declared.ThreadQueue.{ThreadQueue}
 use Rattle.policy_words.specs.PolicyWords.{word, epoch_from}
 use Rattle.queue.specs.RunQueue.{CpuRunQueue}
 use Rattle.queue.specs.Queue.{Step, step}
-use Rattle.queue.specs.Answers.{verdict_answer}
 use Rattle.lent_queue.specs.LentQueue.{total_word, budgets_word, epoch_tag, epoch_word, mark_word, list_from}
 use Rattle.lent_queue.specs.LentQueue.{halted_from}
 use Rattle.selection.specs.Peek.{Peeked, peeked}
-use Rattle.selection.specs.Answers.{peek_answer}
 use Rattle.run_queue.specs.declared.CpuRunQueue as value
 use Rattle.run_queue.specs.declared.QueueStep.{QueueStep}
 use Rattle.run_queue.specs.declared.SelectionStep.{SelectionStep}
@@ -29,11 +27,11 @@ value_of q =
 
 -- The verdict and the queue of a step.
 abbrev pub step_of : QueueStep → Step (Unit {0})
-step_of s = step (verdict_answer s.answer) (value_of s.queue)
+step_of s = step (by_number s.answer) (value_of s.queue)
 
 -- The answer, the window and the queue of a selection.
 abbrev pub selection_of : SelectionStep → Peeked CpuRunQueue
-selection_of s = peeked (peek_answer s.answer) s.window (value_of s.queue)
+selection_of s = peeked (by_number s.answer) s.window (value_of s.queue)
 
 -- The lists of rows.
 unfoldable pub lists_of : List (List ℕ) → List ThreadQueue
@@ -53,7 +51,7 @@ with_lists q lists =
     }
 
 -- The words of a row that stand for these counts, this epoch and this mark.
-pub record MarksAre (w : List ℕ) (total budgets : ℕ) (epoch : Epoch) (halted : Bool) : Type 0 where
+pub record MarksAre (w : List ℕ) (total budgets : ℕ) (epoch : Option ℕ) (halted : Bool) : Type 0 where
   pub total_is : word w total_word ≡ total
   pub budgets_are : word w budgets_word ≡ budgets
   pub epoch_is : epoch_from (word w epoch_tag) (word w epoch_word) ≡ epoch

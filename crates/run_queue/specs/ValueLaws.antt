@@ -1,39 +1,39 @@
 -- Laws by which a value stored to rows, and read from them, is the same queue; and a call on the rows is the call on
 -- the value.
 use Rattle.std.specs.Prelude.{ℕ, zero, suc, ◌+◌, ◌<◌, ◌≤◌, min, ◌≡◌, Bool, true, false, List, [], ◌∷◌, ◌++◌, map}
+use Rattle.std.specs.Prelude.{Option, None}
 use Rattle.std.specs.Prelude.{length, get_or, set, take, drop, replicate}
 use Rattle.std.proofs.Common.{arith, sym, ap, ◌∙◌, append-nil, length-take, drop_of_length-le, take_all, take_at}
 use Rattle.std.proofs.Common.{drop-drop, get_or-drop, get_or-append-add}
-use Rattle.std.proofs.Math.Path.{refl}
+use Rattle.std.proofs.Math.Path.{refl, subst}
+use Rattle.std.specs.Array.{IsFromFnResultFrom}
+use denote.Param.Members.{Mut, Called}
 use Rattle.std.proofs.lemmas.List.{length-map}
 use Rattle.std.proofs.Math.ListN.{get_or-map}
 use Rattle.std.proofs.Math.Seq.{drop-append-add}
 use Rattle.refusal.specs.Answer.{Answer}
 use Rattle.refusal.specs.Cases.{choose, if_equal}
-use Rattle.time.specs.declared.Epoch.{Epoch}
-use Rattle.time.specs.declared.Epoch.TheVariants as epoch
 use Rattle.arbitration.specs.declared.CpuWindow.{CpuWindow}
 use Rattle.thread.specs.declared.CpuIndex.{CpuIndex}
-use Rattle.thread.specs.declared.Link.{Link}
 use Rattle.thread.specs.declared.ThreadQueue.{ThreadQueue}
 use Rattle.thread.specs.declared.ThreadRecord.{ThreadRecord}
 use Rattle.thread.specs.Membership.{empty_queue}
-use Rattle.rows.specs.Table.{Out, out}
+use Rattle.rows.specs.Table.{out}
 use Rattle.queue.specs.declared.Root.{Root}
 use Rattle.queue.specs.RunQueue.{CpuRunQueue}
-use Rattle.queue.specs.Queue.{Step, step, empty_root, new_queue, enqueue_call, remove_call}
+use Rattle.queue.specs.Queue.{step, empty_root, new_queue, enqueue_call, remove_call}
 use Rattle.codec.specs.Codec.{link_from}
 use Rattle.lent_queue.specs.LentQueue.{queue_rows, priorities, tree_count, root_rows, list_from, halted_from, queue_of}
 use Rattle.lent_queue.specs.LentQueue.{with_fair, with_marks}
 use Rattle.lent_queue.specs.LentLaws.{map_set}
-use Rattle.demands.specs.declared.CandidateOption.{CandidateOption}
 use Rattle.selection.specs.declared.Selection.{Selection}
 use Rattle.renewal.specs.Renewal.{root_at}
 use Rattle.renewal.specs.RootRows.{roots_of, roots_length}
-use Rattle.selection.specs.Peek.{Peeked, peeked, peek_next}
+use Rattle.selection.specs.Peek.{peeked, peek_next}
 use Rattle.lent_selection.specs.LentParts.{with_indices}
 use Rattle.lent_selection.specs.LentLaws.{roots_stored, part_size}
 use Rattle.run_queue.specs.Value.{lists_of, with_lists, MarksAre}
+use Rattle.arbitration.specs.declared.Candidate.{Candidate}
 
 -- The first so many of one list over those of another.
 unfoldable pub overlaid : {A : Type 0} → ℕ → List A → List A → List A
@@ -75,11 +75,12 @@ pub list_copied : {x y : List ThreadQueue} {l : ThreadQueue} (new old : List Thr
     → y ≡ overlaid (k + 1) new old
 list_copied new old k = over_one new old priorities k empty_queue
 
-pub root_copied : {x y : List Root} {r : Link} (new old : List Root) (k : ℕ) → x ≡ overlaid k new old
+pub root_copied : {x y : List Root} {r : Option ℕ} (new old : List Root) (k : ℕ) → x ≡ overlaid k new old
     → r ≡ root_at new k → y ≡ set x k (record { root = r }) → k < tree_count → length new ≡ tree_count
     → length old ≡ tree_count
     → y ≡ overlaid (k + 1) new old
-root_copied new old k e f s = over_one new old tree_count k empty_root e (ap (λ (r : Link). record { root = r }) f) s
+root_copied new old k e f s =
+    over_one new old tree_count k empty_root e (ap (λ (r : Option ℕ). record { root = r }) f) s
 
 -- The lists, and the roots, are as many as their rows.
 pub lists_size : (rows : List (List ℕ)) → length rows ≡ priorities → length (lists_of rows) ≡ priorities
@@ -99,6 +100,44 @@ pub list_got : {l : ThreadQueue} (rows : List (List ℕ)) (k : ℕ) → l ≡ li
     → l ≡ get_or (lists_of rows) k empty_queue
 unfolding lists_of list_from link_from if_equal choose
 list_got rows k e = e ∙ sym (get_or-map list_from rows k [])
+
+-- Two lists of the same elements, of which the second are read by a default.
+same_at : {A : Type 0} (e : A) (xs ys : List A) → length xs ≡ length ys
+    → ((k : ℕ) (d : A) → k < length xs → get_or xs k d ≡ get_or ys k e) → xs ≡ ys
+same_at e [] [] long at = refl
+same_at e [] (y ∷ ys) long at = absurd (omega arith)
+same_at e (x ∷ xs) [] long at = absurd (omega arith)
+same_at e (x ∷ xs) (y ∷ ys) long at =
+    let first : x ≡ y = at 0 x (omega arith) in
+    rw (first, same_at e xs ys (omega arith) (λ k d h. at (suc k) d (omega arith))) refl
+
+-- What `array::from_fn` makes by a closure that stays as it is and answers by the place.
+module _ {F B : Type 0} (g : Mut F (ℕ × Unit {0}) B) (f : F) (by_place : ℕ → B)
+    (keeps : (i : ℕ) (y : B) (q : F) → Called g f (i, tt) y q → (q ≡ f) × (y ≡ by_place i)) where
+  pub made_at : (j : ℕ) (e : F) (ys : List B) (i n k : ℕ) (d : B) → k ≡ i + j → j < n → e ≡ f
+      → IsFromFnResultFrom g e ys i n → get_or ys k d ≡ by_place k
+  made_at j e ys i zero k d there less same all = absurd (omega arith)
+  made_at zero e ys i (suc n) k d there less same all =
+      let here : k ≡ i = omega arith in
+      rw here (all.2.1 d ∙ (keeps i all.1 all.0 (subst (λ (s : F). Called g s (i, tt) all.1 all.0) same all.3)).1)
+  made_at (suc j) e ys i (suc n) k d there less same all =
+      made_at j all.0 ys (i + 1) n k d (omega arith) (omega arith)
+      (keeps i all.1 all.0 (subst (λ (s : F). Called g s (i, tt) all.1 all.0) same all.3)).0 all.4
+
+-- Each list, and each root, made of its row.
+module _ (rows : List (List ℕ)) where
+  pub lists_made : {r : List ThreadQueue} → length r ≡ priorities → length rows ≡ priorities
+      → ((k : ℕ) (d : ThreadQueue) → k < priorities → get_or r k d ≡ list_from (get_or rows k [])) → r ≡ lists_of rows
+  lists_made {r} long size made =
+      same_at empty_queue r (lists_of rows) (long ∙ sym (lists_size rows size))
+      (λ k d h. list_got rows k (made k d (omega (arith, long, h))))
+
+  pub roots_made : {r : List Root} → length r ≡ tree_count → length rows ≡ tree_count
+      → ((k : ℕ) (d : Root) → k < tree_count → get_or r k d ≡ record { root = root_at (roots_of rows) k })
+      → r ≡ roots_of rows
+  roots_made {r} long size made =
+      same_at empty_root r (roots_of rows) (long ∙ sym (roots_size rows size))
+      (λ k d h. made k d (omega (arith, long, h)))
 
 -- The queue with other rows for its lists.
 module _ (rows part : List (List ℕ)) (of_part : length part ≡ priorities) where
@@ -150,7 +189,7 @@ roots_read rows e = e
 -- All parts stored, whatever stood there before.
 pub all_stored : {x₁ x₂ x₃ x₄ : CpuRunQueue} {w : List ℕ} (x₀ : CpuRunQueue) (realtime : List ThreadQueue) (total : ℕ)
     (fair : ThreadQueue)
-    (indices : List Root) (epoch : Epoch) (budgets : ℕ) (halted : Bool)
+    (indices : List Root) (epoch : Option ℕ) (budgets : ℕ) (halted : Bool)
     → x₁ ≡ with_lists x₀ realtime → x₂ ≡ with_fair x₁ fair → x₃ ≡ with_indices x₂ indices → x₄ ≡ with_marks x₃ w
     → MarksAre w total budgets epoch halted
     → x₄
@@ -169,7 +208,7 @@ all_stored x₀ realtime total fair indices epoch budgets halted lists list root
 
 -- All parts read.
 pub all_read : {q : CpuRunQueue} {realtime : List ThreadQueue} {total : ℕ} {fair : ThreadQueue} {indices : List Root}
-    {epoch : Epoch}
+    {epoch : Option ℕ}
     {budgets : ℕ} {halted : Bool}
     → realtime ≡ q.realtime → total ≡ q.realtime_len → fair ≡ q.fair → indices ≡ q.indices
     → epoch ≡ q.budget_epoch
@@ -202,7 +241,7 @@ pub new_made : {list fair : ThreadQueue} → list ≡ empty_queue → fair ≡ e
       realtime_len = 0;
       fair = fair;
       indices = replicate tree_count empty_root;
-      budget_epoch = epoch.None;
+      budget_epoch = None;
       budget_threads = 0;
       halted = false;
     }
@@ -220,7 +259,7 @@ module _ {x y v w : CpuRunQueue} {t₁ : List ThreadRecord} (t : List ThreadReco
   removed {a} id c e s f = ap (λ q. out (step a q) t₁) f ∙ s ∙ ap (λ q. remove_call t q id c) e
 
   pub peeked_by_rows : {a : Answer Selection} {w₁ : CpuWindow} (c : CpuIndex) (now : ℕ) (window : CpuWindow)
-      (current : CandidateOption)
+      (current : Option Candidate)
       → x ≡ v → out (peeked a w₁ y) t₁ ≡ peek_next t x c now window current → w ≡ y
       → out (peeked a w₁ w) t₁ ≡ peek_next t v c now window current
   peeked_by_rows {a} {w₁} c now window current e s f =

@@ -14,20 +14,19 @@ ghost use Rattle.lent_queue.specs.LentQueue.{halted_from, queue_of};
 ghost use Rattle.selection.specs.Peek.{peek_next};
 ghost use Rattle.run_queue.specs.Value.{value_of, step_of, selection_of, MarksAre};
 
-use arbitration::CpuWindow;
+use arbitration::{Candidate, CpuWindow};
 use codec::{Row, words_of_epoch};
-use demands::CandidateOption;
 use lent_queue::{
     QUEUE_ROW_WORDS, QUEUE_ROWS, QueueRow, QueueRows, budget_len, enqueue_lent, epoch_at,
     fair_list, is_halted, real_time_len, remove_lent, set_fair, store_marks,
 };
 use lent_selection::peek_lent;
 use priority_lists::{lists_of, store_lists};
-use queue::{PRIORITIES, Root, TREES, Verdict};
+use queue::{PRIORITIES, Root, TREES};
 use ready_index::Path;
-use selection::PeekAnswer;
-use thread::{CpuIndex, Link, ThreadId, ThreadQueue};
-use time::Epoch;
+use refusal::Refusal;
+use selection::Selection;
+use thread::{CpuIndex, ThreadId, ThreadQueue};
 use tree_roots::{roots_of, store_roots};
 
 // 256 priority lists and their total, the fair list, twelve trees, the epoch of the last selection, the number of
@@ -38,7 +37,7 @@ pub struct CpuRunQueue {
     pub realtime_len: u64,
     pub fair: ThreadQueue,
     pub indices: [Root; TREES],
-    pub budget_epoch: Epoch,
+    pub budget_epoch: Option<u64>,
     pub budget_threads: u64,
     pub halted: bool,
 }
@@ -46,28 +45,31 @@ pub struct CpuRunQueue {
 // The queue as a call leaves it.
 #[derive(Clone, Copy)]
 pub struct QueueStep {
-    pub answer: Verdict,
+    pub answer: Result<(), Refusal>,
     pub queue: CpuRunQueue,
 }
 
 // The answer, with window and queue as selection leaves them.
 #[derive(Clone, Copy)]
 pub struct SelectionStep {
-    pub answer: PeekAnswer,
+    pub answer: Result<Selection, Refusal>,
     pub window: CpuWindow,
     pub queue: CpuRunQueue,
 }
 
+#[tactic(auto, using(crate::specs::ValueLaws::values))]
 fn word_of_mark(halted: bool) -> u64
     ensures { halted_from result ≡ halted }
 {
-    if halted {
-        return 1;
-    }
-    0
+    u64::from(halted)
 }
 
-fn words_of_marks(realtime_len: u64, budget_threads: u64, epoch: Epoch, halted: bool) -> QueueRow
+fn words_of_marks(
+    realtime_len: u64,
+    budget_threads: u64,
+    epoch: Option<u64>,
+    halted: bool,
+) -> QueueRow
     ensures { MarksAre result realtime_len budget_threads epoch halted }
 {
     let words = words_of_epoch(epoch);
@@ -76,6 +78,7 @@ fn words_of_marks(realtime_len: u64, budget_threads: u64, epoch: Epoch, halted: 
 }
 
 // The value's parts stored to rows.
+#[tactic(auto, using(crate::specs::ValueLaws::values))]
 fn store(q: &mut QueueRows, queue: CpuRunQueue)
     ensures { queue_of q.new ≡ value_of queue }
 {
@@ -96,6 +99,7 @@ fn store(q: &mut QueueRows, queue: CpuRunQueue)
 }
 
 // The value that rows stand for.
+#[tactic(auto, using(crate::specs::ValueLaws::values))]
 fn load(q: &QueueRows) -> CpuRunQueue
     ensures { value_of result ≡ queue_of q.now }
 {
@@ -115,6 +119,7 @@ fn load(q: &QueueRows) -> CpuRunQueue
 }
 
 // At the back, or at the front.
+#[tactic(auto, using(crate::specs::ValueLaws::calls))]
 fn insert(
     queue: CpuRunQueue,
     t: &mut [Row],
@@ -139,11 +144,12 @@ fn insert(
 
 impl CpuRunQueue {
     // Empty lists and trees, no epoch, not halted.
+    #[tactic(auto, using(crate::specs::ValueLaws::values))]
     pub fn new() -> Self
         ensures { value_of result ≡ calls.new_queue }
     {
         let list = ThreadQueue::new();
-        let root = Root { root: Link::None };
+        let root = Root { root: None };
         let realtime = [list; PRIORITIES];
         let indices = [root; TREES];
         Self {
@@ -151,7 +157,7 @@ impl CpuRunQueue {
             realtime_len: 0,
             fair: ThreadQueue::new(),
             indices,
-            budget_epoch: Epoch::None,
+            budget_epoch: None,
             budget_threads: 0,
             halted: false,
         }
@@ -201,6 +207,7 @@ impl CpuRunQueue {
     }
 
     // The thread leaves its list and the tree that holds it.
+    #[tactic(auto, using(crate::specs::ValueLaws::calls))]
     pub fn remove(self, t: &mut [Row], path: &mut Path, id: ThreadId, cpu: CpuIndex) -> QueueStep
         ensures t_after { out (step_of result) (table t.new) ≡ calls.remove_call (table t.old)
             (value_of self) id.0 cpu }
@@ -218,6 +225,7 @@ impl CpuRunQueue {
 
     // The queued thread with the least dispatch key, or none; the demand; the lowest fair pass; window and queue as
     // they are left.
+    #[tactic(auto, using(crate::specs::ValueLaws::calls))]
     pub fn peek_next(
         self,
         t: &mut [Row],
@@ -225,7 +233,7 @@ impl CpuRunQueue {
         cpu: CpuIndex,
         reading: u64,
         window: CpuWindow,
-        current: CandidateOption,
+        current: Option<Candidate>,
     ) -> SelectionStep
         ensures t_after { out (selection_of result) (table t.new)
             ≡ peek_next (table t.old) (value_of self) cpu reading window current }

@@ -1,8 +1,7 @@
 -- Accounting of one record and the window between two readings, the end of a turn, and the current thread as a
 -- candidate. After `account_current`,
 -- `choose_ready` and `current_candidate` of scheduler/state/runtime.rs.
-use Rattle.std.specs.Prelude.{ℕ, Bool, true, false, List}
-use Rattle.std.proofs.Math.Option.{Option, none, some}
+use Rattle.std.specs.Prelude.{ℕ, Bool, true, false, List, Option, Some, None}
 use Rattle.refusal.specs.Answer.{Answer, value, refused}
 use Rattle.refusal.specs.Cases.{choose, if_equal, given, and_then}
 use Rattle.algorithms.specs.declared.Wide.{Wide}
@@ -78,7 +77,7 @@ refreshing_at t id now = and_then (judged t id) (λ r. refreshing r now)
 -- None where the thread is not Running, and then nothing is stored.
 unfoldable pub candidate : List ThreadRecord → ℕ → Bool → Answer Refreshed → Out (Answer (Option Candidate))
 candidate t id running (value f) =
-    choose running (out (value (some f.candidate)) (after (set_runtime t id f.runtime))) (out (value none) t)
+    choose running (out (value (Some f.candidate)) (after (set_runtime t id f.runtime))) (out (value None) t)
 candidate t id running (refused n) = out (refused n) t
 
 -- The current thread as selection and keys take it: refreshed to now where it is Running, else none.
@@ -88,8 +87,8 @@ current_candidate t id running now = candidate t id running (refreshing_at t id 
 
 -- A candidate stored over another, which stays at a refusal and where there is none.
 unfoldable pub candidate_stored : Candidate → Out (Answer (Option Candidate)) → Out (Answer (Unit {0}) × Candidate)
-candidate_stored before (out (value (some c)) t) = out (value tt, c) t
-candidate_stored before (out (value none) t) = out (value tt, before) t
+candidate_stored before (out (value (Some c)) t) = out (value tt, c) t
+candidate_stored before (out (value None) t) = out (value tt, before) t
 candidate_stored before (out (refused n) t) = out (refused n, before) t
 
 -- `expired` of the record with this number (SPECIFICATION 10.4).

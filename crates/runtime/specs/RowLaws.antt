@@ -1,19 +1,14 @@
 -- What the calls do with the row of a judged record is what the definitions say of its record.
-use Rattle.std.specs.Prelude.{ℕ, ◌%◌, ◌≡◌, Bool, ltb, eqb}
+use Rattle.std.specs.Prelude.{ℕ, ◌%◌, ◌≡◌, Bool, ltb, eqb, Option, Some, None, Ok}
 use Rattle.std.proofs.Math.Path.{refl, sym, ap}
 use Rattle.std.proofs.Common.{◌∙◌, eq-eqb, eqb-true}
 use Rattle.std.proofs.Math.Bool.{true, false}
 use mathlib.Core.List.{List, []}
-use Rattle.std.proofs.Math.Option.{Option, none, some}
 use Rattle.std.proofs.Math.ListN.{set}
 use Rattle.std.proofs.Math.Seq.{set-get_or}
 use Rattle.refusal.specs.Answer.{Answer, value, refused, already, back_in_time}
 use Rattle.refusal.specs.Cases.{never, choose, given, if_less, if_equal, and_then}
-use Rattle.time.specs.declared.Deadline.{Deadline}
-use Rattle.time.specs.declared.Deadline.TheVariants as deadline
 use Rattle.time.specs.Time.{checked_add, earliest_of}
-use Rattle.policy.specs.declared.BudgetOption.{BudgetOption}
-use Rattle.policy.specs.declared.BudgetOption.TheVariants as option
 use Rattle.policy.specs.declared.SchedulingPolicy.{SchedulingPolicy}
 use Rattle.policy.specs.declared.SchedulingPolicy.TheVariants as policy
 use Rattle.policy.specs.declared.SchedulingParameters.{SchedulingParameters}
@@ -42,14 +37,12 @@ use Rattle.window_config.specs.Config.{sound_config}
 use Rattle.codec.specs.Codec.{word, policy_from, budget_from, runtime_from, membership_from, parameters_of, runtime_of}
 use Rattle.codec.specs.Codec.{queue_links_of, decoded, ready_turn_word, membership_tag, membership_first}
 use Rattle.codec.specs.Codec.{membership_second}
-use Rattle.rows.specs.declared.RecordRead.TheVariants as read
 use Rattle.rows.specs.Table.{Out, out, after, record_of, changed, record_at, set_runtime, set_turn}
 use Rattle.rows.specs.TableCases.{on_record}
 use Rattle.rows.specs.TableLaws.{record_within, record_got_within, after_set_runtime}
 use Rattle.lists.specs.Lists.{on_answer, on_out}
 use Rattle.queue.specs.RowJudgement.{budget_runtime, budget_parameters, budget_runs}
 use Rattle.decisions.specs.declared.Contention.{Contention}
-use Rattle.decisions.specs.declared.ModeOption.TheVariants as mode
 use Rattle.decisions.specs.declared.Taken.{Taken}
 use Rattle.decisions.specs.declared.Turns.{Turns}
 use Rattle.decisions.specs.Turns.{turn_for}
@@ -69,6 +62,7 @@ use Rattle.runtime.specs.Rows.{refreshed_row, candidate_row, prepared_row, row_p
 use Rattle.policy_words.specs.PolicyWords.{policy_tag, fifo_priority, budget_tag, runtime_tag, runtime_first}
 use Rattle.policy_words.specs.PolicyWords.{runtime_second}
 use Rattle.policy_words.specs.PolicyWords.{runtime_third, runtime_fourth}
+use Rattle.policy.specs.declared.BudgetParameters.{BudgetParameters}
 
 -- What a judged row is, by the tag of its runtime: a sound budget with its runtime, or neither.
 abbrev is_plain : PolicyRuntime → Bool
@@ -79,11 +73,11 @@ is_plain runtime.Idle = true
 
 data RowOf (w : List ℕ) : Type 0 where
   with_budget : word w runtime_tag ≡ 2 → (decoded w).runtime ≡ runtime.Budget (budget_runtime w)
-      → (decoded w).parameters.budget ≡ option.Some (budget_parameters w) → sound_budget (budget_parameters w) ≡ true
+      → (decoded w).parameters.budget ≡ Some (budget_parameters w) → sound_budget (budget_parameters w) ≡ true
       → (decoded w).parameters.policy ≡ policy.Budget → RowOf w
   without : eqb (word w runtime_tag) 2 ≡ false → is_plain (decoded w).runtime ≡ true → RowOf w
 
-has_by : (p : SchedulingPolicy) (q : BudgetOption) (r : PolicyRuntime) → Good p q r → is_plain r ≡ false
+has_by : (p : SchedulingPolicy) (q : Option BudgetParameters) (r : PolicyRuntime) → Good p q r → is_plain r ≡ false
     → has_budget q ≡ true
 unfolding has_budget on_budget
 has_by p q r (fifo x) e = never cc
@@ -91,14 +85,14 @@ has_by p q r (fair f) e = never cc
 has_by p q r (budgeted s b h) e = refl
 has_by p q r idle e = never cc
 
-policy_by : (p : SchedulingPolicy) (q : BudgetOption) (r : PolicyRuntime) → Good p q r → is_plain r ≡ false
+policy_by : (p : SchedulingPolicy) (q : Option BudgetParameters) (r : PolicyRuntime) → Good p q r → is_plain r ≡ false
     → p ≡ policy.Budget
 policy_by p q r (fifo x) e = never cc
 policy_by p q r (fair f) e = never cc
 policy_by p q r (budgeted s b h) e = refl
 policy_by p q r idle e = never cc
 
-sound_by : (p : SchedulingPolicy) (q : BudgetOption) (r : PolicyRuntime) → Good p q r
+sound_by : (p : SchedulingPolicy) (q : Option BudgetParameters) (r : PolicyRuntime) → Good p q r
     → on_budget q true sound_budget ≡ true
 unfolding on_budget
 sound_by p q r (fifo x) = refl
@@ -118,12 +112,12 @@ module _ (w : List ℕ) where
       go false false f = refl
 
   budget_has : has_budget (decoded w).parameters.budget ≡ true
-      → (decoded w).parameters.budget ≡ option.Some (budget_parameters w)
+      → (decoded w).parameters.budget ≡ Some (budget_parameters w)
   unfolding decoded parameters_of budget_from if_equal choose has_budget on_budget
   budget_has h = go (eqb (word w budget_tag) 0) h
     where
-      go : (a : Bool) → on_budget (choose a option.None (option.Some (budget_parameters w))) false (λ q. true) ≡ true
-          → choose a option.None (option.Some (budget_parameters w)) ≡ option.Some (budget_parameters w)
+      go : (a : Bool) → on_budget (choose a None (Some (budget_parameters w))) false (λ q. true) ≡ true
+          → choose a None (Some (budget_parameters w)) ≡ Some (budget_parameters w)
       go true h = never cc
       go false h = refl
 
@@ -143,7 +137,7 @@ module _ (w : List ℕ) where
   unfolding on_budget
   row_of e = go (eqb (word w runtime_tag) 2) refl
     where
-      sound : {q : BudgetOption} → q ≡ option.Some (budget_parameters w) → on_budget q true sound_budget ≡ true
+      sound : {q : Option BudgetParameters} → q ≡ Some (budget_parameters w) → on_budget q true sound_budget ≡ true
           → sound_budget (budget_parameters w) ≡ true
       sound has s = sym (ap (λ q. on_budget q true sound_budget) has) ∙ s
 
@@ -151,7 +145,7 @@ module _ (w : List ℕ) where
       go true tag =
           let runs : (decoded w).runtime ≡ runtime.Budget (budget_runtime w) = budget_runs w
           (eqb-true (word w runtime_tag) 2 tag) in
-          let has : (decoded w).parameters.budget ≡ option.Some (budget_parameters w) = budget_has
+          let has : (decoded w).parameters.budget ≡ Some (budget_parameters w) = budget_has
           (has_by _ _ _ (good_record (decoded w) e) (ap is_plain runs)) in
           with_budget (eqb-true (word w runtime_tag) 2 tag) runs has
           (sound has (sound_by _ _ _ (good_record (decoded w) e)))
@@ -170,7 +164,7 @@ judged_sound w good tag = go (row_of w good)
         never cc
 
 -- What is stored of a record whose runtime does not change.
-module _ (t : List ThreadRecord) (id : ℕ) {r : ThreadRecord} (got : record_at t id ≡ read.Got r) where
+module _ (t : List ThreadRecord) (id : ℕ) {r : ThreadRecord} (got : record_at t id ≡ Ok r) where
   the_record : record_of t id ≡ r
   unfolding on_record
   the_record = ap (λ x. on_record x r (λ s. s)) (sym (record_within t id (record_got_within t id got)) ∙ got)
@@ -181,20 +175,20 @@ module _ (t : List ThreadRecord) (id : ℕ) {r : ThreadRecord} (got : record_at 
       after_set_runtime t id r.runtime
       ∙ ap (λ s. set t id s) (ap (with_runtime r.runtime) the_record ∙ sym the_record) ∙ set-get_or t id (decoded [])
 
-plain_fresh : (x : PolicyRuntime) (q : BudgetOption) (now : ℕ) → is_plain x ≡ true → fresh_of x q now ≡ x
+plain_fresh : (x : PolicyRuntime) (q : Option BudgetParameters) (now : ℕ) → is_plain x ≡ true → fresh_of x q now ≡ x
 plain_fresh runtime.Fifo q now e = refl
 plain_fresh (runtime.Fair f) q now e = refl
 plain_fresh (runtime.Budget b) q now e = never cc
 plain_fresh runtime.Idle q now e = refl
 
-plain_charged : (x : PolicyRuntime) (q : BudgetOption) (start end : ℕ) → is_plain x ≡ true
+plain_charged : (x : PolicyRuntime) (q : Option BudgetParameters) (start end : ℕ) → is_plain x ≡ true
     → charged_of x q start end ≡ x
 plain_charged runtime.Fifo q start end e = refl
 plain_charged (runtime.Fair f) q start end e = refl
 plain_charged (runtime.Budget b) q start end e = never cc
 plain_charged runtime.Idle q start end e = refl
 
-plain_finished : (x : PolicyRuntime) (q : BudgetOption) → is_plain x ≡ true → finished_of x q ≡ x
+plain_finished : (x : PolicyRuntime) (q : Option BudgetParameters) → is_plain x ≡ true → finished_of x q ≡ x
 plain_finished runtime.Fifo q e = refl
 plain_finished (runtime.Fair f) q e = refl
 plain_finished (runtime.Budget b) q e = never cc
@@ -208,15 +202,15 @@ plain_time (runtime.Budget b) e = never cc
 plain_time runtime.Idle e = refl
 
 -- A refresh leaves the pass.
-pass_kept : (x : PolicyRuntime) (q : BudgetOption) (now : ℕ) → pass_of (fresh_of x q now) ≡ pass_of x
+pass_kept : (x : PolicyRuntime) (q : Option BudgetParameters) (now : ℕ) → pass_of (fresh_of x q now) ≡ pass_of x
 unfolding pass_of on_runtime
 pass_kept runtime.Fifo q now = refl
 pass_kept (runtime.Fair f) q now = refl
-pass_kept (runtime.Budget b) option.None now = refl
-pass_kept (runtime.Budget b) (option.Some p) now = refl
+pass_kept (runtime.Budget b) None now = refl
+pass_kept (runtime.Budget b) (Some p) now = refl
 pass_kept runtime.Idle q now = refl
 
-module _ (t : List ThreadRecord) (id : ℕ) (w : List ℕ) (got : record_at t id ≡ read.Got (decoded w))
+module _ (t : List ThreadRecord) (id : ℕ) (w : List ℕ) (got : record_at t id ≡ Ok (decoded w))
     (sound : is_bad_record (decoded w) ≡ false) where
   stays : {x : PolicyRuntime} → x ≡ (decoded w).runtime → t ≡ after (set_runtime t id x)
   stays e = sym (ap (λ x. after (set_runtime t id x)) e ∙ unchanged t id got)
@@ -282,18 +276,18 @@ module _ (t : List ThreadRecord) (id : ℕ) (w : List ℕ) (got : record_at t id
 
   -- The candidate, and the table with its budget refreshed.
   pub candidate_so : (now : ℕ) {a : Bool} {t₁ : List ThreadRecord} → out a t₁ ≡ refreshed_row t id w now
-      → out (value (some (candidate_row w a))) t₁ ≡ candidate t id true (refreshing (decoded w) now)
+      → out (value (Some (candidate_row w a))) t₁ ≡ candidate t id true (refreshing (decoded w) now)
   unfolding candidate choose refreshing and_then given candidate_of candidate_row on_out decoded parameters_of
   candidate_so now {a} {t₁} e =
       rw (refreshes (decoded w) now sound, pass_kept (decoded w).runtime (decoded w).parameters.budget now)
       (both (e ∙ row_refreshed_lem now))
     where
       both : {b : Bool} {t₂ : List ThreadRecord} → out a t₁ ≡ out b t₂
-          → out (value (some (candidate_row w a))) t₁ ≡ out (value (some (candidate_row w b))) t₂
-      both f = ap (λ x. on_out x (λ c s. out (value (some (candidate_row w c))) s)) f
+          → out (value (Some (candidate_row w a))) t₁ ≡ out (value (Some (candidate_row w b))) t₂
+      both f = ap (λ x. on_out x (λ c s. out (value (Some (candidate_row w c))) s)) f
 
   -- A thread that is not Running.
-  pub idle_so : (now : ℕ) → out (value none) t ≡ candidate t id false (refreshing (decoded w) now)
+  pub idle_so : (now : ℕ) → out (value None) t ≡ candidate t id false (refreshing (decoded w) now)
   unfolding candidate choose refreshing and_then given
   idle_so now = rw (refreshes (decoded w) now sound)
 
@@ -406,44 +400,44 @@ module _ (w : List ℕ) where
       (λ b. if_equal b.burst_remaining_ns 0 true false))
 
 -- The own deadline of a record without a budget.
-abbrev slice_of : PolicyRuntime → ℕ → Bool → Bool → Deadline
+abbrev slice_of : PolicyRuntime → ℕ → Bool → Bool → Option ℕ
 slice_of r now competition ready =
-    on_runtime r deadline.None (λ f. choose competition (choose ready (checked_add now f.remaining_ns) deadline.None)
-    deadline.None) (λ b. deadline.None) deadline.None
+    on_runtime r None (λ f. choose competition (choose ready (checked_add now f.remaining_ns) None)
+    None) (λ b. None) None
 
 slice_row : (w : List ℕ) (now : ℕ) (competition ready : Bool)
     → slice_end w now competition ready ≡ slice_of (decoded w).runtime now competition ready
 unfolding slice_end if_equal
 slice_row w now competition ready =
-    sym (by_tag w deadline.None (λ f. choose competition
-    (choose ready (checked_add now f.remaining_ns) deadline.None) deadline.None) (λ b. deadline.None)
-    ∙ rw (either_way (eqb (word w runtime_tag) 2) deadline.None))
+    sym (by_tag w None (λ f. choose competition
+    (choose ready (checked_add now f.remaining_ns) None) None) (λ b. None)
+    ∙ rw (either_way {A = Option ℕ} (eqb (word w runtime_tag) 2) None))
 
 module _ (now : ℕ) (m : DispatchMode) (x : Contention) where
-  plain_own : (p : SchedulingPolicy) (q : BudgetOption) (r : PolicyRuntime) → Good p q r → is_plain r ≡ true
+  plain_own : (p : SchedulingPolicy) (q : Option BudgetParameters) (r : PolicyRuntime) → Good p q r → is_plain r ≡ true
       → (all : SchedulingParameters) → all.policy ≡ p
       → own_deadline now r all m x ≡ value (r, slice_of r now x.competition x.ready)
   unfolding own_deadline on_runtime turn_deadline given next_deadline turn_competition on_policy choose
   plain_own p q r (fifo y) e all h = go (turn_competition x all.policy)
     where
-      go : (c : Bool) → choose {A = Answer (PolicyRuntime × Deadline)} c (value (runtime.Fifo, deadline.None))
-          (value (runtime.Fifo, deadline.None)) ≡ value (runtime.Fifo, deadline.None)
+      go : (c : Bool) → choose {A = Answer (PolicyRuntime × Option ℕ)} c (value (runtime.Fifo, None))
+          (value (runtime.Fifo, None)) ≡ value (runtime.Fifo, None)
       go true = refl
       go false = refl
   plain_own p q r (fair f) e all h = rw h (go x.competition x.ready)
     where
       go : (c d : Bool)
-          → choose {A = Answer (PolicyRuntime × Deadline)} (choose c d false)
-          (value (runtime.Fair f, checked_add now f.remaining_ns)) (value (runtime.Fair f, deadline.None))
-          ≡ value (runtime.Fair f, choose c (choose d (checked_add now f.remaining_ns) deadline.None) deadline.None)
+          → choose {A = Answer (PolicyRuntime × Option ℕ)} (choose c d false)
+          (value (runtime.Fair f, checked_add now f.remaining_ns)) (value (runtime.Fair f, None))
+          ≡ value (runtime.Fair f, choose c (choose d (checked_add now f.remaining_ns) None) None)
       go true true = refl
       go true false = refl
       go false d = refl
   plain_own p q r (budgeted s b h) e all o = never cc
   plain_own p q r idle e all h = go (turn_competition x all.policy)
     where
-      go : (c : Bool) → choose {A = Answer (PolicyRuntime × Deadline)} c (value (runtime.Idle, deadline.None))
-          (value (runtime.Idle, deadline.None)) ≡ value (runtime.Idle, deadline.None)
+      go : (c : Bool) → choose {A = Answer (PolicyRuntime × Option ℕ)} c (value (runtime.Idle, None))
+          (value (runtime.Idle, None)) ≡ value (runtime.Idle, None)
       go true = refl
       go false = refl
 
@@ -451,18 +445,18 @@ module _ (now : ℕ) (m : DispatchMode) (x : Contention) where
 next_answers : (w : CpuWindow) (now : ℕ) (m : DispatchMode) (competition : Bool) (d : Demand)
     → sound_config w.config ≡ true
     → next_deadline_call w now m competition d
-    ≡ with (value (choose competition (window.next_deadline (window.refreshed w now) now m d) deadline.None))
+    ≡ with (value (choose competition (window.next_deadline (window.refreshed w now) now m d) None))
     (window.refreshed w now)
 unfolding next_deadline_call judged choose given
 next_answers w now m true d s = rw s
 next_answers w now m false d s = rw s
 
 -- A thread's own deadline with its runtime as it is left, and the same of its row.
-data OwnOf (t : List ThreadRecord) (id : ℕ) (a : Answer (PolicyRuntime × Deadline)) (o : Out Deadline) : Type 0 where
-  own_of : (y : PolicyRuntime) (d : Deadline) → a ≡ value (y, d) → o ≡ out d (after (set_runtime t id y))
+data OwnOf (t : List ThreadRecord) (id : ℕ) (a : Answer (PolicyRuntime × Option ℕ)) (o : Out (Option ℕ)) : Type 0 where
+  own_of : (y : PolicyRuntime) (d : Option ℕ) → a ≡ value (y, d) → o ≡ out d (after (set_runtime t id y))
       → OwnOf t id a o
 
-module _ (t : List ThreadRecord) (id : ℕ) (w : List ℕ) (got : record_at t id ≡ read.Got (decoded w))
+module _ (t : List ThreadRecord) (id : ℕ) (w : List ℕ) (got : record_at t id ≡ Ok (decoded w))
     (sound : is_bad_record (decoded w) ≡ false) (now : ℕ) (m : DispatchMode) (x : Contention) where
   own_row : OwnOf t id (own_deadline now (decoded w).runtime (decoded w).parameters m x) (own_end t id w now m x)
   unfolding own_end budget_end refreshed_end if_equal choose given on_answer own_deadline on_runtime budget_deadline
@@ -473,13 +467,13 @@ module _ (t : List ThreadRecord) (id : ℕ) (w : List ℕ) (got : record_at t id
     where
       by_peer : (c peer : Bool) → x.competition ≡ c → x.budget_peer ≡ peer → word w runtime_tag ≡ 2
           → (decoded w).runtime ≡ runtime.Budget (budget_runtime w)
-          → (decoded w).parameters.budget ≡ option.Some (budget_parameters w)
+          → (decoded w).parameters.budget ≡ Some (budget_parameters w)
           → sound_budget (budget_parameters w) ≡ true
           → (decoded w).parameters.policy ≡ policy.Budget
           → OwnOf t id (own_deadline now (decoded w).runtime (decoded w).parameters m x) (own_end t id w now m x)
       by_peer false peer e f tag runs has s p =
-          own_of (runtime.Budget (budget_runtime w)) deadline.None (rw (runs, has, e))
-          (rw (tag, e) (ap (out deadline.None) (stays t id w got sound (sym runs))))
+          own_of (runtime.Budget (budget_runtime w)) None (rw (runs, has, e))
+          (rw (tag, e) (ap (out None) (stays t id w got sound (sym runs))))
       by_peer true false e f tag runs has s p =
           own_of (runtime.Budget (budget_runtime w)) (budget_expiry now (word w runtime_third) (budget_parameters w))
           (rw (runs, has, e, f)) (rw (tag, e, f)
@@ -510,18 +504,18 @@ module _ (t : List ThreadRecord) (id : ℕ) (w : List ℕ) (got : record_at t id
           → due_row t id w now m window x ≡ armed t id window (due_with now (decoded w) m window x)
       go (own_of y d e l) = rw (e, l, next_answers window now m x.competition x.demand s)
 
-module _ (t : List ThreadRecord) (id : ℕ) (w : List ℕ) (got : record_at t id ≡ read.Got (decoded w))
+module _ (t : List ThreadRecord) (id : ℕ) (w : List ℕ) (got : record_at t id ≡ Ok (decoded w))
     (sound : is_bad_record (decoded w) ≡ false) (now : ℕ) (x : Contention) where
   -- Without a key nothing is stored.
   pub keyless_so : (window : CpuWindow)
-      → out (keyless_due now window x.competition) t ≡ armed t id window (due_at now (decoded w) mode.None window x)
+      → out (keyless_due now window x.competition) t ≡ armed t id window (due_at now (decoded w) None window x)
   unfolding due_at on_key_mode due_without armed given keyless_due choose
   keyless_so window = go x.competition
     where
       go : (c : Bool)
-          → out (choose c (with (value (deadline.Some now)) window) (with (value deadline.None) window)) t
+          → out (choose c (with (value (Some now)) window) (with (value None) window)) t
           ≡ armed t id window (value (choose c
-          (record { runtime = (decoded w).runtime; window = window; deadline = deadline.Some now })
-          (record { runtime = (decoded w).runtime; window = window; deadline = deadline.None })))
-      go true = ap (out (with (value (deadline.Some now)) window)) (stays t id w got sound refl)
-      go false = ap (out (with (value deadline.None) window)) (stays t id w got sound refl)
+          (record { runtime = (decoded w).runtime; window = window; deadline = Some now })
+          (record { runtime = (decoded w).runtime; window = window; deadline = None })))
+      go true = ap (out (with (value (Some now)) window)) (stays t id w got sound refl)
+      go false = ap (out (with (value None) window)) (stays t id w got sound refl)

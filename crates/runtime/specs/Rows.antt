@@ -1,11 +1,8 @@
 -- What the calls do with the row of a judged record: they read the words that they need and store a budget's runtime
 -- alone. RowLaws has that this is what the definitions say of the row's record.
-use Rattle.std.specs.Prelude.{ℕ, Bool, true, false, List}
-use Rattle.std.proofs.Math.Option.{Option}
+use Rattle.std.specs.Prelude.{ℕ, Bool, true, false, List, Option, Some, None}
 use Rattle.refusal.specs.Answer.{Answer, value, refused, already}
 use Rattle.refusal.specs.Cases.{choose, given, if_equal, and_then}
-use Rattle.time.specs.declared.Deadline.{Deadline}
-use Rattle.time.specs.declared.Deadline.TheVariants as deadline
 use Rattle.time.specs.Time.{checked_add, earliest_of}
 use Rattle.policy.specs.Budget.{sound_budget}
 use Rattle.budget.specs.declared.BudgetRuntime.{BudgetRuntime}
@@ -26,7 +23,6 @@ use Rattle.rows.specs.Table.{Out, out, after, set_runtime, set_turn}
 use Rattle.lists.specs.Lists.{on_answer, on_out}
 use Rattle.queue.specs.RowJudgement.{budget_runtime, budget_parameters}
 use Rattle.decisions.specs.declared.Contention.{Contention}
-use Rattle.decisions.specs.declared.ModeOption.{ModeOption}
 use Rattle.decisions.specs.declared.Turns.{Turns}
 use Rattle.decisions.specs.OwnDeadline.{borrows, budget_expiry}
 use Rattle.decisions.specs.Turns.{turn_for}
@@ -122,48 +118,48 @@ accounted_row t id w window m start end =
     out (account_call window start end (parameters_of w) m) (charged_row t id w start end)
 
 -- The own deadline of a record without a budget: the end of a fair slice, where anybody is ready.
-unfoldable pub slice_end : List ℕ → ℕ → Bool → Bool → Deadline
+unfoldable pub slice_end : List ℕ → ℕ → Bool → Bool → Option ℕ
 slice_end w now competition ready =
     if_equal (word w runtime_tag) 1 (choose competition
-    (choose ready (checked_add now (word w runtime_third)) deadline.None) deadline.None) deadline.None
+    (choose ready (checked_add now (word w runtime_third)) None) None) None
 
 -- A budget's own deadline, for which it is refreshed.
-unfoldable pub refreshed_end : List ThreadRecord → ℕ → List ℕ → ℕ → DispatchMode → Out Deadline
+unfoldable pub refreshed_end : List ThreadRecord → ℕ → List ℕ → ℕ → DispatchMode → Out (Option ℕ)
 refreshed_end t id w now m =
     given (borrows m)
     (λ borrow. on_answer (budget.deadline_judged (budget_runtime w) now (budget_parameters w) borrow)
-    (λ n. out deadline.None t)
+    (λ n. out None t)
     (λ x. out x.1 (after (set_runtime t id (runtime.Budget x.0)))))
 
 -- By its time alone where no budget competes.
-unfoldable pub budget_end : List ThreadRecord → ℕ → List ℕ → ℕ → DispatchMode → Bool → Bool → Out Deadline
+unfoldable pub budget_end : List ThreadRecord → ℕ → List ℕ → ℕ → DispatchMode → Bool → Bool → Out (Option ℕ)
 budget_end t id w now m competition peer =
     choose competition
     (choose peer
     (refreshed_end t id w now m)
     (given (budget_expiry now (word w runtime_third) (budget_parameters w)) (λ due. out due t)))
-    (out deadline.None t)
+    (out None t)
 
-unfoldable pub own_end : List ThreadRecord → ℕ → List ℕ → ℕ → DispatchMode → Contention → Out Deadline
+unfoldable pub own_end : List ThreadRecord → ℕ → List ℕ → ℕ → DispatchMode → Contention → Out (Option ℕ)
 own_end t id w now m x =
     if_equal (word w runtime_tag) 2
     (budget_end t id w now m x.competition x.budget_peer)
     (given (slice_end w now x.competition x.ready) (λ due. out due t))
 
 -- The earlier of the thread's own deadline and the window's.
-unfoldable pub earlier_of : With Deadline → Deadline → With Deadline
+unfoldable pub earlier_of : With (Option ℕ) → Option ℕ → With (Option ℕ)
 earlier_of (with (value end) w) own = with (value (earliest_of own end)) w
 earlier_of (with (refused n) w) own = with (refused n) w
 
 unfoldable pub due_row : List ThreadRecord → ℕ → List ℕ → ℕ → DispatchMode → CpuWindow → Contention
-    → Out (With Deadline)
+    → Out (With (Option ℕ))
 due_row t id w now m window x =
     on_out (own_end t id w now m x)
     (λ own t₁. out (earlier_of (next_deadline_call window now m x.competition x.demand) own) t₁)
 
 -- Without a key: now where anybody competes.
-unfoldable pub keyless_due : ℕ → CpuWindow → Bool → With Deadline
-keyless_due now w competition = choose competition (with (value (deadline.Some now)) w) (with (value deadline.None) w)
+unfoldable pub keyless_due : ℕ → CpuWindow → Bool → With (Option ℕ)
+keyless_due now w competition = choose competition (with (value (Some now)) w) (with (value None) w)
 
 -- The calls once the table is not too long and the window is sound.
 unfoldable pub account_at : List ThreadRecord → ℕ → CpuWindow → DispatchMode → ℕ → ℕ → Out (With (Unit {0}))
@@ -172,5 +168,6 @@ account_at t id w m start end = settled t id w (and_then (judged_at t id) (λ r.
 unfoldable pub candidate_at : List ThreadRecord → ℕ → Bool → ℕ → Out (Answer (Option Candidate))
 candidate_at t id running now = candidate t id running (and_then (judged_at t id) (λ r. refreshing r now))
 
-unfoldable pub deadline_at : List ThreadRecord → ℕ → ℕ → ModeOption → CpuWindow → Contention → Out (With Deadline)
+unfoldable pub deadline_at : List ThreadRecord → ℕ → ℕ → Option DispatchMode → CpuWindow → Contention
+    → Out (With (Option ℕ))
 deadline_at t id now m w x = armed t id w (and_then (judged_at t id) (λ r. due_at now r m w x))

@@ -1,28 +1,21 @@
 -- Laws by which the functions meet the definitions, one for each way through a call: r is what a call gave, x what its
 -- contract says of it.
 use Rattle.std.specs.Prelude.{ℕ, zero, suc, ◌<◌, ◌≤◌, ◌≡◌, refl, Bool, true, false, not, List, [], eqb, length, get_or}
+use Rattle.std.specs.Prelude.{Option, Some, None, Result, Ok, Err}
 use Rattle.std.specs.Prelude.{set}
 use Rattle.std.proofs.Common.{arith, ◌∙◌}
 use Rattle.std.proofs.Math.Path.{sym, ap}
-use Rattle.std.proofs.Math.Option.{Option, none, some}
 use borrow.Author.Tests.{eq-eqb, ne_eqb, not-true, not-false}
 use Rattle.refusal.specs.Answer.{Answer, value, refused, number_of, no_thread, bad_config, bad_table, bad_record}
+use Rattle.refusal.specs.Answer.{by_number, or_damaged}
 use Rattle.refusal.specs.Cases.{choose, given, if_less, if_equal, and_then}
 use Rattle.refusal.specs.declared.Refusal.{Refusal}
-use Rattle.time.specs.declared.Deadline.{Deadline}
-use Rattle.time.specs.declared.Epoch.{Epoch}
 use Rattle.time.specs.Time.{earliest_of}
 use Rattle.policy.specs.declared.BudgetParameters.{BudgetParameters}
 use Rattle.policy.specs.Budget.{sound_budget}
 use Rattle.policy.specs.declared.SchedulingParameters.{SchedulingParameters}
 use Rattle.policy.specs.declared.SchedulingPolicy.{SchedulingPolicy}
-use Rattle.budget.specs.declared.BudgetAnswer.{BudgetAnswer}
-use Rattle.budget.specs.declared.BudgetAnswer.TheVariants as answer
-use Rattle.budget.specs.declared.BudgetDeadline.{BudgetDeadline}
-use Rattle.budget.specs.declared.BudgetDeadline.TheVariants as ends
 use Rattle.budget.specs.declared.BudgetRuntime.{BudgetRuntime}
-use Rattle.budget.specs.declared.DeadlineAnswer.TheVariants as ended
-use Rattle.budget.specs.Answers.{budget_answer, budget_deadline}
 use Rattle.budget.specs.Runtime as budget
 use Rattle.algorithms.specs.declared.Wide.{Wide}
 use Rattle.algorithms.specs.declared.PolicyRuntime.TheVariants as runtime
@@ -46,12 +39,9 @@ use Rattle.window_words.specs.WindowWords as words
 use Rattle.codec.specs.Codec.{word, policy_from, epoch_from, runtime_from, parameters_of, runtime_of, links_of}
 use Rattle.codec.specs.Codec.{queue_links_of}
 use Rattle.codec.specs.Codec.{decoded}
-use Rattle.rows.specs.declared.Change.{Change}
-use Rattle.rows.specs.declared.RecordRead.TheVariants as read
 use Rattle.rows.specs.Table.{Out, out, after, table, record_at, set_runtime, set_turn}
 use Rattle.rows.specs.TableCases.{on_record}
 use Rattle.rows.specs.Asked.{answering}
-use Rattle.rows.specs.Answers.{change_answer}
 use Rattle.rows.specs.RowTableLaws.{record_inside, record_outside, set_runtime_inside}
 use Rattle.lists.specs.Lists.{on_answer, on_out}
 use Rattle.lists.specs.ListsLaws.{left_by_lem, answered}
@@ -59,13 +49,8 @@ use Rattle.queue.specs.Queue.{max_records}
 use Rattle.queue.specs.PlanLaws.{too_many, not_too_many}
 use Rattle.queue.specs.RowJudgement.{kind_from, bad_row, budget_runtime, budget_parameters, judged_by_tags}
 use Rattle.decisions.specs.declared.Contention.{Contention}
-use Rattle.decisions.specs.declared.ModeOption.{ModeOption}
-use Rattle.decisions.specs.declared.ModeOption.TheVariants as mode
 use Rattle.decisions.specs.declared.Taken.{Taken}
-use Rattle.decisions.specs.declared.TurnAnswer.{TurnAnswer}
-use Rattle.decisions.specs.declared.TurnAnswer.TheVariants as turn
 use Rattle.decisions.specs.declared.Turns.{Turns}
-use Rattle.decisions.specs.Answers.{turn_answer}
 use Rattle.decisions.specs.OwnDeadline.{on_key_mode, borrows, budget_expiry}
 use Rattle.decisions.specs.Switch.{spent}
 use Rattle.decisions.specs.Turns.{turn_for}
@@ -79,10 +64,11 @@ use Rattle.runtime.specs.Rows.{candidate_row, prepared_row, row_prepared, accoun
 use Rattle.runtime.specs.Rows.{own_end, earlier_of, due_row, keyless_due, deadline_at}
 use Rattle.runtime.specs.RowLaws.{judged_sound, finished_so, candidate_so, idle_so, prepared_so, accounted_so}
 use Rattle.runtime.specs.RowLaws.{due_so, keyless_so, pass_by_tag, spent_by_tag}
+use Rattle.refusal.specs.declared.Damaged.{Damaged}
 
 -- The judgement of a record by its row.
 module _ (rows : List (List ℕ)) (i : ℕ) where
-  row_got : i < length rows → record_at (table rows) i ≡ read.Got (decoded (get_or rows i []))
+  row_got : i < length rows → record_at (table rows) i ≡ Ok (decoded (get_or rows i []))
   row_got h = sym (record_inside rows i h refl)
 
   none_at : length rows ≤ i → judged_at (table rows) i ≡ refused no_thread
@@ -346,7 +332,7 @@ module _ {y : Out (With (Unit {0}))} (rows : List (List ℕ)) (i : ℕ) (w : Cpu
       (sym e ∙ n) w m start end s)
 
 -- The choice of deadline.
-module _ {y : Out (With Deadline)} (rows : List (List ℕ)) (i now : ℕ) (k : ModeOption) (w : CpuWindow)
+module _ {y : Out (With (Option ℕ))} (rows : List (List ℕ)) (i now : ℕ) (k : Option DispatchMode) (w : CpuWindow)
     (x : Contention) where
   pub deadline_many : max_records < length rows → y ≡ out (with (refused bad_table) w) (table rows)
       → y ≡ refresh_deadline (table rows) i now k w x
@@ -374,14 +360,14 @@ module _ {y : Out (With Deadline)} (rows : List (List ℕ)) (i now : ℕ) (k : M
     unfolding deadline_at armed and_then
     deadline_bad n h = rw (bad_at rows i q e n) h
 
-    pub deadline_keyless : {s : With Deadline} → b ≡ false → k ≡ mode.None → s ≡ keyless_due now w x.competition
+    pub deadline_keyless : {s : With (Option ℕ)} → b ≡ false → k ≡ None → s ≡ keyless_due now w x.competition
         → y ≡ out s (table rows) → y ≡ deadline_at (table rows) i now k w x
     unfolding deadline_at and_then
     deadline_keyless n o f h =
         rw (good_at rows i q e n, o) (h ∙ ap (λ z. out z (table rows)) f
         ∙ keyless_so (table rows) i (get_or rows i []) (row_got rows i q) (sym e ∙ n) now x w)
 
-    pub deadline_keyed : {m : DispatchMode} → sound_config w.config ≡ true → b ≡ false → k ≡ mode.Some m
+    pub deadline_keyed : {m : DispatchMode} → sound_config w.config ≡ true → b ≡ false → k ≡ Some m
         → y ≡ due_row (table rows) i (get_or rows i []) now m w x → y ≡ deadline_at (table rows) i now k w x
     unfolding deadline_at and_then due_at on_key_mode
     deadline_keyed {m} s n o h =
@@ -453,13 +439,13 @@ pub ruleset turns_end = (finished_burst, finished_plain)
 
 -- By what a budget's call answered.
 module _ {A : Type 0} {y : A} (g : ℕ → A) where
-  pub budget_left : {r : BudgetAnswer} {b : BudgetRuntime} (f : BudgetRuntime → A) → r ≡ answer.Runtime b → y ≡ f b
-      → y ≡ on_answer (budget_answer r) g f
+  pub budget_left : {r : Result BudgetRuntime Refusal} {b : BudgetRuntime} (f : BudgetRuntime → A) → r ≡ Ok b → y ≡ f b
+      → y ≡ on_answer (by_number r) g f
   unfolding on_answer
   budget_left f m h = rw m h
 
-  pub budget_refused : {r : BudgetAnswer} {n : Refusal} (f : BudgetRuntime → A) → r ≡ answer.Refused n
-      → y ≡ g (number_of n) → y ≡ on_answer (budget_answer r) g f
+  pub budget_refused : {r : Result BudgetRuntime Refusal} {n : Refusal} (f : BudgetRuntime → A) → r ≡ Err n
+      → y ≡ g (number_of n) → y ≡ on_answer (by_number r) g f
   unfolding on_answer
   budget_refused f m h = rw m h
 
@@ -472,40 +458,41 @@ module _ {A : Type 0} {y : A} (w : List ℕ) {rt : BudgetRuntime} {ps : BudgetPa
   unfolding given
   row_charges start end f e h = rw (sym e₁, sym e₂, sym e) h
 
-  pub row_fresh : {r : BudgetAnswer} {b : BudgetRuntime} (now : ℕ) (g : ℕ → A) (f : BudgetRuntime → A)
-      → budget_answer r ≡ budget.refreshed_judged rt now ps → r ≡ answer.Runtime b → y ≡ f b
+  pub row_fresh : {r : Result BudgetRuntime Refusal} {b : BudgetRuntime} (now : ℕ) (g : ℕ → A) (f : BudgetRuntime → A)
+      → by_number r ≡ budget.refreshed_judged rt now ps → r ≡ Ok b → y ≡ f b
       → y ≡ on_answer (budget.refreshed_judged (budget_runtime w) now (budget_parameters w)) g f
   unfolding on_answer
   row_fresh now g f e m h = rw (sym e₁, sym e₂, sym e, m) h
 
-  pub row_not_fresh : {r : BudgetAnswer} {n : Refusal} (now : ℕ) (g : ℕ → A) (f : BudgetRuntime → A)
-      → budget_answer r ≡ budget.refreshed_judged rt now ps → r ≡ answer.Refused n → y ≡ g (number_of n)
+  pub row_not_fresh : {r : Result BudgetRuntime Refusal} {n : Refusal} (now : ℕ) (g : ℕ → A) (f : BudgetRuntime → A)
+      → by_number r ≡ budget.refreshed_judged rt now ps → r ≡ Err n → y ≡ g (number_of n)
       → y ≡ on_answer (budget.refreshed_judged (budget_runtime w) now (budget_parameters w)) g f
   unfolding on_answer
   row_not_fresh now g f e m h = rw (sym e₁, sym e₂, sym e, m) h
 
-  pub row_ends : {r : BudgetDeadline} {b : BudgetRuntime} {d : Deadline} (now : ℕ) (borrow : Bool) (g : ℕ → A)
-      (f : BudgetRuntime × Deadline → A)
-      → budget_deadline r ≡ budget.deadline_judged rt now ps borrow → r ≡ ends.Deadline b d → y ≡ f (b, d)
+  pub row_ends : {r : Result (BudgetRuntime × Option ℕ) Refusal} {b : BudgetRuntime} {d : Option ℕ} (now : ℕ) (borrow :
+      Bool) (g : ℕ → A)
+      (f : BudgetRuntime × Option ℕ → A)
+      → by_number r ≡ budget.deadline_judged rt now ps borrow → r ≡ Ok (b, d) → y ≡ f (b, d)
       → y ≡ on_answer (budget.deadline_judged (budget_runtime w) now (budget_parameters w) borrow) g f
   unfolding on_answer
   row_ends now borrow g f e n h = rw (sym e₁, sym e₂, sym e, n) h
 
-  pub row_not_ends : {r : BudgetDeadline} {k : Refusal} (now : ℕ) (borrow : Bool) (g : ℕ → A)
-      (f : BudgetRuntime × Deadline → A)
-      → budget_deadline r ≡ budget.deadline_judged rt now ps borrow → r ≡ ends.Refused k → y ≡ g (number_of k)
+  pub row_not_ends : {r : Result (BudgetRuntime × Option ℕ) Refusal} {k : Refusal} (now : ℕ) (borrow : Bool) (g : ℕ → A)
+      (f : BudgetRuntime × Option ℕ → A)
+      → by_number r ≡ budget.deadline_judged rt now ps borrow → r ≡ Err k → y ≡ g (number_of k)
       → y ≡ on_answer (budget.deadline_judged (budget_runtime w) now (budget_parameters w) borrow) g f
   unfolding on_answer
   row_not_ends now borrow g f e n h = rw (sym e₁, sym e₂, sym e, n) h
 
-pub row_expires : {A : Type 0} {y : A} {d : Deadline} {ps : BudgetParameters} (w : List ℕ) (now n : ℕ)
-    (f : Deadline → A) → ps ≡ budget_parameters w → d ≡ budget_expiry now n ps → y ≡ f d
+pub row_expires : {A : Type 0} {y : A} {d : Option ℕ} {ps : BudgetParameters} (w : List ℕ) (now n : ℕ)
+    (f : Option ℕ → A) → ps ≡ budget_parameters w → d ≡ budget_expiry now n ps → y ≡ f d
     → y ≡ given (budget_expiry now n (budget_parameters w)) f
 unfolding given
 row_expires w now n f e₁ e₂ h = rw (sym e₁, sym e₂) h
 
 -- The epoch by its words.
-pub runtime_read : (w : List ℕ) {e : Epoch} → e ≡ epoch_from (word w runtime_first) (word w runtime_second)
+pub runtime_read : (w : List ℕ) {e : Option ℕ} → e ≡ epoch_from (word w runtime_first) (word w runtime_second)
     → record { epoch = e; remaining_ns = word w runtime_third; burst_remaining_ns = word w runtime_fourth }
     ≡ budget_runtime w
 runtime_read w e = rw e
@@ -554,23 +541,25 @@ candidate_written w row p a n size e f =
     w size
 
 -- The turn is stored in the table that the refresh leaves.
-pub row_stores : {a : Bool} (c : Change) {t₁ t₂ : List ThreadRecord} (t : List ThreadRecord) (id : ℕ) (w : List ℕ)
+pub row_stores : {a : Bool} (c : Result (Unit {0}) Damaged) {t₁ t₂ : List ThreadRecord} (t : List ThreadRecord) (id :
+    ℕ) (w : List ℕ)
     (now turn : ℕ) → out a t₁ ≡ refreshed_row t id w now
-    → out (change_answer c) t₂ ≡ answering change_answer (set_turn t₁ id turn) → t₂ ≡ prepared_row t id w now turn
+    → out (or_damaged c) t₂ ≡ answering or_damaged (set_turn t₁ id turn) → t₂ ≡ prepared_row t id w now turn
 unfolding prepared_row on_out
 row_stores c {t₁} t id w now turn e f = rw (sym e) (left_by_lem c (set_turn t₁ id turn) f)
 
 -- By the turn, with the policy by its words.
-module _ {A : Type 0} {y : A} {r : TurnAnswer} {p : SchedulingPolicy} (front : Bool) (w : List ℕ) (n : ℕ) (c : Turns)
+module _ {A : Type 0} {y : A} {r : Result Taken Refusal} {p : SchedulingPolicy} (front : Bool) (w : List ℕ) (n : ℕ) (c
+    : Turns)
     (g : ℕ → A) (f : Taken → A) where
   pub turn_taken : {a : Taken} → p ≡ policy_from (word w policy_tag) (word w fifo_priority)
-      → turn_answer r ≡ turn_for front p n c → r ≡ turn.Taken a → y ≡ f a
+      → by_number r ≡ turn_for front p n c → r ≡ Ok a → y ≡ f a
       → y ≡ on_answer (turn_for front (policy_from (word w policy_tag) (word w fifo_priority)) n c) g f
   unfolding on_answer
   turn_taken e o m h = rw (sym e, sym o, m) h
 
   pub turn_refused : {k : Refusal} → p ≡ policy_from (word w policy_tag) (word w fifo_priority)
-      → turn_answer r ≡ turn_for front p n c → r ≡ turn.Refused k → y ≡ g (number_of k)
+      → by_number r ≡ turn_for front p n c → r ≡ Err k → y ≡ g (number_of k)
       → y ≡ on_answer (turn_for front (policy_from (word w policy_tag) (word w fifo_priority)) n c) g f
   unfolding on_answer
   turn_refused e o m h = rw (sym e, sym o, m) h
@@ -584,20 +573,20 @@ unfolding accounted_row
 row_accounts t id w window m start end e₁ e₂ e₃ = rw (e₃, e₂, e₁)
 
 -- The window's deadline, then the earlier of the two.
-pub row_dues : {own : Deadline} {t₁ : List ThreadRecord} {s v : With Deadline} (t : List ThreadRecord) (id : ℕ)
+pub row_dues : {own : Option ℕ} {t₁ : List ThreadRecord} {s v : With (Option ℕ)} (t : List ThreadRecord) (id : ℕ)
     (w : List ℕ) (now : ℕ) (m : DispatchMode) (window : CpuWindow) (x : Contention)
     → out own t₁ ≡ own_end t id w now m x → s ≡ next_deadline_call window now m x.competition x.demand
     → v ≡ earlier_of s own → out v t₁ ≡ due_row t id w now m window x
 unfolding due_row on_out
 row_dues t id w now m window x e₁ e₂ e₃ = rw (sym e₁, e₃, e₂)
 
-module _ {y : With Deadline} {s : WindowDeadline} (own : Deadline) where
-  pub earlier_due : {d : Deadline} → s.answer ≡ ended.Deadline d → y ≡ with (value (earliest_of own d)) s.window
+module _ {y : With (Option ℕ)} {s : WindowDeadline} (own : Option ℕ) where
+  pub earlier_due : {d : Option ℕ} → s.answer ≡ Ok d → y ≡ with (value (earliest_of own d)) s.window
       → y ≡ earlier_of (window_deadline s) own
   unfolding earlier_of
   earlier_due m h = rw m h
 
-  pub earlier_refused : {n : Refusal} → s.answer ≡ ended.Refused n → y ≡ window_deadline s
+  pub earlier_refused : {n : Refusal} → s.answer ≡ Err n → y ≡ window_deadline s
       → y ≡ earlier_of (window_deadline s) own
   unfolding earlier_of
   earlier_refused m h = rw m (h ∙ rw m)

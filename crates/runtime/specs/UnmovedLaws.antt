@@ -1,17 +1,12 @@
 -- Laws by which a refusal leaves every word: nothing was stored before it, or the call cannot refuse any more.
-use Rattle.std.specs.Prelude.{ℕ, ◌<◌, ◌≡◌, refl, Bool, true, false, List, ltb}
+use Rattle.std.specs.Prelude.{ℕ, ◌<◌, ◌≡◌, refl, Bool, true, false, List, ltb, Option, None, Result, Ok}
 use Rattle.std.proofs.Common.{sym, ap, ◌∙◌, subst, lt-ltb, ltb-true}
-use Rattle.refusal.specs.Answer.{Answer, value, refused, bad_budget, back_in_time}
+use Rattle.refusal.specs.Answer.{Answer, value, refused, bad_budget, back_in_time, by_number}
 use Rattle.refusal.specs.Cases.{choose, given, if_less}
-use Rattle.time.specs.declared.Deadline.{Deadline}
-use Rattle.time.specs.declared.Deadline.TheVariants as deadline
 use Rattle.policy.specs.declared.BudgetParameters.{BudgetParameters}
 use Rattle.policy.specs.declared.SchedulingParameters.{SchedulingParameters}
 use Rattle.policy.specs.Budget.{sound_budget}
-use Rattle.budget.specs.declared.BudgetAnswer.{BudgetAnswer}
-use Rattle.budget.specs.declared.BudgetAnswer.TheVariants as made
 use Rattle.budget.specs.declared.BudgetRuntime.{BudgetRuntime}
-use Rattle.budget.specs.Answers.{budget_answer, deadline_answer}
 use Rattle.budget.specs.Runtime.{charged, accounted_interval}
 use Rattle.budget.specs.Runtime as budget
 use Rattle.window_config.specs.Config.{sound_config}
@@ -22,14 +17,15 @@ use Rattle.arbitration.specs.declared.WindowDeadline.{WindowDeadline}
 use Rattle.arbitration.specs.declared.WindowStep.{WindowStep}
 use Rattle.arbitration.specs.Window.{refreshed, next_deadline}
 use Rattle.arbitration.specs.Window as window
-use Rattle.arbitration.specs.Answers.{verdict_of, window_step, window_deadline}
+use Rattle.arbitration.specs.Answers.{window_step, window_deadline}
 use Rattle.arbitration.specs.Calls.{With, with, judged, account_call, next_deadline_call}
 use Rattle.rows.specs.Unmoved.{Unmoved, as_it_was}
 use Rattle.runtime.specs.Rows.{earlier_of}
+use Rattle.refusal.specs.declared.Refusal.{Refusal}
 
 -- A runtime is an answer.
-pub runtime_stored_lem : (b c : List (List ℕ)) {a : BudgetAnswer} {r : BudgetRuntime} → a ≡ made.Runtime r
-    → Unmoved (budget_answer a) b c
+pub runtime_stored_lem : (b c : List (List ℕ)) {a : Result BudgetRuntime Refusal} {r : BudgetRuntime} → a ≡ Ok r
+    → Unmoved (by_number a) b c
 runtime_stored_lem b c e = rw e tt
 
 -- With the end before the start no budget is charged,
@@ -49,34 +45,34 @@ answer_of (with a w) = a
 -- and that is all that a sound window refuses;
 pub not_accounted : {B : Type 0} {b c : B} (r : WindowStep) (w : CpuWindow) (start end : ℕ) (p : SchedulingParameters)
     (m : DispatchMode) → sound_config w.config ≡ true → window_step r ≡ account_call w start end p m
-    → (end < start → c ≡ b) → Unmoved (verdict_of r.answer) b c
+    → (end < start → c ≡ b) → Unmoved (by_number r.answer) b c
 unfolding account_call judged if_less choose given
 not_accounted {B} {b} {c} r w start end p m s e u = go (ltb end start) refl (rw s at e)
   where
     go : (x : Bool) → ltb end start ≡ x
         → window_step r ≡ choose x (with (refused back_in_time) w) (with (value tt) (window.charged w start end p m))
-        → Unmoved (verdict_of r.answer) b c
-    go true t h = as_it_was (verdict_of r.answer) (u (ltb-true end start t))
+        → Unmoved (by_number r.answer) b c
+    go true t h = as_it_was (by_number r.answer) (u (ltb-true end start t))
     go false t h =
         subst (λ (y : Answer (Unit {0})). Unmoved y b c) (sym (ap (λ (y : With (Unit {0})). answer_of y) h)) tt
 
 -- nor does it refuse a deadline.
-pub due_answered : (b c : List (List ℕ)) (r step : WindowDeadline) (own : Deadline) (w : CpuWindow) (now : ℕ)
+pub due_answered : (b c : List (List ℕ)) (r step : WindowDeadline) (own : Option ℕ) (w : CpuWindow) (now : ℕ)
     (m : DispatchMode) (competition : Bool) (d : Demand) → sound_config w.config ≡ true
     → window_deadline step ≡ next_deadline_call w now m competition d
-    → window_deadline r ≡ earlier_of (window_deadline step) own → Unmoved (deadline_answer r.answer) b c
+    → window_deadline r ≡ earlier_of (window_deadline step) own → Unmoved (by_number r.answer) b c
 unfolding next_deadline_call judged choose given earlier_of
 due_answered b c r step own w now m competition d s e f = go competition (rw s at e)
   where
-    answered : (a : Deadline) (v : CpuWindow) → window_deadline step ≡ with (value a) v
-        → Unmoved (deadline_answer r.answer) b c
+    answered : (a : Option ℕ) (v : CpuWindow) → window_deadline step ≡ with (value a) v
+        → Unmoved (by_number r.answer) b c
     answered a v h =
-        subst (λ (y : Answer Deadline). Unmoved y b c)
-        (sym (ap (λ (y : With Deadline). answer_of y) (f ∙ ap (λ (y : With Deadline). earlier_of y own) h))) tt
+        subst (λ (y : Answer (Option ℕ)). Unmoved y b c)
+        (sym (ap (λ (y : With (Option ℕ)). answer_of y) (f ∙ ap (λ (y : With (Option ℕ)). earlier_of y own) h))) tt
 
     go : (x : Bool) → window_deadline step
         ≡ choose x (with (value (next_deadline (refreshed w now) now m d)) (refreshed w now))
-        (with (value deadline.None) (refreshed w now)) → Unmoved (deadline_answer r.answer) b c
+        (with (value None) (refreshed w now)) → Unmoved (by_number r.answer) b c
     go true h = answered _ _ h
     go false h = answered _ _ h
 

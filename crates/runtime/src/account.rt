@@ -2,6 +2,7 @@
 // candidate. The record is judged by its row's tags; a record without a budget stays as it is, so that nothing of it is
 // stored.
 ghost use Rattle.std.specs.Prelude.{◌≡◌, true, false, [], ◌<◌, length, get_or};
+ghost use Rattle.refusal.specs.Answer.{by_number};
 ghost use Rattle.window_config.specs.Config.{sound_config};
 ghost use Rattle.algorithms.specs.declared.PolicyRuntime.TheVariants.{Budget};
 ghost use Rattle.thread.specs.Judgement.{is_bad_record};
@@ -11,7 +12,7 @@ ghost use Rattle.codec.specs.Codec.{decoded};
 ghost use Rattle.codec.specs.Frame.{RowFramed};
 ghost use Rattle.window_words.specs.WindowWords as words;
 ghost use Rattle.rows.specs.Table.{table, out};
-ghost use Rattle.arbitration.specs.Answers.{verdict_of, window_step};
+ghost use Rattle.arbitration.specs.Answers.{window_step};
 ghost use Rattle.decisions.specs.Switch.{spent};
 ghost use Rattle.runtime.specs.Account.{account_current, finish_turn, pass_of, candidate_stored, current_candidate};
 ghost use Rattle.runtime.specs.Account.{expired};
@@ -19,13 +20,10 @@ ghost use Rattle.runtime.specs.Rows.{whole_burst, charged_row, accounted_row, ac
 ghost use Rattle.runtime.specs.Rows.{refreshed_row, candidate_at};
 ghost use Rattle.rows.specs.Unmoved.{Unmoved};
 ghost use Rattle.rows.specs.Frame.{Framed};
-ghost use Rattle.runtime.specs.Answers.{expired_answer};
 
-use crate::ExpiredAnswer;
 use crate::judging::{budget_parameters, budget_runtime, is_bad_at, store_budget};
 use algorithms::{PolicyRuntime, Wide};
-use arbitration::{CpuWindow, DispatchMode, Verdict, WindowStep};
-use budget::BudgetAnswer;
+use arbitration::{CpuWindow, DispatchMode, WindowStep};
 use codec::{RUNTIME_FIRST, RUNTIME_SECOND, RUNTIME_THIRD, Row, parameters_of};
 use policy_words::{
     BACKEND_TAG, BAND, BUDGET_BURST, BUDGET_NS, BUDGET_PERIOD, BUDGET_TAG, FIFO_PRIORITY,
@@ -69,7 +67,7 @@ fn account_row(
     requires config_value { sound_config window.config ≡ true }
     ensures t_after { out (window_step result) (table t.new) ≡ accounted_row (table t.old) id
         (get_or t.old id []) window mode start end }
-    ensures unmoved { Unmoved (verdict_of result.answer) t.old t.new }
+    ensures unmoved { Unmoved (by_number result.answer) t.old t.new }
     ensures framed { Framed t.old t.new }
 {
     let k = id as usize;
@@ -91,21 +89,21 @@ fn account_at(
     requires { sound_config window.config ≡ true }
     ensures t_after { out (window_step result) (table t.new)
         ≡ account_at (table t.old) id window mode start end }
-    ensures unmoved { Unmoved (verdict_of result.answer) t.old t.new }
+    ensures unmoved { Unmoved (by_number result.answer) t.old t.new }
     ensures framed { Framed t.old t.new }
 {
     let k = id as usize;
     if k < t.len() {
         if is_bad_at(t, k) {
             return WindowStep {
-                answer: Verdict::Refused(Refusal::BadRecord),
+                answer: Err(Refusal::BadRecord),
                 window,
             };
         }
         return account_row(t, id, window, mode, start, end);
     }
     WindowStep {
-        answer: Verdict::Refused(Refusal::NoThread),
+        answer: Err(Refusal::NoThread),
         window,
     }
 }
@@ -121,19 +119,19 @@ pub fn account_current(
 ) -> WindowStep
     ensures t_after { out (window_step result) (table t.new) ≡ account_current (table t.old)
         id.0 window mode start end }
-    ensures unmoved { Unmoved (verdict_of result.answer) t.old t.new }
+    ensures unmoved { Unmoved (by_number result.answer) t.old t.new }
     ensures framed { Framed t.old t.new }
 {
     let config = window.config;
     if MAX_RECORDS < t.len() {
         return WindowStep {
-            answer: Verdict::Refused(Refusal::BadTable),
+            answer: Err(Refusal::BadTable),
             window,
         };
     }
     if !config.is_sound() {
         return WindowStep {
-            answer: Verdict::Refused(Refusal::BadConfig),
+            answer: Err(Refusal::BadConfig),
             window,
         };
     }
@@ -166,23 +164,23 @@ fn finish_at(t: &mut [Row], id: u64)
 }
 
 // The turn of an expired or yielding thread ends: order 10, 4, 11.
-pub fn finish_turn(t: &mut [Row], id: ThreadId) -> Verdict
-    ensures t_after { out (verdict_of result) (table t.new) ≡ finish_turn (table t.old) id.0 }
-    ensures unmoved { Unmoved (verdict_of result) t.old t.new }
+pub fn finish_turn(t: &mut [Row], id: ThreadId) -> Result<(), Refusal>
+    ensures t_after { out (by_number result) (table t.new) ≡ finish_turn (table t.old) id.0 }
+    ensures unmoved { Unmoved (by_number result) t.old t.new }
     ensures framed { Framed t.old t.new }
 {
     let k = id.0 as usize;
     if MAX_RECORDS < t.len() {
-        return Verdict::Refused(Refusal::BadTable);
+        return Err(Refusal::BadTable);
     }
     if k < t.len() {
         if is_bad_at(t, k) {
-            return Verdict::Refused(Refusal::BadRecord);
+            return Err(Refusal::BadRecord);
         }
         finish_at(t, id.0);
-        return Verdict::Accepted;
+        return Ok(());
     }
-    Verdict::Refused(Refusal::NoThread)
+    Err(Refusal::NoThread)
 }
 
 // A fair thread's pass, whatever its backend; else 0.
@@ -237,11 +235,11 @@ pub fn refresh_at(t: &mut [Row], id: u64, reading: u64) -> bool
         let parameters = budget_parameters(row);
         let fresh = runtime.refresh(reading, parameters);
         match fresh {
-            BudgetAnswer::Refused(_) => {
+            Err(_) => {
                 return true;
             }
-            BudgetAnswer::Runtime(b) => {
-                set_runtime(t, id, PolicyRuntime::Budget(b));
+            Ok(b) => {
+                let _ = set_runtime(t, id, PolicyRuntime::Budget(b));
                 if b.remaining_ns == 0 {
                     return false;
                 }
@@ -253,29 +251,35 @@ pub fn refresh_at(t: &mut [Row], id: u64, reading: u64) -> bool
 }
 
 // NoThread, then BadRecord.
-fn candidate_at(t: &mut [Row], id: u64, running: bool, reading: u64, current: &mut Row) -> Verdict
-    ensures t_after { out (verdict_of result, words.candidate_of current.new) (table t.new)
+fn candidate_at(
+    t: &mut [Row],
+    id: u64,
+    running: bool,
+    reading: u64,
+    current: &mut Row,
+) -> Result<(), Refusal>
+    ensures t_after { out (by_number result, words.candidate_of current.new) (table t.new)
         ≡ candidate_stored (words.candidate_of current.old)
         (candidate_at (table t.old) id running reading) }
-    ensures unmoved { Unmoved (verdict_of result) t.old t.new }
-    ensures unmoved_2 { Unmoved (verdict_of result) current.old current.new }
+    ensures unmoved { Unmoved (by_number result) t.old t.new }
+    ensures unmoved_2 { Unmoved (by_number result) current.old current.new }
     ensures current_unchanged { running ≡ false → current.new ≡ current.old }
     ensures framed { Framed t.old t.new }
 {
     let k = id as usize;
     if k < t.len() {
         if is_bad_at(t, k) {
-            return Verdict::Refused(Refusal::BadRecord);
+            return Err(Refusal::BadRecord);
         }
         if !running {
-            return Verdict::Accepted;
+            return Ok(());
         }
         let row = t[k];
         let available = refresh_at(t, id, reading);
         *current = with_candidate(*current, row, available);
-        return Verdict::Accepted;
+        return Ok(());
     }
-    Verdict::Refused(Refusal::NoThread)
+    Err(Refusal::NoThread)
 }
 
 // The current thread as selection and keys take it, refreshed where it is Running, into a candidate's words: order 10,
@@ -286,17 +290,17 @@ pub fn current_candidate(
     running: bool,
     reading: u64,
     current: &mut Row,
-) -> Verdict
-    ensures t_after { out (verdict_of result, words.candidate_of current.new) (table t.new)
+) -> Result<(), Refusal>
+    ensures t_after { out (by_number result, words.candidate_of current.new) (table t.new)
         ≡ candidate_stored (words.candidate_of current.old)
         (current_candidate (table t.old) id.0 running reading) }
-    ensures unmoved { Unmoved (verdict_of result) t.old t.new }
-    ensures unmoved_2 { Unmoved (verdict_of result) current.old current.new }
+    ensures unmoved { Unmoved (by_number result) t.old t.new }
+    ensures unmoved_2 { Unmoved (by_number result) current.old current.new }
     ensures current_unchanged { running ≡ false → current.new ≡ current.old }
     ensures framed { Framed t.old t.new }
 {
     if MAX_RECORDS < t.len() {
-        return Verdict::Refused(Refusal::BadTable);
+        return Err(Refusal::BadTable);
     }
     candidate_at(t, id.0, running, reading, current)
 }
@@ -321,19 +325,19 @@ fn is_spent_row(w: Row) -> bool
 }
 
 // `expired` of the current thread: order 10, 4, 11.
-pub fn expired(t: &[Row], id: ThreadId) -> ExpiredAnswer
-    ensures { expired_answer result ≡ expired (table t.now) id.0 }
+pub fn expired(t: &[Row], id: ThreadId) -> Result<bool, Refusal>
+    ensures { by_number result ≡ expired (table t.now) id.0 }
 {
     let k = id.0 as usize;
     if MAX_RECORDS < t.len() {
-        return ExpiredAnswer::Refused(Refusal::BadTable);
+        return Err(Refusal::BadTable);
     }
     if k < t.len() {
         if is_bad_at(t, k) {
-            return ExpiredAnswer::Refused(Refusal::BadRecord);
+            return Err(Refusal::BadRecord);
         }
         let row = t[k];
-        return ExpiredAnswer::Expired(is_spent_row(row));
+        return Ok(is_spent_row(row));
     }
-    ExpiredAnswer::Refused(Refusal::NoThread)
+    Err(Refusal::NoThread)
 }

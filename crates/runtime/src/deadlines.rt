@@ -1,9 +1,9 @@
 // The choice of deadline. After `refresh_deadline`: competition, budget peer, ready thread, demand and the current
 // key's mode come as arguments.
 ghost use Rattle.std.specs.Prelude.{◌≡◌, true, [], ◌<◌, length, get_or};
+ghost use Rattle.refusal.specs.Answer.{by_number};
 ghost use Rattle.window_config.specs.Config.{sound_config};
 ghost use Rattle.rows.specs.Table.{table, out};
-ghost use Rattle.budget.specs.Answers.{deadline_answer};
 ghost use Rattle.arbitration.specs.Answers.{window_deadline};
 ghost use Rattle.runtime.specs.Deadline.{refresh_deadline};
 ghost use Rattle.runtime.specs.Rows.{slice_end, refreshed_end, budget_end, own_end, earlier_of, due_row, keyless_due};
@@ -14,45 +14,43 @@ ghost use Rattle.rows.specs.Frame.{Framed};
 use crate::judging::{budget_parameters, budget_runtime, is_bad_at};
 use algorithms::PolicyRuntime;
 use arbitration::{CpuWindow, DispatchMode, WindowDeadline};
-use budget::{BudgetDeadline, DeadlineAnswer};
 use codec::{RUNTIME_TAG, RUNTIME_THIRD, Row};
-use decisions::{Contention, ModeOption, borrows, budget_expiry};
+use decisions::{Contention, borrows, budget_expiry};
 use refusal::Refusal;
 use rows::{MAX_RECORDS, set_runtime};
 use thread::ThreadId;
-use time::{Deadline, checked_add, earliest};
+use time::{checked_add, earliest};
 
 // Of a record without a budget: the end of a fair slice, where a thread is ready to take it.
-fn slice_end(row: Row, reading: u64, competition: bool, ready: bool) -> Deadline
+fn slice_end(row: Row, reading: u64, competition: bool, ready: bool) -> Option<u64>
     ensures { result ≡ slice_end row reading competition ready }
 {
     if row[RUNTIME_TAG] == 1 {
         if !competition {
-            return Deadline::None;
+            return None;
         }
         if ready {
             return checked_add(reading, row[RUNTIME_THIRD]);
         }
-        return Deadline::None;
+        return None;
     }
-    Deadline::None
+    None
 }
 
 // A budget's own deadline, for which it is refreshed.
-fn refreshed_end(t: &mut [Row], id: u64, row: Row, reading: u64, mode: DispatchMode) -> Deadline
+fn refreshed_end(t: &mut [Row], id: u64, row: Row, reading: u64, mode: DispatchMode) -> Option<u64>
     ensures t_after { out result (table t.new) ≡ refreshed_end (table t.old) id row reading mode }
     ensures framed { Framed t.old t.new }
 {
     let runtime = budget_runtime(row);
     let parameters = budget_parameters(row);
     let borrow = borrows(mode);
-    let due = runtime.deadline(reading, parameters, borrow);
-    match due {
-        BudgetDeadline::Refused(_) => Deadline::None,
-        BudgetDeadline::Deadline(fresh, end) => {
-            set_runtime(t, id, PolicyRuntime::Budget(fresh));
+    match runtime.deadline(reading, parameters, borrow) {
+        Ok((fresh, end)) => {
+            let _ = set_runtime(t, id, PolicyRuntime::Budget(fresh));
             end
         }
+        Err(_) => None,
     }
 }
 
@@ -65,13 +63,13 @@ fn budget_end(
     mode: DispatchMode,
     competition: bool,
     budget_peer: bool,
-) -> Deadline
+) -> Option<u64>
     ensures t_after { out result (table t.new)
         ≡ budget_end (table t.old) id row reading mode competition budget_peer }
     ensures framed { Framed t.old t.new }
 {
     if !competition {
-        return Deadline::None;
+        return None;
     }
     if !budget_peer {
         let parameters = budget_parameters(row);
@@ -87,7 +85,7 @@ fn own_end(
     reading: u64,
     mode: DispatchMode,
     contention: Contention,
-) -> Deadline
+) -> Option<u64>
     requires { id < length t.old }
     ensures t_after { out result (table t.new)
         ≡ own_end (table t.old) id (get_or t.old id []) reading mode contention }
@@ -111,15 +109,15 @@ fn own_end(
 }
 
 // The earlier of the window's deadline and the thread's own.
-fn earlier_of(step: WindowDeadline, own: Deadline) -> WindowDeadline
+fn earlier_of(step: WindowDeadline, own: Option<u64>) -> WindowDeadline
     ensures { window_deadline result ≡ earlier_of (window_deadline step) own }
 {
     let answer = step.answer;
     let window = step.window;
     match answer {
-        DeadlineAnswer::Refused(_) => step,
-        DeadlineAnswer::Deadline(end) => WindowDeadline {
-            answer: DeadlineAnswer::Deadline(earliest(own, end)),
+        Err(_) => step,
+        Ok(end) => WindowDeadline {
+            answer: Ok(earliest(own, end)),
             window,
         },
     }
@@ -138,7 +136,7 @@ fn due_with(
     requires config_value { sound_config window.config ≡ true }
     ensures t_after { out (window_deadline result) (table t.new)
         ≡ due_row (table t.old) id (get_or t.old id []) reading mode window contention }
-    ensures unmoved { Unmoved (deadline_answer result.answer) t.old t.new }
+    ensures unmoved { Unmoved (by_number result.answer) t.old t.new }
     ensures framed { Framed t.old t.new }
 {
     let demand = contention.demand;
@@ -153,12 +151,12 @@ fn due_without(reading: u64, window: CpuWindow, competition: bool) -> WindowDead
 {
     if competition {
         return WindowDeadline {
-            answer: DeadlineAnswer::Deadline(Deadline::Some(reading)),
+            answer: Ok(Some(reading)),
             window,
         };
     }
     WindowDeadline {
-        answer: DeadlineAnswer::Deadline(Deadline::None),
+        answer: Ok(None),
         window,
     }
 }
@@ -168,35 +166,35 @@ fn due_at(
     t: &mut [Row],
     id: u64,
     reading: u64,
-    mode: ModeOption,
+    mode: Option<DispatchMode>,
     window: CpuWindow,
     contention: Contention,
 ) -> WindowDeadline
     requires { sound_config window.config ≡ true }
     ensures t_after { out (window_deadline result) (table t.new)
         ≡ deadline_at (table t.old) id reading mode window contention }
-    ensures unmoved { Unmoved (deadline_answer result.answer) t.old t.new }
+    ensures unmoved { Unmoved (by_number result.answer) t.old t.new }
     ensures framed { Framed t.old t.new }
 {
     let k = id as usize;
     if k < t.len() {
         if is_bad_at(t, k) {
             return WindowDeadline {
-                answer: DeadlineAnswer::Refused(Refusal::BadRecord),
+                answer: Err(Refusal::BadRecord),
                 window,
             };
         }
         match mode {
-            ModeOption::None => {
+            None => {
                 return due_without(reading, window, contention.competition);
             }
-            ModeOption::Some(mode) => {
+            Some(mode) => {
                 return due_with(t, id, reading, mode, window, contention);
             }
         }
     }
     WindowDeadline {
-        answer: DeadlineAnswer::Refused(Refusal::NoThread),
+        answer: Err(Refusal::NoThread),
         window,
     }
 }
@@ -206,25 +204,25 @@ pub fn refresh_deadline(
     t: &mut [Row],
     id: ThreadId,
     reading: u64,
-    mode: ModeOption,
+    mode: Option<DispatchMode>,
     window: CpuWindow,
     contention: Contention,
 ) -> WindowDeadline
     ensures t_after { out (window_deadline result) (table t.new) ≡ refresh_deadline (table t.old)
         id.0 reading mode window contention }
-    ensures unmoved { Unmoved (deadline_answer result.answer) t.old t.new }
+    ensures unmoved { Unmoved (by_number result.answer) t.old t.new }
     ensures framed { Framed t.old t.new }
 {
     let config = window.config;
     if MAX_RECORDS < t.len() {
         return WindowDeadline {
-            answer: DeadlineAnswer::Refused(Refusal::BadTable),
+            answer: Err(Refusal::BadTable),
             window,
         };
     }
     if !config.is_sound() {
         return WindowDeadline {
-            answer: DeadlineAnswer::Refused(Refusal::BadConfig),
+            answer: Err(Refusal::BadConfig),
             window,
         };
     }

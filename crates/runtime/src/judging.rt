@@ -1,17 +1,17 @@
 // The judgement of a record by the tags of its row, what the calls read of a budget, and the store of its runtime: no
 // record is made only to be taken apart again.
 ghost use Rattle.std.specs.Prelude.{◌≡◌, [], ◌<◌, length, get_or};
+ghost use Rattle.refusal.specs.Answer.{by_number};
 ghost use Rattle.thread.specs.Judgement.{is_bad_record};
 ghost use Rattle.codec.specs.Codec.{decoded};
 ghost use Rattle.rows.specs.Table.{table};
-ghost use Rattle.budget.specs.Answers.{budget_answer};
 ghost use Rattle.queue.specs.RowJudgement.{budget_runtime, budget_parameters};
 ghost use Rattle.runtime.specs.Rows.{bad_budget, budget_stored};
 ghost use Rattle.rows.specs.Unmoved.{Unmoved};
 ghost use Rattle.rows.specs.Frame.{Framed};
 
 use algorithms::PolicyRuntime;
-use budget::{BudgetAnswer, BudgetRuntime};
+use budget::BudgetRuntime;
 use codec::{Row, epoch_from};
 use policy::BudgetParameters;
 use policy_words::{
@@ -19,6 +19,7 @@ use policy_words::{
     RUNTIME_SECOND, RUNTIME_TAG, RUNTIME_THIRD,
 };
 use queue::is_bad_row;
+use refusal::Refusal;
 use rows::set_runtime;
 
 // Of a row whose policy and runtime are a budget's.
@@ -83,15 +84,15 @@ pub fn budget_parameters(w: Row) -> BudgetParameters
 }
 
 // A budget's runtime as a call leaves it; a refusal stores nothing.
-pub fn store_budget(t: &mut [Row], id: u64, answer: BudgetAnswer)
-    ensures t_after { table t.new ≡ budget_stored (table t.old) id (budget_answer answer) }
-    ensures unmoved { Unmoved (budget_answer answer) t.old t.new }
+pub fn store_budget(t: &mut [Row], id: u64, answer: Result<BudgetRuntime, Refusal>)
+    ensures t_after { table t.new ≡ budget_stored (table t.old) id (by_number answer) }
+    ensures unmoved { Unmoved (by_number answer) t.old t.new }
     ensures framed { Framed t.old t.new }
 {
     match answer {
-        BudgetAnswer::Refused(_) => {}
-        BudgetAnswer::Runtime(runtime) => {
-            set_runtime(t, id, PolicyRuntime::Budget(runtime));
+        Err(_) => {}
+        Ok(runtime) => {
+            let _ = set_runtime(t, id, PolicyRuntime::Budget(runtime));
         }
     }
 }

@@ -9,12 +9,11 @@ mod prepare;
 
 pub use account::{account_current, current_candidate, expired, finish_turn};
 use algorithms::PolicyRuntime;
-use arbitration::{Candidate, CpuWindow, Verdict};
+use arbitration::{Candidate, CpuWindow};
 pub use deadlines::refresh_deadline;
 use decisions::Turns;
 pub use prepare::prepare_enqueue;
 use refusal::Refusal;
-use time::Deadline;
 
 // What preparing stores: the refreshed runtime and the turn; and the counters afterwards.
 #[derive(Clone, Copy)]
@@ -27,7 +26,7 @@ pub struct Preparation {
 // Whether a thread was prepared, and the counters as they are left.
 #[derive(Clone, Copy)]
 pub struct Prepared {
-    pub answer: Verdict,
+    pub answer: Result<(), Refusal>,
     pub turns: Turns,
 }
 
@@ -45,17 +44,10 @@ pub struct Refreshed {
     pub candidate: Candidate,
 }
 
-// Whether the current thread's slice or burst is spent.
-#[derive(Clone, Copy)]
-pub enum ExpiredAnswer {
-    Expired(bool),
-    Refused(Refusal),
-}
-
 // What refreshing a deadline stores: the runtime; the window afterwards, and the deadline.
 #[derive(Clone, Copy)]
 pub struct Due {
     pub runtime: PolicyRuntime,
     pub window: CpuWindow,
-    pub deadline: Deadline,
+    pub deadline: Option<u64>,
 }

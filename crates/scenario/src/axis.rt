@@ -2,8 +2,6 @@
 use crate::printing::put;
 use crate::scale::{LEFT, RIGHT, TOP, across};
 use crate::shapes::{UNIT_WIDTH, dashes, in_milliseconds, time_width};
-use text::saturating_add;
-use time::saturating_sub;
 
 // A millisecond in nanoseconds.
 const MILLISECOND: u64 = 1_000_000;
@@ -22,14 +20,14 @@ pub const TIME_DOWN: u64 = 180;
 
 // How wide a length of time is drawn.
 fn drawn(span: u64, length: u64) -> u64 {
-    saturating_sub(across(span, length), LEFT)
+    across(span, length).saturating_sub(LEFT)
 }
 
 // How wide the widest of the times so far apart is: it has the whole digits of the run's end, and a fraction.
 fn widest(span: u64, apart: u64) -> u64 {
-    let whole = time_width(saturating_sub(span, span % MILLISECOND));
+    let whole = time_width(span - span % MILLISECOND);
     let fraction = time_width(apart % MILLISECOND);
-    saturating_sub(saturating_add(whole, fraction), UNIT_WIDTH)
+    whole.saturating_add(fraction).saturating_sub(UNIT_WIDTH)
 }
 
 // Whether times so far apart do not touch.
@@ -37,39 +35,23 @@ fn is_apart(span: u64, apart: u64) -> bool {
     widest(span, apart) <= drawn(span, apart)
 }
 
-fn five_times(n: u64) -> u64 {
-    let twice = saturating_add(n, n);
-    saturating_add(saturating_add(twice, twice), n)
-}
-
-// Of a length, its double and its fivefold the first by which times do not touch; else 0.
-fn of_decade(span: u64, length: u64) -> u64 {
-    if is_apart(span, length) {
-        return length;
-    }
-    let twice = saturating_add(length, length);
-    if is_apart(span, twice) {
-        return twice;
-    }
-    let five = five_times(length);
-    if is_apart(span, five) {
-        return five;
-    }
-    0
+// Of a length, its double and its fivefold the first by which times do not touch.
+fn of_decade(span: u64, length: u64) -> Option<u64> {
+    let twice = length.saturating_mul(2);
+    let five = length.saturating_mul(5);
+    [length, twice, five]
+        .into_iter()
+        .find(|&apart| is_apart(span, apart))
 }
 
 // The least of a length's 1, 2, 5, 10, 20 .. by which times do not touch.
 fn step(span: u64, length: u64) -> u64 {
     let mut n = length;
-    let mut left: u64 = DECADES;
-    while 0 < left {
-        let found = of_decade(span, n);
-        if found != 0 {
+    for _ in 0..DECADES {
+        if let Some(found) = of_decade(span, n) {
             return found;
         }
-        let five = five_times(n);
-        n = saturating_add(five, five);
-        left -= 1;
+        n = n.saturating_mul(10);
     }
     n
 }
@@ -77,18 +59,15 @@ fn step(span: u64, length: u64) -> u64 {
 // Edges so far apart, up to the run's end; one beyond the greatest reading is none.
 fn edges(span: u64, bottom: u64, apart: u64) {
     let mut reading: u64 = 0;
-    let mut left: u64 = MOST_EDGES;
-    while 0 < left {
+    for _ in 0..MOST_EDGES {
         if span < reading {
             return;
         }
         dashes(across(span, reading), TOP, bottom);
-        let next = saturating_add(reading, apart);
-        if saturating_sub(next, reading) < apart {
-            return;
+        match reading.checked_add(apart) {
+            Some(next) => reading = next,
+            None => return,
         }
-        reading = next;
-        left -= 1;
     }
 }
 
@@ -115,7 +94,7 @@ fn time_at(place: u64, bottom: u64, reading: u64) {
     tick(place, bottom);
     in_milliseconds(
         b"<text x='%a' y='%b' text-anchor='middle'>%@ ms</text>\n",
-        &[place, saturating_add(bottom, TIME_DOWN)],
+        &[place, bottom.saturating_add(TIME_DOWN)],
         reading,
     );
 }
@@ -123,15 +102,13 @@ fn time_at(place: u64, bottom: u64, reading: u64) {
 // Times so far apart, up to a place.
 fn times(span: u64, bottom: u64, apart: u64, last: u64) {
     let mut reading: u64 = 0;
-    let mut left: u64 = MOST_EDGES;
-    while 0 < left {
+    for _ in 0..MOST_EDGES {
         let place = across(span, reading);
         if span < reading || last < place {
             return;
         }
         time_at(place, bottom, reading);
-        reading = saturating_add(reading, apart);
-        left -= 1;
+        reading = reading.saturating_add(apart);
     }
 }
 
@@ -140,7 +117,7 @@ fn last_time(span: u64, bottom: u64) {
     tick(RIGHT, bottom);
     in_milliseconds(
         b"<text x='%a' y='%b' text-anchor='end'>%@ ms</text>\n",
-        &[RIGHT, saturating_add(bottom, TIME_DOWN)],
+        &[RIGHT, bottom.saturating_add(TIME_DOWN)],
         span,
     );
 }
@@ -154,10 +131,10 @@ fn line(bottom: u64) {
 
 // Of a run up to a reading, below lanes that end at a height. Where there is no period, times alone.
 pub fn axis(span: u64, bottom: u64, period: u64) {
-    let apart = step(span, time::max_of(period, 1));
-    let room = saturating_add(time_width(span), widest(span, apart) / 2);
+    let apart = step(span, period.max(1));
+    let room = time_width(span).saturating_add(widest(span, apart) / 2);
     edges_of(span, bottom, period, apart);
-    times(span, bottom, apart, saturating_sub(RIGHT, room));
+    times(span, bottom, apart, RIGHT.saturating_sub(room));
     last_time(span, bottom);
     line(bottom);
 }

@@ -1,28 +1,26 @@
 // Why a thread is chosen: its key, the demand, the window, and each tree's threads in order with the key of its head.
-// What is printed takes the words that it prints, and names them in templates by their letters, from %a on: a function
-// that reads a word of a run's field is dear to check.
-use crate::calls;
-use crate::printing::{listed, mode, named, plain, put, tell};
-use crate::run::{NOBODY, Names, Run, TEXT};
+// What is printed takes the words that it prints, and names them in templates by their letters, from %a on.
+use crate::printing::{listed, mode, plain, put};
+use crate::refusals::Refusal;
+use crate::run::{Board, Run};
 use board_words::SelectionWords;
 use codec::Row;
-use lent_queue::QueueRows;
+use lent_queue::QueueRow;
 use window_words::{KeyWords, WindowWords};
 
 // A tree has no more levels than this.
 const LEVELS: usize = 28;
 
-// The way through a tree: the thread to go down by; the threads above that come later, and how many; the thread that is
-// come to. Where there is none, nobody.
+// The way through a tree: the thread to go down by, and the threads above that come later, with how many there are. (A
+// Vec would take memory, which can be wanting.)
 #[derive(Clone, Copy)]
 struct Walk {
-    link: u64,
+    link: Option<u64>,
     above: [u64; LEVELS],
     depth: usize,
-    member: u64,
 }
 
-fn key(k: KeyWords) {
+fn key(k: &KeyWords) {
     if k[window_words::KEY_TAG] == 0 {
         plain(b"no key");
         return;
@@ -30,225 +28,175 @@ fn key(k: KeyWords) {
     mode(k[window_words::KEY_MODE], b"%@");
     put(
         b", urgency %c, rank %d, then algorithm rank %e, algorithm %f:%g, band %h, turn %i",
-        &k,
+        k,
     );
 }
 
-fn chosen_line(names: Names, threads: u64, id: u64, its_key: KeyWords) {
-    named(names, threads, id, b": %@, ");
-    key(its_key);
-    plain(b"\n");
-}
-
-fn told_chosen(x: Run, id: u64) {
-    if x.number == 0 && x.output == TEXT {
-        let names = x.names;
-        let its_key = x.key;
-        chosen_line(names, x.threads, id, its_key);
-    }
-}
-
-// The key of a thread; where the table has it not, that of no thread.
-fn with_key(t: &[Row], x: Run, id: u64, now: u64) -> Run {
-    let mut row = x.candidate;
-    let i = id as usize;
-    if i < t.len() {
-        row = t[i];
-    }
-    calls::key(x, row, now)
-}
-
-// The thread that selection names.
-fn chosen(t: &[Row], mut x: Run, now: u64) -> Run {
-    let selected = x.selected;
-    let id = selected[board_words::SELECTED_ID];
-    if selected[board_words::SELECTED_TAG] == 0 {
-        tell(x.output, b": nobody\n");
-    } else {
-        x = with_key(t, x, id, now);
-        told_chosen(x, id);
-    }
-    x
-}
-
-fn demand(s: SelectionWords) {
+fn demand(s: &SelectionWords) {
     put(
         b"  demand: protected %l, fair %m, window sensitive %n, eligible budget %o, any budget %p; ",
-        &s,
+        s,
     );
 }
 
-fn lowest(s: SelectionWords) {
+fn lowest(s: &SelectionWords) {
     if s[board_words::MIN_PASS_TAG] == 0 {
         plain(b"no fair pass\n");
         return;
     }
-    put(b"lowest fair pass %r:%s\n", &s);
+    put(b"lowest fair pass %r:%s\n", s);
 }
 
-fn window(w: WindowWords) {
+fn window(w: &WindowWords) {
     if w[window_words::EPOCH_TAG] == 0 {
         plain(b"  window: no epoch");
     } else {
-        put(b"  window: epoch %j", &w);
+        put(b"  window: epoch %j", w);
     }
-    put(b", allowance left %K, floor left %L\n", &w);
+    put(b", allowance left %K, floor left %L\n", w);
 }
 
-// The demand, the lowest pass and the window, by which keys are made.
-fn told_demand(x: Run) {
-    if x.number == 0 && x.output == TEXT {
-        let s = x.selected;
-        let w = x.window;
-        demand(s);
-        lowest(s);
-        window(w);
-    }
-}
-
-fn link(tag: u64, id: u64) -> u64 {
+fn link(tag: u64, id: u64) -> Option<u64> {
     if tag == 0 {
-        return NOBODY;
+        return None;
     }
-    id
+    Some(id)
 }
 
-// The way into a tree.
-fn root(q: &QueueRows, tree: usize) -> Walk {
-    let row = q[lent_queue::ROOT_ROWS + tree % queue::TREES];
+// The way into a tree, by the row of its root.
+fn root(row: &QueueRow) -> Walk {
     Walk {
         link: link(row[lent_queue::HEAD_TAG], row[lent_queue::HEAD]),
         above: [0; LEVELS],
         depth: 0,
-        member: NOBODY,
     }
 }
 
-fn below(mut w: Walk, row: Row) -> Walk {
-    let depth = w.depth;
-    if depth < LEVELS {
-        w.above[depth] = w.link;
-        w.depth = depth + 1;
-        w.link = link(row[codec::LEFT_TAG], row[codec::LEFT]);
-    } else {
-        w.link = NOBODY;
-    }
-    w
-}
-
-// A step down on the left; a link outside the table, or below the last level, is none.
-fn down(t: &[Row], mut w: Walk) -> Walk {
-    let i = w.link as usize;
-    if i < t.len() {
-        w = below(w, t[i]);
-    } else {
-        w.link = NOBODY;
-    }
-    w
-}
-
-fn descended(t: &[Row], mut w: Walk) -> Walk {
-    let mut left: usize = LEVELS;
-    while 0 < left {
-        w = down(t, w);
-        left -= 1;
-    }
-    w
-}
-
-// The thread above that comes next.
-fn popped(mut w: Walk) -> Walk {
-    let depth = w.depth;
-    w.member = NOBODY;
-    if 0 < depth {
-        if depth <= LEVELS {
-            w.member = w.above[depth - 1];
-            w.depth = depth - 1;
+impl Walk {
+    // A step down on the left; a link outside the table, or below the last level, is none.
+    fn down(&mut self, t: &[Row]) {
+        let Some(id) = self.link.take() else { return };
+        let Some(row) = t.get(id as usize) else {
+            return
+        };
+        if let Some(place) = self.above.get_mut(self.depth) {
+            *place = id;
+            self.depth += 1;
+            self.link = link(row[codec::LEFT_TAG], row[codec::LEFT]);
         }
     }
-    w
-}
 
-// What is on the right of a thread comes after it.
-fn turned(t: &[Row], mut w: Walk) -> Walk {
-    let i = w.member as usize;
-    if i < t.len() {
-        let row = t[i];
-        w.link = link(row[codec::RIGHT_TAG], row[codec::RIGHT]);
+    fn descend(&mut self, t: &[Row]) {
+        for _ in 0..LEVELS {
+            self.down(t);
+        }
     }
-    w
-}
 
-// The next thread of the tree.
-fn next(t: &[Row], mut w: Walk) -> Walk {
-    w = descended(t, w);
-    w = popped(w);
-    turned(t, w)
-}
+    // The thread above that comes next.
+    fn pop(&mut self) -> Option<u64> {
+        let depth = self.depth.checked_sub(1)?;
+        let id = *self.above.get(depth)?;
+        self.depth = depth;
+        Some(id)
+    }
 
-fn told_head(names: Names, threads: u64, id: u64, its_key: KeyWords, tree: u64) {
-    listed(
-        b"  tree of %@",
-        b"FIFO|fair|budget with time left|budget exhausted",
-        tree / 3,
-    );
-    listed(b", %@: ", b"ordinary|priority|protected", tree % 3);
-    named(names, threads, id, b"%@ (");
-    key(its_key);
-    plain(b")");
-}
-
-fn told_behind(names: Names, threads: u64, id: u64) {
-    if id != NOBODY {
-        named(names, threads, id, b", then %@");
+    // The next thread of the tree; what is on its right comes after it.
+    fn next(&mut self, t: &[Row]) -> Option<u64> {
+        self.descend(t);
+        let id = self.pop()?;
+        if let Some(row) = t.get(id as usize) {
+            self.link = link(row[codec::RIGHT_TAG], row[codec::RIGHT]);
+        }
+        Some(id)
     }
 }
 
-// The threads behind the head, as many as there are records at most.
-fn others(t: &[Row], names: Names, threads: u64, mut w: Walk) {
-    let mut left: usize = t.len();
-    while 0 < left {
-        w = next(t, w);
-        told_behind(names, threads, w.member);
-        left -= 1;
+impl Run {
+    fn told_chosen(&self, id: u64) {
+        if self.tells() {
+            self.told_name(id, b": %@, ");
+            key(&self.key);
+            plain(b"\n");
+        }
     }
-    plain(b"\n");
+
+    // The demand, the lowest pass and the window, by which keys are made.
+    fn told_demand(&self) {
+        if self.tells() {
+            demand(&self.selected);
+            lowest(&self.selected);
+            window(&self.window);
+        }
+    }
+
+    fn told_head(&self, id: u64, tree: u64) {
+        listed(
+            b"  tree of %@",
+            b"FIFO|fair|budget with time left|budget exhausted",
+            tree / 3,
+        );
+        listed(b", %@: ", b"ordinary|priority|protected", tree % 3);
+        self.told_name(id, b"%@ (");
+        key(&self.key);
+        plain(b")");
+    }
 }
 
-fn told_tree(t: &[Row], x: Run, tree: u64, head: Walk) {
-    if x.number == 0 && x.output == TEXT {
-        let names = x.names;
-        let its_key = x.key;
-        told_head(names, x.threads, head.member, its_key, tree);
-        others(t, names, x.threads, head);
+impl Board<'_> {
+    // The key of a thread; where the table has it not, that of no thread.
+    fn key(&mut self, id: u64, now: u64) -> Result<(), Refusal> {
+        let row = match self.table.get(id as usize) {
+            Some(row) => *row,
+            None => self.run.candidate,
+        };
+        self.run.key_of(&row, now)
     }
-}
 
-// A tree that is not empty.
-fn tree(q: &QueueRows, t: &[Row], mut x: Run, number: usize, now: u64) -> Run {
-    let head = next(t, root(q, number));
-    if x.number == 0 && head.member != NOBODY {
-        x = with_key(t, x, head.member, now);
-        told_tree(t, x, number as u64, head);
+    // The thread that selection names.
+    fn told_choice(&mut self, now: u64) -> Result<(), Refusal> {
+        if self.run.selected[board_words::SELECTED_TAG] == 0 {
+            self.run.tell(b": nobody\n");
+            return Ok(());
+        }
+        let id = self.run.selected[board_words::SELECTED_ID];
+        self.key(id, now)?;
+        self.run.told_chosen(id);
+        Ok(())
     }
-    x
-}
 
-fn trees(q: &QueueRows, t: &[Row], mut x: Run, now: u64) -> Run {
-    let mut number: usize = 0;
-    while number < queue::TREES {
-        x = tree(q, t, x, number, now);
-        number += 1;
+    // The threads behind the head, as many as there are records at most.
+    fn told_others(&self, mut walk: Walk) {
+        for _ in 0..self.table.len() {
+            match walk.next(self.table) {
+                Some(id) => self.run.told_name(id, b", then %@"),
+                None => break,
+            }
+        }
+        plain(b"\n");
     }
-    x
-}
 
-// Of the last selection.
-pub fn explain(q: &QueueRows, t: &[Row], mut x: Run, now: u64) -> Run {
-    if x.number == 0 {
-        x = chosen(t, x, now);
-        told_demand(x);
-        x = trees(q, t, x, now);
+    // A tree that is not empty.
+    fn told_tree(&mut self, tree: usize, now: u64) -> Result<(), Refusal> {
+        let row = self.queue[lent_queue::ROOT_ROWS + tree % queue::TREES];
+        let mut walk = root(&row);
+        let Some(head) = walk.next(self.table) else {
+            return Ok(())
+        };
+        self.key(head, now)?;
+        if self.run.tells() {
+            self.run.told_head(head, tree as u64);
+            self.told_others(walk);
+        }
+        Ok(())
     }
-    x
+
+    // Of the last selection.
+    pub fn explain(&mut self, now: u64) -> Result<(), Refusal> {
+        self.told_choice(now)?;
+        self.run.told_demand();
+        for tree in 0..queue::TREES {
+            self.told_tree(tree, now)?;
+        }
+        Ok(())
+    }
 }

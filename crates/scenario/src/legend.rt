@@ -1,12 +1,10 @@
 // The legend of a picture: a row or more of hooks that are there, and a row of what else is drawn.
 use crate::printing::{listed, plain, put};
-use crate::run::{Each, MOST_THREADS, at};
+use crate::run::Thread;
 use crate::scale::LEFT;
 use crate::shapes::{
-    FIRST_LETTER, LETTERS, NO_HOOK, THIN_HEIGHT, bar, dashes, label, mark, shade, thin_bar,
+    FIRST_LETTER, LETTERS, THIN_HEIGHT, bar, dashes, label, mark, shade, thin_bar,
 };
-use text::saturating_add;
-use time::saturating_sub;
 
 // Of what has no hook, and of hooks.
 const MOST_ENTRIES: u64 = LETTERS + 1;
@@ -50,78 +48,62 @@ const EDGE: u64 = LEFT + 4_150;
 const TIMES: u64 = LEFT + 5_550;
 
 // Whether a thread has a hook.
-fn is_there(hooks: Each, letter: u64) -> bool {
-    let mut left: u64 = MOST_THREADS;
-    while 0 < left {
-        left -= 1;
-        if at(hooks, left) == letter {
-            return true;
-        }
-    }
-    false
+fn is_there(threads: &[Thread], letter: u64) -> bool {
+    threads.iter().any(|thread| thread.hook == Some(letter))
 }
 
 // How many hooks are there.
-fn count(hooks: Each) -> u64 {
-    let mut n: u64 = 0;
-    let mut left: u64 = LETTERS;
-    while 0 < left {
-        left -= 1;
-        if is_there(hooks, FIRST_LETTER + left) {
-            n += 1;
-        }
-    }
-    n
+fn count(threads: &[Thread]) -> u64 {
+    let letters = FIRST_LETTER..FIRST_LETTER + LETTERS;
+    letters.filter(|&letter| is_there(threads, letter)).count() as u64
 }
 
 // Of the hooks and of the row below them.
-pub fn height(hooks: Each) -> u64 {
-    ROW * (count(hooks) % MOST_ENTRIES / IN_ROW + 2) + MARGIN
+pub fn height(threads: &[Thread]) -> u64 {
+    ROW * (count(threads) % MOST_ENTRIES / IN_ROW + 2) + MARGIN
 }
 
 // Where words have their foot.
 fn foot(y: u64) -> u64 {
-    saturating_add(y, FOOT)
+    y.saturating_add(FOOT)
 }
 
 // The k-th entry; its words follow.
-fn entry(k: u64, y: u64, letter: u64) {
+fn entry(k: u64, y: u64, hook: Option<u64>) {
     let left = LEFT + ENTRY * (k % IN_ROW);
-    let top = saturating_add(y, ROW * (k % MOST_ENTRIES / IN_ROW));
-    bar([left, top, SWATCH, SWATCH_HEIGHT], letter);
+    let top = y.saturating_add(ROW * (k % MOST_ENTRIES / IN_ROW));
+    bar([left, top, SWATCH, SWATCH_HEIGHT], hook);
     put(b"<text x='%a' y='%b'>", &[left + BESIDE, foot(top)]);
 }
 
 fn hook(k: u64, y: u64, letter: u64) {
-    entry(k, y, FIRST_LETTER + letter % LETTERS);
+    entry(k, y, Some(letter));
     listed(
         b"hook %@</text>\n",
         b"A|B|C|D|E|F|G|H|I|J|K|L|M|N|O|P|Q|R|S|T|U|V|W|X|Y|Z",
-        letter,
+        letter.saturating_sub(FIRST_LETTER),
     );
 }
 
 // The hooks that are there, in their order, behind what has none.
-fn hooks_from(hooks: Each, y: u64) {
+fn hooks(threads: &[Thread], y: u64) {
     let mut k: u64 = 1;
-    let mut letter: u64 = 0;
-    while letter < LETTERS {
-        if is_there(hooks, FIRST_LETTER + letter) {
+    for letter in FIRST_LETTER..FIRST_LETTER + LETTERS {
+        if is_there(threads, letter) {
             hook(k, y, letter);
-            k = saturating_add(k, 1);
+            k = k.saturating_add(1);
         }
-        letter += 1;
     }
 }
 
 fn waiting(y: u64) {
-    let top = saturating_add(y, WAITING_DOWN);
-    thin_bar([WAITING, top, SWATCH, THIN_HEIGHT], NO_HOOK);
+    let top = y.saturating_add(WAITING_DOWN);
+    thin_bar([WAITING, top, SWATCH, THIN_HEIGHT], None);
     label(WAITING + BESIDE, foot(y), b"waiting");
 }
 
 fn chosen(y: u64) {
-    mark(CHOSEN, saturating_add(y, MARK_DOWN));
+    mark(CHOSEN, y.saturating_add(MARK_DOWN));
     label(CHOSEN + BESIDE_LINE, foot(y), b"chosen by a selection");
 }
 
@@ -131,15 +113,15 @@ fn protected(y: u64) {
 }
 
 fn edge(y: u64) {
-    dashes(EDGE, y, saturating_add(y, EDGE_DOWN));
+    dashes(EDGE, y, y.saturating_add(EDGE_DOWN));
     label(EDGE + BESIDE_LINE, foot(y), b"edge of a period");
 }
 
-pub fn legend(hooks: Each, y: u64) {
-    entry(0, y, NO_HOOK);
+pub fn legend(threads: &[Thread], y: u64) {
+    entry(0, y, None);
     plain(b"no hook</text>\n");
-    hooks_from(hooks, y);
-    let below = saturating_add(y, saturating_sub(height(hooks), ROW + MARGIN));
+    hooks(threads, y);
+    let below = y.saturating_add(height(threads).saturating_sub(ROW + MARGIN));
     waiting(below);
     chosen(below);
     protected(below);

@@ -4,7 +4,6 @@
 
 mod axis;
 mod calls;
-mod causes;
 mod drawing;
 mod explaining;
 mod legend;
@@ -14,27 +13,22 @@ mod mistakes;
 mod names;
 mod performing;
 mod printing;
+mod refusals;
 mod run;
 mod running;
 mod scale;
 mod shapes;
 mod sheet;
 mod statements;
-mod system;
 mod threads;
 mod words;
 
+use files::{STDERR, fail, opened};
+use printing::{SPACE, plain, put, replace};
+use run::{Board, Output, Run};
+use std::env::FillError;
 use std::io::{Error, Read};
 use std::rt::Env;
-use system::{STDERR, arg_count, fail, opened};
-
-const STDOUT: i32 = 1;
-
-const TAB: u8 = 9;
-
-const NEW_LINE: u8 = 10;
-
-const RETURN: u8 = 13;
 
 // One byte more than a file may have.
 const ROOM: usize = 65_537;
@@ -42,102 +36,91 @@ const ROOM: usize = 65_537;
 // Linux's number of the error `File name too long`.
 const NAME_TOO_LONG: i32 = 36;
 
-fn new_queue(q: &mut lent_queue::QueueRows) {
-    board::board_new(q);
-}
-
-// Each line in turn, by the forms of the statements, on a new board, with the list of the lift record.
-fn lines_by(mut x: run::Run, list: &mut [u64], forms: &[u8], text: &[u8]) -> run::Run {
-    let mut q = [[0u64; lent_queue::QUEUE_ROW_WORDS]; lent_queue::QUEUE_ROWS];
-    let mut t = [[0u64; policy_words::ROW_WORDS]; run::TABLE_ROWS];
-    new_queue(&mut q);
-    let mut at: usize = 0;
-    while at < text.len() {
-        let start = at;
-        let end = text::end_of(text, start, NEW_LINE);
-        at = end + 1;
-        x = lines::line(&mut q, &mut t, list, x, forms, &text[start..end]);
+// Each line in turn, on a new board, with the list of the lift record. (The arrays stand here and not on the heap, so
+// that no memory can be wanting.)
+fn lines_of(mut run: Run, text: &[u8]) -> Run {
+    let mut queue = [[0; lent_queue::QUEUE_ROW_WORDS]; lent_queue::QUEUE_ROWS];
+    let mut table = [[0; policy_words::ROW_WORDS]; run::TABLE_ROWS];
+    let mut list = [0; lift::ROOM];
+    board::board_new(&mut queue);
+    let mut board = Board {
+        queue: &mut queue,
+        table: &mut table,
+        list: &mut list,
+        run: &mut run,
+    };
+    for line in text.split(|&byte| byte == b'\n') {
+        board.line(line);
     }
-    lift::ended(list, x);
-    x
-}
-
-// (The forms are long, and stand in one place of the program, which is cheaper to check.)
-fn lines_of(given: run::Run, text: &[u8]) -> run::Run {
-    let mut list = [0u64; lift::ROOM];
-    lines_by(given, &mut list, &statements::FORMS, text)
+    board.end();
+    run
 }
 
 fn print(text: &[u8]) {
-    let x = lines_of(run::new(run::TEXT), text);
-    printing::put(b"%a statements, %b refused, %c not understood\n", &x.counts);
+    let counts = lines_of(Run::new(Output::Text), text).counts;
+    put(
+        b"%a statements, %b refused, %c not understood\n",
+        &[counts.statements, counts.refused, counts.not_understood],
+    );
 }
 
 // Twice: the first run tells how long the second one is, and how many threads it has.
 fn picture(name: &[u8], text: &[u8]) {
-    let first = drawing::measured(lines_of(run::new(run::NOTHING), text));
-    sheet::sheet(first, name);
-    lines_of(drawing::anew(first), text);
+    let first = lines_of(Run::new(Output::Nothing), text);
+    sheet::sheet(&first, name);
+    lines_of(first.drawn(), text);
     sheet::end();
 }
 
 // A file's text is printed under its name; or its picture, or its lift record.
-fn shown(name: &[u8], text: &[u8], output: u64) {
-    if output == run::PICTURE {
-        picture(name, text);
-        return;
+fn shown(name: &[u8], text: &[u8], output: Output) {
+    match output {
+        Output::Picture => picture(name, text),
+        Output::Record => {
+            lines_of(Run::new(Output::Record), text);
+        }
+        Output::Text | Output::Nothing => {
+            plain(name);
+            plain(b"\n");
+            print(text);
+        }
     }
-    if output == run::RECORD {
-        lines_of(run::new(run::RECORD), text);
-        return;
-    }
-    io::write_all(STDOUT, name);
-    io::write_all(STDOUT, b"\n");
-    print(text);
 }
 
 // A tab and a carriage return are blanks.
-fn blank(byte: u8) -> u8 {
-    if byte == TAB || byte == RETURN {
-        return printing::SPACE;
-    }
-    byte
+fn blank(text: &mut [u8]) {
+    replace(text, |byte| byte == b'\t' || byte == b'\r', SPACE);
 }
 
-fn blanked(text: &mut [u8]) {
-    let mut i: usize = 0;
-    while i < text.len() {
-        text[i] = blank(text[i]);
-        i += 1;
-    }
-}
-
-// What is read of a file: all, in so many bytes; more than there is room for; or the system says why not.
+// Why a file is not run: it is longer than there is room for, or the system says why not.
 #[derive(Clone, Copy)]
-enum Got {
-    All(usize),
+enum Unread {
     Longer,
     Failed(Error),
 }
 
-// Up to the end of the file.
-fn read<R: Read>(from: &mut R, text: &mut [u8]) -> Got {
-    let mut n: usize = 0;
-    while n < text.len() {
-        match from.read(&mut text[n..]) {
-            Ok(0) => return Got::All(n),
-            Ok(more) => n += more,
-            Err(error) => return Got::Failed(error),
-        }
+impl From<Error> for Unread {
+    fn from(error: Error) -> Self {
+        Self::Failed(error)
     }
-    Got::Longer
 }
 
-fn read_file(rt: &HostRuntime, name: &[u8], text: &mut [u8]) -> Got {
-    match opened(rt, name) {
-        Ok(mut from) => read(&mut from, text),
-        Err(error) => Got::Failed(error),
+// How many bytes there are up to the end of the file. (The library's read_to_end takes memory; its read_exact does not
+// say how much it read.)
+fn read<R: Read>(from: &mut R, text: &mut [u8]) -> Result<usize, Unread> {
+    let mut n = 0;
+    while n < text.len() {
+        match from.read(&mut text[n..])? {
+            0 => return Ok(n),
+            more => n += more,
+        }
     }
+    Err(Unread::Longer)
+}
+
+fn read_file(rt: &HostRuntime, name: &[u8], text: &mut [u8]) -> Result<usize, Unread> {
+    let mut from = opened(rt, name)?;
+    read(&mut from, text)
 }
 
 fn complain(name: &[u8], words: &[u8]) {
@@ -145,43 +128,42 @@ fn complain(name: &[u8], words: &[u8]) {
     io::write_all(STDERR, words);
 }
 
-// How much of the text is a file's; nothing, and why not, where it is not read whole.
-fn whole(got: Got, name: &[u8], text: &mut [u8]) -> Got {
+// The text that is a file's; none, and why not, where it is not read whole.
+fn whole<'a>(got: Result<usize, Unread>, name: &[u8], text: &'a mut [u8]) -> Option<&'a [u8]> {
     match got {
-        Got::All(_) => blanked(text),
-        Got::Longer => complain(name, b": more than 65,536 bytes, not run\n"),
-        Got::Failed(error) => fail(name, error),
+        Ok(n) => {
+            blank(text);
+            text.get(..n)
+        }
+        Err(Unread::Longer) => {
+            complain(name, b": more than 65,536 bytes, not run\n");
+            None
+        }
+        Err(Unread::Failed(error)) => {
+            fail(name, error);
+            None
+        }
     }
-    got
 }
 
-fn file(rt: &HostRuntime, name: &[u8], output: u64) {
-    let mut text = [0u8; ROOM];
-    let got = whole(read_file(rt, name, &mut text), name, &mut text);
-    if let Got::All(n) = got {
-        if n <= ROOM {
-            shown(name, &text[0..n], output);
-        }
+fn file(rt: &HostRuntime, name: &[u8], output: Output) {
+    let mut room = [0; ROOM];
+    let got = read_file(rt, name, &mut room);
+    if let Some(text) = whole(got, name, &mut room) {
+        shown(name, text, output);
     }
 }
 
 fn input(rt: &HostRuntime) {
-    let mut text = [0u8; ROOM];
-    let got = whole(
-        read(&mut rt.stdin(), &mut text),
-        b"standard input",
-        &mut text,
-    );
-    if let Got::All(n) = got {
-        if n <= ROOM {
-            print(&text[0..n]);
-        }
+    let mut room = [0; ROOM];
+    let got = read(&mut rt.stdin(), &mut room);
+    if let Some(text) = whole(got, b"standard input", &mut room) {
+        print(text);
     }
 }
 
 fn help() {
-    io::write_all(
-        STDOUT,
+    plain(
         b"scenario FILE..: runs each file on a board of its own, and prints each answer below the file's name.\n\
         scenario: the same of standard input.\n\
         scenario --picture FILE: the run of the file as a picture, in SVG.\n\
@@ -192,65 +174,47 @@ fn help() {
     );
 }
 
-fn is_option(word: &[u8]) -> bool {
-    if word.len() < 2 {
-        return false;
-    }
-    text::same(&word[0..2], b"--")
-}
-
 // A word of the call; what becomes of the file after it.
-fn said(rt: &HostRuntime, word: &[u8], output: u64) -> u64 {
-    if text::same(word, b"--picture") {
-        return run::PICTURE;
+fn said(rt: &HostRuntime, word: &[u8], output: Output) -> Output {
+    match word {
+        b"--picture" => return Output::Picture,
+        b"--record" => return Output::Record,
+        b"--help" => help(),
+        [b'-', b'-', ..] => complain(word, b": unknown option, --help names all\n"),
+        _ => file(rt, word, output),
     }
-    if text::same(word, b"--record") {
-        return run::RECORD;
-    }
-    if text::same(word, b"--help") {
-        help();
-    } else if is_option(word) {
-        complain(word, b": unknown option, --help names all\n");
-    } else {
-        file(rt, word, output);
-    }
-    run::TEXT
+    Output::Text
 }
 
-// There is room for 4,096 bytes.
-fn argument(rt: &HostRuntime, i: usize, output: u64) -> u64 {
+// What becomes of the file after the i-th word of the call, if there is such a word. (There is room for 4,096 bytes.)
+fn argument(rt: &HostRuntime, i: usize, output: Output) -> Option<Output> {
     let mut word = io::buffer();
     match rt.arg(i, &mut word) {
-        Ok(n) => said(rt, &word[..n], output),
-        Err(_) => {
+        Ok(n) => Some(said(rt, &word[..n], output)),
+        Err(FillError::TooLong) => {
             fail(b"an argument", Error::from_raw_os_error(NAME_TOO_LONG));
-            output
+            Some(output)
         }
+        Err(FillError::NotPresent) => None,
     }
 }
 
 // An option is the last word of the call.
-fn unfinished(output: u64) {
-    if output == run::PICTURE {
-        io::write_all(STDERR, b"--picture");
-    } else {
-        io::write_all(STDERR, b"--record");
+fn unfinished(output: Output) {
+    match output {
+        Output::Picture => complain(b"--picture", b": a file has to follow\n"),
+        Output::Record => complain(b"--record", b": a file has to follow\n"),
+        Output::Text | Output::Nothing => (),
     }
-    io::write_all(STDERR, b": a file has to follow\n");
 }
 
 fn main(rt: HostRuntime) {
-    let count = arg_count(&rt);
-    let mut output: u64 = run::TEXT;
-    let mut i: usize = 1;
-    while i < count {
-        output = argument(&rt, i, output);
-        i += 1;
-    }
-    if output != run::TEXT {
-        unfinished(output);
-    }
-    if count < 2 {
-        input(&rt);
+    let mut output = Output::Text;
+    for i in 1..usize::MAX {
+        match argument(&rt, i, output) {
+            Some(next) => output = next,
+            None if i == 1 => return input(&rt),
+            None => return unfinished(output),
+        }
     }
 }

@@ -1,118 +1,163 @@
 // Lines that are no statement, and numbers that their fields would lose, told in words.
-use crate::printing::{SPACE, listed, plain, put_one, words};
-use crate::run::MOST_THREADS;
-use crate::statements::Statement;
-use crate::{causes, statements};
+use crate::printing::{SPACE, plain, put_one, words};
+use crate::run::{MOST, Run};
+use crate::statements::{Name, Statement};
+use text::Cause;
+
+// Why a line is no statement, or its number one that the field would lose.
+#[derive(Clone, Copy, PartialEq, Eq)]
+pub enum Mistake {
+    Missing,
+    NoNumber,
+    NoTime,
+    OtherWord,
+    NoSuchName,
+    NameTaken,
+    NoName,
+    TooMany,
+    NoRoom,
+    NoWakes,
+    AboveLimit,
+    NoLetter,
+}
+
+impl From<Cause> for Mistake {
+    fn from(cause: Cause) -> Self {
+        match cause {
+            Cause::Missing => Self::Missing,
+            Cause::OtherWord => Self::OtherWord,
+            Cause::NoNumber => Self::NoNumber,
+            Cause::NoTime => Self::NoTime,
+            Cause::AboveLimit => Self::AboveLimit,
+            Cause::NoSuchName => Self::NoSuchName,
+            Cause::NameTaken => Self::NameTaken,
+            Cause::NoName => Self::NoName,
+            Cause::NoRoom => Self::NoRoom,
+            Cause::NoLetter => Self::NoLetter,
+            Cause::TooMany => Self::TooMany,
+        }
+    }
+}
+
+impl Mistake {
+    pub fn is_refused(self) -> bool {
+        matches!(self, Self::AboveLimit | Self::NoLetter)
+    }
+
+    // Whether the form's field is told before the reason, and the line's word behind it.
+    fn has_field(self) -> bool {
+        matches!(self, Self::Missing | Self::NoNumber | Self::NoTime)
+    }
+
+    fn has_word(self) -> bool {
+        !matches!(self, Self::Missing | Self::NoRoom | Self::NoWakes)
+    }
+
+    fn reason(self) -> &'static [u8] {
+        match self {
+            Self::Missing => b" is missing",
+            Self::NoNumber => b" is not a number: ",
+            Self::NoTime => b" is not a time such as 7ms or 7_000_000: ",
+            Self::OtherWord => b"unknown word ",
+            Self::NoSuchName => b"no such thread: ",
+            Self::NameTaken => b"there is already a thread ",
+            Self::NoName => b"a name has up to 15 bytes and is no number: ",
+            Self::TooMany => b"one word too many: ",
+            Self::NoRoom => b"no room for more than 32 threads",
+            Self::NoWakes => b"no room for more than 32 wakes",
+            Self::AboveLimit => b" is at most ",
+            Self::NoLetter => b" is one letter from A to Z",
+        }
+    }
+}
 
 // In a form's word, between the field's name and what is asked for.
-const COLON: u8 = 58;
+const COLON: u8 = b':';
 
-// The colon and a mark.
-const BEFORE_LIMIT: usize = 2;
-
-// What is wrong with a line; a wake, too, needs room.
-pub fn mistake(said: Statement, wakes: u64) -> u64 {
-    if said.cause != causes::NONE || said.number != statements::WAKE || wakes < MOST_THREADS {
-        return said.cause;
-    }
-    causes::NO_WAKES
+// The form's word by which a line goes no further.
+fn asked(said: &Statement) -> &'static [u8] {
+    let form = said.name.form();
+    let word = text::nth(form, SPACE, said.place);
+    &form[word.start..word.end]
 }
 
-pub fn is_refused(mistake: u64) -> bool {
-    causes::ABOVE_LIMIT <= mistake
-}
-
-fn reason(mistake: u64) {
-    listed(
-        b"%@",
-        b"| is missing| is not a number: | is not a time such as 7ms or 7_000_000: |unknown word |no such thread: \
-            |there is already a thread |a name has up to 15 bytes and is no number: |one word too many: \
-            |no room for more than 32 threads|no room for more than 32 wakes| is at most | is one letter from A to Z",
-        mistake,
-    );
-}
-
-// The limit of a form's word, what stands behind a colon and a mark; the greatest number where it has none.
-fn told_limit(word: &[u8], colon: usize) {
-    if word.len() < colon {
-        return;
-    }
-    if word.len() - colon <= BEFORE_LIMIT {
-        plain(b"18_446_744_073_709_551_615");
-        return;
-    }
-    let from = colon + BEFORE_LIMIT;
-    plain(&word[from..]);
-}
-
-// The field of a form's word, or its limit.
-fn told_part(word: &[u8], limit: bool) {
+// Its field.
+fn told_field(said: &Statement) {
+    let word = asked(said);
     let colon = text::end_of(word, 0, COLON);
-    if limit {
-        told_limit(word, colon);
-        return;
+    words(b"%@", &word[..colon]);
+}
+
+// Its limit, what stands behind a colon and a mark; the greatest number where it has none.
+fn told_limit(said: &Statement) {
+    let word = asked(said);
+    match &word[text::end_of(word, 0, COLON)..] {
+        [_, _, limit @ ..] if !limit.is_empty() => plain(limit),
+        _ => plain(b"18_446_744_073_709_551_615"),
     }
-    words(&word[0..colon]);
-}
-
-fn told_in_form(form: &[u8], place: usize, limit: bool) {
-    let word = text::nth(form, SPACE, place);
-    let start = word.start;
-    let end = word.end;
-    told_part(&form[start..end], limit);
-}
-
-// Of the form's word by which a line goes no further.
-fn told_of(forms: &[u8], said: Statement, limit: bool) {
-    let form = text::nth(forms, statements::NEW_LINE, said.number as usize);
-    let start = form.start;
-    let end = form.end;
-    told_in_form(&forms[start..end], said.place, limit);
 }
 
 // The first word of what is left of a line.
-fn word(line: &[u8], left: usize) {
-    if line.len() < left {
-        return;
+fn told_word(line: &[u8], left: usize) {
+    if left <= line.len() {
+        let word = text::word_after(line, line.len() - left, SPACE);
+        plain(&line[word.start..word.end]);
     }
-    let word = text::word_after(line, line.len() - left, SPACE);
-    let start = word.start;
-    let end = word.end;
-    plain(&line[start..end]);
 }
 
-fn told_refused(forms: &[u8], line: &[u8], said: Statement, mistake: u64) {
+fn told_refused(line: &[u8], said: &Statement, mistake: Mistake) {
     plain(line);
     plain(b": refused, ");
-    told_of(forms, said, false);
-    reason(mistake);
-    if mistake == causes::ABOVE_LIMIT {
-        told_of(forms, said, true);
+    told_field(said);
+    plain(mistake.reason());
+    if mistake == Mistake::AboveLimit {
+        told_limit(said);
     }
     plain(b"\n");
 }
 
 // Why a line is no statement.
-fn told_why(forms: &[u8], line: &[u8], said: Statement, mistake: u64) {
-    if mistake < causes::OTHER_WORD {
-        told_of(forms, said, false);
+fn told_why(line: &[u8], said: &Statement, mistake: Mistake) {
+    if mistake.has_field() {
+        told_field(said);
     }
-    reason(mistake);
-    if causes::MISSING < mistake && mistake < causes::NO_ROOM {
-        word(line, said.left);
+    plain(mistake.reason());
+    if mistake.has_word() {
+        told_word(line, said.left);
     }
 }
 
-// By the forms, of the line with a number.
-pub fn told(forms: &[u8], number: u64, line: &[u8], said: Statement, mistake: u64) {
-    put_one(b"line %a: ", number);
-    if is_refused(mistake) {
-        told_refused(forms, line, said, mistake);
-        return;
-    }
+fn told_other(line: &[u8], said: &Statement, mistake: Mistake) {
     plain(b"not understood: ");
     plain(line);
     plain(b" (");
-    told_why(forms, line, said, mistake);
+    told_why(line, said, mistake);
     plain(b")\n");
+}
+
+impl Run {
+    // What is wrong with a line; a wake, too, needs room.
+    pub fn mistake(&self, said: &Statement) -> Option<Mistake> {
+        if said.mistake.is_none() && said.name == Name::Wake && MOST <= self.noted {
+            return Some(Mistake::NoWakes);
+        }
+        said.mistake
+    }
+
+    // A line that cannot be performed, by the form by which it goes furthest.
+    pub fn mistaken(&mut self, line: &[u8], said: &Statement, mistake: Mistake) {
+        if self.tells() {
+            put_one(b"line %a: ", self.line);
+            if mistake.is_refused() {
+                told_refused(line, said, mistake);
+            } else {
+                told_other(line, said, mistake);
+            }
+        }
+        if mistake.is_refused() {
+            self.counts.refused = self.counts.refused.saturating_add(1);
+        } else {
+            self.counts.not_understood = self.counts.not_understood.saturating_add(1);
+        }
+    }
 }

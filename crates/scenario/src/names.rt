@@ -1,14 +1,11 @@
 // Names in a picture: whatever their bytes are, what is drawn is text of XML.
-use crate::printing::{SPACE, spaced};
-use crate::run::Names;
+use crate::printing::{SPACE, replace, spaced};
+use crate::run::Run;
 
 // As much of a name is drawn, with up to six bytes for each of its own.
 pub const DRAWN: usize = 200;
 
 const PAGE: usize = 1200;
-
-// What stands for a byte that is no text.
-const QUESTION: u8 = 63;
 
 const DELETE: u8 = 127;
 
@@ -26,56 +23,38 @@ const FIRST_OF_THREE: u8 = 225;
 
 const BEYOND_THREE: u8 = 237;
 
-// How many bytes of a letter are to come; NO_TEXT after a byte that has no place.
-const NO_TEXT: u64 = 3;
-
-fn after_first(byte: u8) -> u64 {
-    if SPACE <= byte && byte < DELETE {
-        return 0;
+// How many bytes of a letter are to come; none after a byte that has no place.
+fn after_first(byte: u8) -> Option<u64> {
+    match byte {
+        SPACE..DELETE => Some(0),
+        FIRST_OF_TWO..BEYOND_TWO => Some(1),
+        FIRST_OF_THREE..BEYOND_THREE => Some(2),
+        _ => None,
     }
-    if FIRST_OF_TWO <= byte && byte < BEYOND_TWO {
-        return 1;
-    }
-    if FIRST_OF_THREE <= byte && byte < BEYOND_THREE {
-        return 2;
-    }
-    NO_TEXT
 }
 
-fn after(to_come: u64, byte: u8) -> u64 {
-    if to_come == 0 {
-        return after_first(byte);
+fn after(to_come: u64, byte: u8) -> Option<u64> {
+    match byte {
+        _ if to_come == 0 => after_first(byte),
+        FOLLOWING..BEYOND_FOLLOWING => Some(to_come - 1),
+        _ => None,
     }
-    if to_come == NO_TEXT || byte < FOLLOWING || BEYOND_FOLLOWING <= byte {
-        return NO_TEXT;
-    }
-    to_come - 1
 }
 
 fn is_text(name: &[u8]) -> bool {
-    let mut to_come: u64 = 0;
-    let mut i: usize = 0;
-    while i < name.len() {
-        to_come = after(to_come, name[i]);
-        i += 1;
+    let mut to_come = 0;
+    for &byte in name {
+        match after(to_come, byte) {
+            Some(n) => to_come = n,
+            None => return false,
+        }
     }
     to_come == 0
 }
 
-// A byte by itself.
-fn plain_byte(byte: u8) -> u8 {
-    if byte < SPACE || DELETE <= byte {
-        return QUESTION;
-    }
-    byte
-}
-
-fn plain_bytes(name: &mut [u8]) {
-    let mut i: usize = 0;
-    while i < name.len() {
-        name[i] = plain_byte(name[i]);
-        i += 1;
-    }
+// What does not stand for itself is lost.
+fn make_plain(name: &mut [u8]) {
+    replace(name, |byte| byte < SPACE || DELETE <= byte, b'?');
 }
 
 fn escaped(name: &[u8]) {
@@ -84,44 +63,29 @@ fn escaped(name: &[u8]) {
     text::print_page(&out, n);
 }
 
-// A name that is no text loses what does not stand for itself.
-fn made_text(name: &mut [u8]) {
-    if is_text(name) {
-        return;
-    }
-    plain_bytes(name);
-}
-
+// A name that is no text is made plain.
 fn made_legible(name: &mut [u8]) {
-    made_text(name);
-    escaped(name);
-}
-
-// The first bytes.
-fn own_legible(own: &mut [u8], n: usize) {
-    if n <= own.len() {
-        made_legible(&mut own[0..n]);
+    if !is_text(name) {
+        make_plain(name);
     }
+    escaped(name);
 }
 
 // A name of up to DRAWN bytes.
 pub fn legible(name: &[u8]) {
     let mut own = [0u8; DRAWN];
     let n = text::fill(&mut own, 0, b"%@", &[0], name);
-    own_legible(&mut own, n);
-}
-
-// A part of a text.
-fn part(text: &[u8], start: usize, end: usize) {
-    if start <= end && end <= text.len() {
-        legible(&text[start..end]);
+    if let Some(drawn) = own.get_mut(..n) {
+        made_legible(drawn);
     }
 }
 
-// The name of a thread.
-pub fn name(given: Names, id: u64) {
-    let mut names = given;
-    let its = text::nth(&names, SPACE, id as usize);
-    spaced(&mut names);
-    part(&names, its.start, its.end);
+impl Run {
+    // The name of a thread.
+    pub fn legible_name(&self, id: u64) {
+        let mut names = self.names;
+        let its = text::nth(&names, SPACE, id as usize);
+        spaced(&mut names);
+        legible(&names[its.start..its.end]);
+    }
 }

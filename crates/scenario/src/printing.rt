@@ -1,16 +1,15 @@
-// What is printed: words of lists and names of threads. Templates are those of crate text.
-use crate::run::{LAST_NUMBER, Names, TEXT};
+// What is printed: words of lists and names of threads. Templates are those of crate text, which have columns, times
+// and grouped digits; names and lines are bytes that need be no text.
+use crate::run::Run;
 use text::print;
 
-const STDOUT: i32 = 1;
+pub const STDOUT: i32 = 1;
 
 // Between names.
-pub const SPACE: u8 = 32;
-
-const UNDERLINE: u8 = 95;
+pub const SPACE: u8 = b' ';
 
 // Between the words of a list.
-const BAR: u8 = 124;
+const BAR: u8 = b'|';
 
 // No words that are printed have as many bytes.
 const WORDS: usize = 64;
@@ -27,47 +26,25 @@ pub fn put_one(template: &[u8], value: u64) {
     print(template, &[value], b"");
 }
 
-// The same, in a text.
-pub fn say_one(output: u64, template: &[u8], value: u64) {
-    if output == TEXT {
-        put_one(template, value);
-    }
-}
-
 // Words alone.
 pub fn plain(words: &[u8]) {
     io::write_all(STDOUT, words);
 }
 
-// Words alone, in a text.
-pub fn tell(output: u64, words: &[u8]) {
-    if output == TEXT {
-        io::write_all(STDOUT, words);
+// Each byte of a kind becomes another.
+pub fn replace<F: Fn(u8) -> bool>(text: &mut [u8], is_of_kind: F, by: u8)
+    requires { F.IsAlwaysCallable is_of_kind }
+{
+    for byte in text.iter_mut() {
+        if is_of_kind(*byte) {
+            *byte = by;
+        }
     }
 }
 
 // An underline of a name stands for a space.
-fn spaced_byte(byte: u8) -> u8 {
-    if byte == UNDERLINE {
-        return SPACE;
-    }
-    byte
-}
-
 pub fn spaced(name: &mut [u8]) {
-    let mut i: usize = 0;
-    while i < name.len() {
-        name[i] = spaced_byte(name[i]);
-        i += 1;
-    }
-}
-
-// Words whose underlines stand for spaces.
-pub fn words(its: &[u8]) {
-    let mut out = [0u8; WORDS];
-    let n = text::fill(&mut out, 0, b"%@", &[0], its);
-    spaced(&mut out);
-    text::print_page(&out, n);
+    replace(name, |byte| byte == b'_', SPACE);
 }
 
 fn part(template: &[u8], list: &[u8], start: usize, end: usize) {
@@ -76,28 +53,24 @@ fn part(template: &[u8], list: &[u8], start: usize, end: usize) {
     }
 }
 
+// Words whose underlines stand for spaces, as a template's word.
+pub fn words(template: &[u8], its: &[u8]) {
+    let mut out = [0u8; WORDS];
+    let n = text::fill(&mut out, 0, b"%@", &[0], its);
+    spaced(&mut out);
+    part(template, &out, 0, n);
+}
+
 // What stands for the name of a thread that has none.
-fn numbered(id: u64, template: &[u8]) {
+fn numbered(template: &[u8], id: u64) {
     let mut out = [0u8; WORDS];
     let n = text::fill(&mut out, 0, b"#%a", &[id], b"");
     part(template, &out, 0, n);
 }
 
-// The name of a thread, by the names of so many; # and its number where it has none.
-pub fn named(given: Names, threads: u64, id: u64, template: &[u8]) {
-    if threads <= id {
-        numbered(id, template);
-        return;
-    }
-    let mut names = given;
-    let its = text::nth(&names, SPACE, id as usize);
-    spaced(&mut names);
-    part(template, &names, its.start, its.end);
-}
-
 // The n-th word of a list.
 pub fn listed(template: &[u8], list: &[u8], n: u64) {
-    let word = text::nth(list, BAR, time::min_of(n, BEYOND) as usize);
+    let word = text::nth(list, BAR, n.min(BEYOND) as usize);
     part(template, list, word.start, word.end);
 }
 
@@ -109,23 +82,21 @@ pub fn mode(n: u64, template: &[u8]) {
     );
 }
 
-// The name of a refusal; of one of the program itself its words. (The list has no names yet for the numbers that
-// document 02 gives later.)
-fn refused(number: u64) {
-    listed(
-        b": refused, %@",
-        b"made|Damaged|BadState|Already|NoThread|BadConfig|BadBudget|BackInTime|TurnsSpent|Halted|BadTable|BadRecord\
-            |RecordOrder|||||||||there is no idle thread: a line 'thread NAME idle' makes one\
-            |the table has no such record|the lift record has no such word",
-        number,
-    );
-}
-
-// A refusal, with the number that document 01 or 02 gives it.
-pub fn refusal(number: u64) {
-    refused(number);
-    if number <= LAST_NUMBER {
-        put_one(b" (%a)", number);
+impl Run {
+    // In a text, words alone.
+    pub fn tell(&self, words: &[u8]) {
+        if self.tells() {
+            plain(words);
+        }
     }
-    plain(b"\n");
+
+    // The name of a thread, # and its number where it has none.
+    pub fn told_name(&self, id: u64, template: &[u8]) {
+        if self.threads <= id {
+            numbered(template, id);
+            return;
+        }
+        let its = text::nth(&self.names, SPACE, id as usize);
+        words(template, &self.names[its.start..its.end]);
+    }
 }

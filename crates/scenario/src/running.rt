@@ -1,295 +1,248 @@
 // A run: the board's own cycle until a reading. Who wakes is enqueued; else it is chosen who runs, and that one runs to
 // its deadline, to the end of its work or to what comes next.
-use crate::drawing::{all_keep_waiting, bar, starts_waiting, stops_waiting};
-use crate::explaining::explain;
-use crate::printing::{mode, named, plain, put, put_one, refusal, say_one, tell};
-use crate::run::{NO_IDLE, NOBODY, Names, REFUSED, Run, TEXT, at, counted, with};
-use crate::{calls, lift};
-use board_words::ChoiceWords;
-use codec::Row;
-use lent_queue::QueueRows;
-use policy_words::DeadlineWords;
+use crate::printing::{mode, plain, put, put_one};
+use crate::refusals::Refusal;
+use crate::run::{Board, Choice, Run, Wake};
 use window_words::KeyWords;
 
 // A run of more wakes and stretches is stopped.
 const MOST_CYCLES: u64 = 4096;
 
-// The reading of the wake that comes next; after the last one the end.
-fn coming(x: Run) -> u64 {
-    if x.wakes <= x.woken {
-        return x.until;
-    }
-    let readings = x.wake_at;
-    time::min_of(at(readings, x.woken), x.until)
-}
-
-fn with_work(mut x: Run, id: u64, left: u64) -> Run {
-    let work = x.work;
-    let after = with(work, id, left);
-    x.work = after;
-    x
-}
-
-// A thread goes into the queue, and waits.
-fn entered(q: &mut QueueRows, t: &mut [Row], mut x: Run, id: u64, front: u64) -> Run {
-    x = calls::prepare(t, x, id, front, x.now);
-    x = calls::enqueue(q, t, x, id, front);
-    starts_waiting(x, id)
-}
-
-// The thread that comes next has work again.
-fn awake(mut x: Run, id: u64) -> Run {
-    let works = x.wake_work;
-    let work = at(works, x.woken);
-    x = with_work(x, id, work);
-    x.woken = text::saturating_add(x.woken, 1);
-    x
-}
-
-fn wake(q: &mut QueueRows, t: &mut [Row], mut x: Run) -> Run {
-    let who = x.wake_who;
-    let id = at(who, x.woken);
-    x = awake(x, id);
-    entered(q, t, x, id, 0)
-}
-
-// A selection beside the running thread, explained where that is asked for.
-fn selected(q: &mut QueueRows, t: &mut [Row], mut x: Run) -> Run {
-    x = calls::selected(q, t, x, x.current, x.running, x.now);
-    if x.number == 0 && x.explains != 0 {
-        say_one(x.output, b"at %A", x.now);
-        x = explain(q, t, x, x.now);
-    }
-    x
-}
-
-// By the switch rule; a turn that is spent ends.
-fn chosen(t: &mut [Row], mut x: Run) -> Run {
-    x = calls::keyed(t, x, x.current, x.running, x.now);
-    x = calls::expired(t, x, x.current);
-    x = calls::switch(x, 0, 0);
-    if x.expired != 0 {
-        x = calls::finish(t, x, x.current);
-    }
-    x
-}
-
-// Whether somebody takes over.
-fn is_switch(number: u64, choice: ChoiceWords) -> bool {
-    number == 0 && choice[calls::IS_THERE] != 0
-}
-
-// Nobody takes over; a thread that waits gives way to the idle one.
-fn stayed(mut x: Run) -> Run {
-    if x.number == 0 && x.running == 0 {
-        x.current = x.idle;
-        x.running = 1;
-    }
-    x
-}
-
-// Whoever gives way is enqueued again, unless its work is done or it is the idle thread.
-fn gave_way(q: &mut QueueRows, t: &mut [Row], mut x: Run) -> Run {
-    let choice = x.choice;
-    let front = choice[calls::TO_FRONT];
-    if x.running != 0 && x.current != x.idle {
-        x = entered(q, t, x, x.current, front);
-    }
-    x
-}
-
-// The chosen thread runs.
-fn begun(mut x: Run) -> Run {
-    let selected = x.selected;
-    let id = selected[board_words::SELECTED_ID];
-    if x.number == 0 {
-        x.current = id;
-        x.running = 1;
-        x = stops_waiting(x, id);
-    }
-    x
-}
-
-// As chosen; who runs leaves the queue.
-fn followed(q: &mut QueueRows, t: &mut [Row], mut x: Run) -> Run {
-    let choice = x.choice;
-    if is_switch(x.number, choice) {
-        x = gave_way(q, t, x);
-        x = begun(x);
-        x = calls::remove(q, t, x, x.current);
-    } else {
-        x = stayed(x);
-    }
-    x
-}
-
-// A deadline, if there is one, or what comes earlier.
-fn before(deadline: DeadlineWords, reading: u64) -> u64 {
-    if deadline[calls::IS_THERE] == 0 {
-        return reading;
-    }
-    time::min_of(deadline[calls::WHEN], reading)
-}
-
-// How far the running thread gets.
-fn reached(x: Run) -> u64 {
-    let work = x.work;
-    let deadline = x.deadline;
-    let done = text::saturating_add(x.now, at(work, x.current));
-    before(deadline, time::min_of(done, coming(x)))
-}
-
-// What the running thread has left; it waits from there on where that is nothing.
-fn worked(mut x: Run, length: u64) -> Run {
-    let id = x.current;
-    let work = x.work;
-    let left = time::saturating_sub(at(work, id), length);
-    x = with_work(x, id, left);
-    if left == 0 {
-        x.running = 0;
-    }
-    x
-}
-
 // By the words of its key, which templates name by their letters, from %a on.
-fn why(key: KeyWords) {
+fn why(key: &KeyWords) {
     if key[window_words::KEY_TAG] == 0 {
         plain(b"no key                -    -");
         return;
     }
     mode(key[window_words::KEY_MODE], b"%16@");
-    put(b"%7c%5d", &key);
+    put(b"%7c%5d", key);
 }
 
-fn until(length: u64, deadline: DeadlineWords) {
+fn until(length: u64, deadline: Option<u64>) {
     put_one(b"%15A", length);
-    if deadline[calls::IS_THERE] == 0 {
-        plain(b"           none\n");
-        return;
+    match deadline {
+        Some(reading) => put_one(b"%15A\n", reading),
+        None => plain(b"           none\n"),
     }
-    put(b"%15B\n", &deadline);
-}
-
-fn who(names: Names, threads: u64, id: u64, now: u64) {
-    put_one(b"%14A  ", now);
-    named(names, threads, id, b"%16@");
-}
-
-// A line: who runs from when, why, for how long, and until which deadline at the latest.
-fn told(x: Run, length: u64) {
-    let names = x.names;
-    let key = x.key;
-    let deadline = x.deadline;
-    who(names, x.threads, x.current, x.now);
-    why(key);
-    until(length, deadline);
-}
-
-// The mode under which the running thread is charged: that of its key, or the last one.
-fn charged_mode(key: KeyWords, last: u64) -> u64 {
-    if key[window_words::KEY_TAG] == 0 {
-        return last;
-    }
-    key[window_words::KEY_MODE]
-}
-
-// A stretch up to a reading is printed or drawn.
-fn shown(mut x: Run, end: u64) -> Run {
-    let length = time::saturating_sub(end, x.now);
-    if x.output == TEXT {
-        told(x, length);
-    }
-    x = bar(x, end);
-    worked(x, length)
-}
-
-// A stretch; then its time is charged.
-fn stretch(t: &mut [Row], mut x: Run) -> Run {
-    if x.number == 0 {
-        let start = x.now;
-        let end = reached(x);
-        let key = x.key;
-        x = shown(x, end);
-        x.mode = charged_mode(key, x.mode);
-        x.now = end;
-        x = calls::account(t, x, x.current, x.mode, start, end);
-    }
-    x
-}
-
-// It is chosen who runs.
-fn decided(q: &mut QueueRows, t: &mut [Row], mut x: Run) -> Run {
-    x = selected(q, t, x);
-    x = chosen(t, x);
-    followed(q, t, x)
-}
-
-// A wake or a stretch.
-fn cycle(q: &mut QueueRows, t: &mut [Row], mut x: Run) -> Run {
-    if coming(x) <= x.now {
-        x = wake(q, t, x);
-    } else {
-        x = decided(q, t, x);
-        x = calls::armed(q, t, x, x.current, x.running, x.now);
-        x = stretch(t, x);
-    }
-    x
-}
-
-fn cycles(q: &mut QueueRows, t: &mut [Row], list: &mut [u64], mut x: Run) -> Run {
-    let mut left: u64 = MOST_CYCLES;
-    while 0 < left {
-        if x.number != 0 || x.until <= x.now {
-            return x;
-        }
-        let start = x.now;
-        let woken = x.woken;
-        x = cycle(q, t, x);
-        x = lift::kept(list, x, start, woken);
-        left -= 1;
-    }
-    x
 }
 
 // The line is named again, with why it is not at its end.
-fn told_end(line: u64, number: u64) {
+fn told_end(line: u64, ended: Result<(), Refusal>) {
     put_one(b"line %a", line);
-    if number == 0 {
-        plain(b": stopped\n");
-    } else {
-        refusal(number);
+    match ended {
+        Ok(()) => plain(b": stopped\n"),
+        Err(refusal) => refusal.told(),
     }
 }
 
-// A refusal ends a run, and is counted; so does its length. After this the line has its end.
-fn closed(mut x: Run) -> Run {
-    if x.output == TEXT && (x.number != 0 || x.now < x.until) {
-        told_end(x.line, x.number);
+impl Run {
+    // The wake that comes next, if it is time.
+    fn due_wake(&self) -> Option<Wake> {
+        let wake = self.coming_wake()?;
+        if self.now < wake.reading {
+            return None;
+        }
+        Some(wake)
     }
-    if x.number != 0 {
-        x.number = 0;
-        x = counted(x, REFUSED);
+
+    // The reading of the wake that comes next; after the last one the end.
+    fn coming(&self) -> u64 {
+        match self.coming_wake() {
+            Some(wake) => wake.reading.min(self.until),
+            None => self.until,
+        }
     }
-    x
+
+    // Nobody takes over; a thread that waits gives way to the idle one.
+    fn stay(&mut self) {
+        if let Some(idle) = self.idle {
+            if !self.running {
+                self.current = idle;
+                self.running = true;
+            }
+        }
+    }
+
+    // The chosen thread runs.
+    fn begin(&mut self) {
+        self.current = self.selected[board_words::SELECTED_ID];
+        self.running = true;
+        self.stop_waiting(self.current);
+    }
+
+    // How far the running thread gets: to the end of its work, to what comes next or to its deadline.
+    fn reached(&self) -> u64 {
+        let done = self.now.saturating_add(self.work(self.current));
+        let end = done.min(self.coming());
+        match self.deadline {
+            Some(reading) => reading.min(end),
+            None => end,
+        }
+    }
+
+    // What the running thread has left; it waits from there on where that is nothing.
+    fn worked(&mut self, length: u64) {
+        let left = self.work(self.current).saturating_sub(length);
+        self.set_work(self.current, left);
+        if left == 0 {
+            self.running = false;
+        }
+    }
+
+    // A line: who runs from when, why, for how long, and until which deadline at the latest.
+    fn told_stretch(&self, length: u64) {
+        if self.tells() {
+            put_one(b"%14A  ", self.now);
+            self.told_name(self.current, b"%16@");
+            why(&self.key);
+            until(length, self.deadline);
+        }
+    }
+
+    // The mode under which the running thread is charged: that of its key, or the last one.
+    fn charged_mode(&self) -> u64 {
+        if self.key[window_words::KEY_TAG] == 0 {
+            return self.mode;
+        }
+        self.key[window_words::KEY_MODE]
+    }
+
+    // A stretch up to a reading is printed or drawn, and done.
+    fn pass(&mut self, end: u64) {
+        let length = end.saturating_sub(self.now);
+        self.told_stretch(length);
+        self.bar(end);
+        self.worked(length);
+        self.mode = self.charged_mode();
+        self.now = end;
+    }
+
+    // A refusal ends a run, and is counted; so does its length. After this the line has its end.
+    fn close(&mut self, ended: Result<(), Refusal>) {
+        if self.tells() && (ended.is_err() || self.now < self.until) {
+            told_end(self.line, ended);
+        }
+        if ended.is_err() {
+            self.counts.refused = self.counts.refused.saturating_add(1);
+        }
+    }
 }
 
-fn heading(output: u64) {
-    tell(
-        output,
-        b":\n       reading  thread          why             urgency rank            for       deadline\n",
-    );
-}
-
-// Without an idle thread there is nobody to run first.
-pub fn run(q: &mut QueueRows, t: &mut [Row], list: &mut [u64], mut x: Run, until: u64) -> Run {
-    if x.idle == NOBODY {
-        x.number = NO_IDLE;
-    } else {
-        x.until = until;
-        heading(x.output);
-        x = cycles(q, t, list, x);
-        x = closed(x);
-        x = all_keep_waiting(x);
+impl Board<'_> {
+    // A thread goes into the queue, and waits.
+    fn enter(&mut self, id: u64, front: bool) -> Result<(), Refusal> {
+        self.prepare(id, front, self.run.now)?;
+        if front {
+            self.enqueue_front(id)?;
+        } else {
+            self.enqueue(id)?;
+        }
+        self.run.start_waiting(id);
+        Ok(())
     }
-    x
+
+    // The thread that wakes has work again.
+    fn wake(&mut self, wake: Wake) -> Result<(), Refusal> {
+        self.run.woken = self.run.woken.saturating_add(1);
+        self.run.set_work(wake.thread, wake.work);
+        self.enter(wake.thread, false)
+    }
+
+    // A selection beside the running thread, explained where that is asked for.
+    fn choose(&mut self) -> Result<(), Refusal> {
+        self.selected(self.run.current, self.run.running, self.run.now)?;
+        if !self.run.explains {
+            return Ok(());
+        }
+        if self.run.tells() {
+            put_one(b"at %A", self.run.now);
+        }
+        self.explain(self.run.now)
+    }
+
+    // By the switch rule; a turn that is spent ends.
+    fn compare(&mut self) -> Result<(), Refusal> {
+        self.keyed(self.run.current, self.run.running, self.run.now)?;
+        self.expired(self.run.current)?;
+        self.run.switch(false, false)?;
+        if self.run.expired {
+            self.finish(self.run.current)?;
+        }
+        Ok(())
+    }
+
+    // Whoever gives way is enqueued again, unless its work is done or it is the idle thread.
+    fn give_way(&mut self, front: bool) -> Result<(), Refusal> {
+        let id = self.run.current;
+        if self.run.running && !self.run.is_idle(id) {
+            self.enter(id, front)?;
+        }
+        self.run.begin();
+        self.remove(self.run.current)
+    }
+
+    // As chosen; who runs leaves the queue.
+    fn follow(&mut self) -> Result<(), Refusal> {
+        match self.run.choice {
+            Choice::Stay => {
+                self.run.stay();
+                Ok(())
+            }
+            Choice::ToBack => self.give_way(false),
+            Choice::ToFront => self.give_way(true),
+        }
+    }
+
+    // It is chosen who runs, and until when at the latest.
+    fn decide(&mut self) -> Result<(), Refusal> {
+        self.choose()?;
+        self.compare()?;
+        self.follow()?;
+        self.armed(self.run.current, self.run.running, self.run.now)
+    }
+
+    // A stretch; then its time is charged, and it is kept as a run of the lift record.
+    fn stretch(&mut self) -> Result<(), Refusal> {
+        let start = self.run.now;
+        let end = self.run.reached();
+        self.run.pass(end);
+        self.account(self.run.current, self.run.mode, start, end)?;
+        self.run.keep(self.list, start)
+    }
+
+    // A wake or a stretch.
+    fn cycle(&mut self) -> Result<(), Refusal> {
+        match self.run.due_wake() {
+            Some(wake) => self.wake(wake),
+            None => {
+                self.decide()?;
+                self.stretch()
+            }
+        }
+    }
+
+    fn cycles(&mut self) -> Result<(), Refusal> {
+        for _ in 0..MOST_CYCLES {
+            if self.run.until <= self.run.now {
+                return Ok(());
+            }
+            self.cycle()?;
+        }
+        Ok(())
+    }
+
+    // Without an idle thread there is nobody to run first.
+    pub fn run_until(&mut self, until: u64) -> Result<(), Refusal> {
+        if self.run.idle.is_none() {
+            return Err(Refusal::NoIdle);
+        }
+        self.run.until = until;
+        self.run.tell(
+            b":\n       reading  thread          why             urgency rank            for       deadline\n",
+        );
+        let ended = self.cycles();
+        self.run.close(ended);
+        self.run.all_keep_waiting();
+        Ok(())
+    }
 }

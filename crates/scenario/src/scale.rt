@@ -1,6 +1,5 @@
 // Where things stand in a picture. All is in tenths of a pixel, so that a long run that is enlarged has its detail.
-use crate::run::MOST_THREADS;
-use text::saturating_add;
+use crate::run::MOST;
 
 // The picture is so wide; time starts at LEFT, and the whole run is WIDTH.
 pub const SHEET: u64 = 10_000;
@@ -30,13 +29,13 @@ pub fn across(span: u64, reading: u64) -> u64 {
     if parts == 0 {
         return LEFT;
     }
-    let part = time::min_of(reading, span) / unit % BEYOND_PARTS;
-    saturating_add(LEFT, part * WIDTH / parts)
+    let part = reading.min(span) / unit % BEYOND_PARTS;
+    LEFT.saturating_add(part * WIDTH / parts)
 }
 
 // Where a lane is, or what is below the last.
 pub fn down(lane: u64) -> u64 {
-    LANES_TOP + LANE * (lane % (MOST_THREADS + 1))
+    LANES_TOP + LANE * (lane % (MOST as u64 + 1))
 }
 
 // The end of the period that holds a reading; the last reading where it does not fit.
@@ -44,5 +43,5 @@ pub fn period_end(period: u64, reading: u64) -> u64 {
     if period == 0 {
         return reading;
     }
-    saturating_add(time::saturating_sub(reading, reading % period), period)
+    (reading - reading % period).saturating_add(period)
 }

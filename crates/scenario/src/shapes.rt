@@ -4,9 +4,7 @@ use text::print_page;
 
 pub type Place = [u64; 4];
 
-// Hooks by their letters, and what stands for none.
-pub const NO_HOOK: u64 = 0;
-
+// Hooks by their letters.
 pub const FIRST_LETTER: u64 = 65;
 
 pub const LETTERS: u64 = 26;
@@ -26,10 +24,17 @@ const LETTER: u64 = 70;
 
 pub const UNIT_WIDTH: u64 = 4 * LETTER;
 
-pub fn rectangle(place: Place, paint: &[u8]) {
-    let mut out = [0u8; PAGE];
-    let n = text::rectangle(&mut out, 0, &place, paint);
+// A page with a shape on it.
+fn page<F: FnOnce(&mut [u8]) -> usize>(shape: F)
+    requires { F.IsAlwaysCallable shape }
+{
+    let mut out = [0; PAGE];
+    let n = shape(&mut out);
     print_page(&out, n);
+}
+
+pub fn rectangle(place: Place, paint: &[u8]) {
+    page(|out| text::rectangle(out, 0, &place, paint));
 }
 
 // A protected window.
@@ -38,16 +43,15 @@ pub fn shade(place: Place) {
 }
 
 // The number of a hook's colour: 0 for none, and the ninth has that of the first again.
-fn colour(letter: u64) -> u64 {
-    let above = time::saturating_sub(letter, FIRST_LETTER);
-    if letter < FIRST_LETTER || LETTERS <= above {
-        return 0;
+fn colour(hook: Option<u64>) -> u64 {
+    match hook {
+        Some(letter) => letter.saturating_sub(FIRST_LETTER) % COLOURS + 1,
+        None => 0,
     }
-    above % COLOURS + 1
 }
 
 // A rectangle with a hook's colour in its paint.
-fn painted(place: Place, paint: &[u8], hook: u64) {
+fn painted(place: Place, paint: &[u8], hook: Option<u64>) {
     put(b"<rect x='%a' y='%b' width='%c' height='%d' ", &place);
     listed(
         paint,
@@ -57,40 +61,34 @@ fn painted(place: Place, paint: &[u8], hook: u64) {
 }
 
 // A bar for a stretch, by the letter of its hook.
-pub fn bar(place: Place, hook: u64) {
+pub fn bar(place: Place, hook: Option<u64>) {
     painted(place, b"fill='%@'/>\n", hook);
 }
 
 // A thin bar for a wait, lighter.
-pub fn thin_bar(place: Place, hook: u64) {
+pub fn thin_bar(place: Place, hook: Option<u64>) {
     painted(place, b"fill='%@' fill-opacity='0.5'/>\n", hook);
 }
 
 // Words from a place on.
 pub fn label(left: u64, y: u64, words: &[u8]) {
-    let mut out = [0u8; PAGE];
-    let n = text::label(&mut out, 0, &[left, y], words);
-    print_page(&out, n);
+    page(|out| text::label(out, 0, &[left, y], words));
 }
 
 // A mark that points down to a place.
 pub fn mark(left: u64, y: u64) {
-    let mut out = [0u8; PAGE];
-    let n = text::mark(&mut out, 0, &[left, y]);
-    print_page(&out, n);
+    page(|out| text::mark(out, 0, &[left, y]));
 }
 
 // A dashed line from a height down to another.
 pub fn dashes(left: u64, top: u64, bottom: u64) {
-    let mut out = [0u8; PAGE];
-    let n = text::dashes(&mut out, 0, &[left, top, bottom]);
-    print_page(&out, n);
+    page(|out| text::dashes(out, 0, &[left, top, bottom]));
 }
 
 // A template with its values, and the first bytes of a page as its word.
 fn with_word(template: &[u8], values: &[u64], page: &[u8], n: usize) {
-    if n <= page.len() {
-        text::print(template, values, &page[0..n]);
+    if let Some(word) = page.get(..n) {
+        text::print(template, values, word);
     }
 }
 
@@ -105,5 +103,5 @@ pub fn in_milliseconds(template: &[u8], values: &[u64], reading: u64) {
 pub fn time_width(reading: u64) -> u64 {
     let mut digits = [0u8; DIGITS];
     let n = text::milliseconds(&mut digits, 0, reading);
-    LETTER * ((n as u64) % 32) + UNIT_WIDTH
+    LETTER * (n as u64 % DIGITS as u64) + UNIT_WIDTH
 }

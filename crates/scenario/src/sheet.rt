@@ -1,13 +1,11 @@
 // What a picture has before its run is drawn: the title, the lanes with their names, the time, and the legend.
 use crate::axis::{TIME_DOWN, axis};
 use crate::legend;
-use crate::names::{DRAWN, legible, name};
+use crate::names::{DRAWN, legible};
 use crate::printing::{plain, put};
-use crate::run::{Names, Run};
+use crate::run::Run;
 use crate::scale::{LEFT, RIGHT, SHEET, down};
 use crate::shapes::{label, rectangle};
-use text::saturating_add;
-use window_words::WindowWords;
 
 // The title: where it starts, how wide it may be, and a letter's height where there is room.
 const TITLE_LEFT: u64 = 120;
@@ -32,7 +30,7 @@ const TENTHS: u64 = 10;
 // The title, smaller where it is long.
 fn title_of(name: &[u8]) {
     let letters = name.len() as u64 % 256 + 1;
-    let size = time::min_of(TITLE_LETTER, TITLE_WIDTH / letters);
+    let size = TITLE_LETTER.min(TITLE_WIDTH / letters);
     put(b"<text x='%a' y='240' font-size='%b'>", &[TITLE_LEFT, size]);
     legible(name);
     plain(b"</text>\n");
@@ -40,18 +38,16 @@ fn title_of(name: &[u8]) {
 
 // Of a name that is longer than what is drawn, the end.
 fn title(name: &[u8]) {
-    if name.len() <= DRAWN {
-        title_of(name);
-        return;
+    match name.last_chunk::<DRAWN>() {
+        Some(end) => title_of(end),
+        None => title_of(name),
     }
-    let start = name.len() - DRAWN;
-    title_of(&name[start..]);
 }
 
 fn lane_line(y: u64) {
     put(
         b"<path d='M%a %b H%c' stroke='#d0d0d0'/>\n",
-        &[LEFT, saturating_add(y, LINE_DOWN), RIGHT],
+        &[LEFT, y.saturating_add(LINE_DOWN), RIGHT],
     );
 }
 
@@ -59,23 +55,21 @@ fn lane_line(y: u64) {
 fn name_place(y: u64) {
     put(
         b"<text x='%a' y='%b' text-anchor='end'>",
-        &[LEFT - NAME_GAP, saturating_add(y, NAME_DOWN)],
+        &[LEFT - NAME_GAP, y.saturating_add(NAME_DOWN)],
     );
 }
 
-fn lane(names: Names, id: u64) {
+fn lane(run: &Run, id: u64) {
     let y = down(id);
     lane_line(y);
     name_place(y);
-    name(names, id);
+    run.legible_name(id);
     plain(b"</text>\n");
 }
 
-fn lanes(names: Names, threads: u64) {
-    let mut left = threads;
-    while 0 < left {
-        left -= 1;
-        lane(names, left);
+fn lanes(run: &Run) {
+    for id in (0..run.threads).rev() {
+        lane(run, id);
     }
 }
 
@@ -100,25 +94,23 @@ fn paper(height: u64) {
 }
 
 // The time, or that there was none.
-fn timed(span: u64, window: WindowWords, bottom: u64) {
+fn timed(span: u64, period: u64, bottom: u64) {
     if span == 0 {
-        label(LEFT, saturating_add(bottom, TIME_DOWN), b"no run");
+        label(LEFT, bottom.saturating_add(TIME_DOWN), b"no run");
         return;
     }
-    axis(span, bottom, window[window_words::WINDOW_PERIOD]);
+    axis(span, bottom, period);
 }
 
-pub fn sheet(x: Run, name: &[u8]) {
-    let bottom = down(x.lanes);
-    let below = saturating_add(bottom, LEGEND_DOWN);
-    let hooks = x.hooks;
-    let names = x.names;
-    let window = x.window;
-    paper(saturating_add(below, legend::height(hooks)));
+// By a run that was not drawn yet.
+pub fn sheet(run: &Run, name: &[u8]) {
+    let bottom = down(run.threads);
+    let below = bottom.saturating_add(LEGEND_DOWN);
+    paper(below.saturating_add(legend::height(&run.each)));
     title(name);
-    timed(x.span, window, bottom);
-    lanes(names, x.threads);
-    legend::legend(hooks, below);
+    timed(run.now, run.window[window_words::WINDOW_PERIOD], bottom);
+    lanes(run);
+    legend::legend(&run.each, below);
 }
 
 pub fn end() {

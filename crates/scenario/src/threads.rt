@@ -1,10 +1,11 @@
 // New threads: their rows, names and hooks.
 use crate::printing::SPACE;
-use crate::run::{Run, with};
-use crate::statements;
-use crate::statements::Values;
+use crate::refusals::{Refusal, made};
+use crate::run::{Board, Run};
+use crate::statements::{Name, Statement, Values};
 use codec::Row;
 
+// The policies' numbers in a row.
 const FIFO: u64 = 0;
 
 const FAIR: u64 = 1;
@@ -17,11 +18,9 @@ const MIDDLE_BAND: u64 = 128;
 
 const USUAL_WEIGHT: u64 = 16;
 
-const ENDLESS: u64 = 18_446_744_073_709_551_615;
-
 // A thread of processor 0 that stands in no queue and had no turn yet.
 fn fresh(policy: u64, role: u64) -> Row {
-    let mut row = [0u64; policy_words::ROW_WORDS];
+    let mut row = [0; policy_words::ROW_WORDS];
     row[policy_words::POLICY_TAG] = policy;
     row[policy_words::RUNTIME_TAG] = policy;
     row[policy_words::BAND] = MIDDLE_BAND;
@@ -60,94 +59,86 @@ fn budget(budget: u64, period: u64, burst: u64, role: u64) -> Row {
 }
 
 // By the words of the statement's form.
-fn row(statement: u64, a: Values) -> Row {
-    match statement {
-        statements::FIFO => fifo(a[3], a[4]),
-        statements::FAIR => fair(a[3], a[4], a[5], a[6]),
-        statements::BUDGET => budget(a[3], a[4], a[5], a[6]),
+fn row(name: Name, values: &Values) -> Row {
+    let [_, _, _, a, b, c, d, ..] = *values;
+    match name {
+        Name::Fifo => fifo(a, b),
+        Name::Fair => fair(a, b, c, d),
+        Name::Budget => budget(a, b, c, d),
         _ => fresh(IDLE, 0),
     }
 }
 
-// The letter is the form's last word.
-fn hook(statement: u64, a: Values) -> u64 {
-    match statement {
-        statements::FIFO => a[7],
-        statements::FAIR | statements::BUDGET => a[9],
-        _ => a[5],
+// The letter is the form's last word; 0 where the line ends before it.
+fn hook(name: Name, values: &Values) -> Option<u64> {
+    let letter = match name {
+        Name::Fifo => values[7],
+        Name::Fair | Name::Budget => values[9],
+        _ => values[5],
+    };
+    match letter {
+        0 => None,
+        _ => Some(letter),
     }
 }
 
-// Document 01's number for a thread's parameters.
-fn judged(statement: u64, a: Values) -> u64 {
-    let mut made = [0u64; record_entries::BUDGET_WORDS];
-    if statement == statements::BUDGET {
-        return record_entries::budget_parameters_new(a[3], a[4], a[5], &mut made);
+// A thread's parameters.
+fn judged(name: Name, values: &Values) -> Result<(), Refusal> {
+    let [_, _, _, budget, period, burst, ..] = *values;
+    if name != Name::Budget {
+        return Ok(());
     }
-    0
+    let mut words = [0; record_entries::BUDGET_WORDS];
+    made(record_entries::budget_parameters_new(budget, period, burst, &mut words))
 }
 
-// It always works; a board starts with it.
-fn idle(mut x: Run, id: u64) -> Run {
-    let work = x.work;
-    let endless = with(work, id, ENDLESS);
-    x.work = endless;
-    x.idle = id;
-    x.current = id;
-    x.running = 1;
-    x
-}
-
-// The name goes behind the others.
-fn named(mut x: Run, word: &[u8]) -> Run {
-    let mut names = x.names;
-    let place = text::nth(&names, SPACE, x.threads as usize);
-    text::fill(&mut names, place.start, b"%@ ", &[0], word);
-    x.names = names;
-    x
-}
-
-// By the second word of its line.
-fn named_by(mut x: Run, line: &[u8]) -> Run {
-    let first = text::word_after(line, 0, SPACE);
-    let name = text::word_after(line, first.end, SPACE);
-    let start = name.start;
-    let end = name.end;
-    if end <= line.len() {
-        x = named(x, &line[start..end]);
+impl Run {
+    // It always works; a board starts with it.
+    fn idles(&mut self, id: u64) {
+        self.set_work(id, u64::MAX);
+        self.idle = Some(id);
+        self.current = id;
+        self.running = true;
     }
-    x
-}
 
-// With one thread more, and a record for it at least.
-fn grown(mut x: Run, id: u64, letter: u64) -> Run {
-    let count = text::saturating_add(id, 1);
-    let hooks = x.hooks;
-    let after = with(hooks, id, letter);
-    x.hooks = after;
-    x.threads = count;
-    x.records = time::max_of(x.records, count);
-    x
-}
-
-// Where the table has no room for it, it has no record.
-fn stored(t: &mut [Row], id: u64, row: Row) {
-    let i = id as usize;
-    if i < t.len() {
-        t[i] = row;
+    // The name goes behind the others.
+    fn name(&mut self, word: &[u8]) {
+        let place = text::nth(&self.names, SPACE, self.threads as usize);
+        text::fill(&mut self.names, place.start, b"%@ ", &[0], word);
     }
-}
 
-pub fn thread(t: &mut [Row], mut x: Run, line: &[u8], statement: u64, a: Values) -> Run {
-    let id = x.threads;
-    x.number = judged(statement, a);
-    if x.number == 0 {
-        stored(t, id, row(statement, a));
-        x = named_by(x, line);
-        x = grown(x, id, hook(statement, a));
-        if statement == statements::IDLE {
-            x = idle(x, id);
+    // By the second word of its line.
+    fn name_by(&mut self, line: &[u8]) {
+        let first = text::word_after(line, 0, SPACE);
+        let name = text::word_after(line, first.end, SPACE);
+        if name.end <= line.len() {
+            self.name(&line[name.start..name.end]);
         }
     }
-    x
+
+    // With one thread more, and a record for it at least.
+    fn grow(&mut self, id: u64, hook: Option<u64>) {
+        if let Some(thread) = self.each.get_mut(id as usize) {
+            thread.hook = hook;
+        }
+        self.threads = id.saturating_add(1);
+        self.records = self.records.max(self.threads);
+    }
+}
+
+impl Board<'_> {
+    // Where the table has no room for it, it has no record.
+    pub fn thread(&mut self, line: &[u8], said: &Statement) -> Result<(), Refusal> {
+        judged(said.name, &said.values)?;
+        let id = self.run.threads;
+        if let Some(place) = self.table.get_mut(id as usize) {
+            *place = row(said.name, &said.values);
+        }
+        self.run.name_by(line);
+        self.run.grow(id, hook(said.name, &said.values));
+        if said.name == Name::Idle {
+            self.run.idles(id);
+        }
+        Ok(())
+    }
 }

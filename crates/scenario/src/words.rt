@@ -1,51 +1,60 @@
 // Words that a scenario overwrites, to damage or to prepare. What was there is kept. (A statement's form has limits, so
 // that a place that does not exist is not come to.)
-use crate::run::{NO_RECORD, Run};
-use codec::Row;
-use lent_queue::{QUEUE_ROW_WORDS, QUEUE_ROWS, QueueRows};
+use crate::refusals::Refusal;
+use crate::run::{Board, Run};
+use std::mem;
 
-// The turn counters.
-const BOTH: u64 = 2;
+// What stood there, where there is such a place.
+fn overwritten(words: &mut [u64], k: u64, value: u64) -> Option<u64> {
+    let word = words.get_mut(k as usize)?;
+    Some(mem::replace(word, value))
+}
 
-pub fn set_queue(q: &mut QueueRows, mut x: Run, row: u64, k: u64, value: u64) -> Run {
-    let i = row as usize;
-    let j = k as usize;
-    if i < QUEUE_ROWS {
-        if j < QUEUE_ROW_WORDS {
-            x.former = q[i][j];
-            q[i][j] = value;
+impl Run {
+    fn keep_former(&mut self, former: Option<u64>) {
+        if let Some(word) = former {
+            self.former = word;
         }
     }
-    x
+
+    pub fn set_window_word(&mut self, k: u64, value: u64) {
+        let former = overwritten(&mut self.window, k, value);
+        self.keep_former(former);
+    }
+
+    // A turn counter, 0 the back one, 1 the front one.
+    pub fn set_turns_word(&mut self, k: u64, value: u64) {
+        let former = overwritten(&mut self.turns, k, value);
+        self.keep_former(former);
+    }
 }
 
-pub fn set_record(t: &mut [Row], mut x: Run, id: u64, k: u64, value: u64) -> Run {
-    let i = id as usize;
-    let j = k as usize;
-    if t.len() <= i {
-        x.number = NO_RECORD;
-        return x;
+impl Board<'_> {
+    pub fn set_queue_word(&mut self, row: u64, k: u64, value: u64) {
+        if let Some(words) = self.queue.get_mut(row as usize) {
+            let former = overwritten(words, k, value);
+            self.run.keep_former(former);
+        }
     }
-    if j < policy_words::ROW_WORDS {
-        x.former = t[i][j];
-        t[i][j] = value;
-    }
-    x
-}
 
-pub fn set_window(mut x: Run, k: u64, value: u64) -> Run {
-    let i = k as usize;
-    if i < window_words::WINDOW_WORDS {
-        x.former = x.window[i];
-        x.window[i] = value;
+    pub fn set_record_word(&mut self, id: u64, k: u64, value: u64) -> Result<(), Refusal> {
+        match self.table.get_mut(id as usize) {
+            Some(words) => {
+                let former = overwritten(words, k, value);
+                self.run.keep_former(former);
+                Ok(())
+            }
+            None => Err(Refusal::NoRecord),
+        }
     }
-    x
-}
 
-// A turn counter, 0 the back one, 1 the front one.
-pub fn set_turns(mut x: Run, k: u64, value: u64) -> Run {
-    let i = (k % BOTH) as usize;
-    x.former = x.turns[i];
-    x.turns[i] = value;
-    x
+    // Of the words that the list of the lift record has.
+    pub fn set_list_word(&mut self, k: u64, value: u64) -> Result<(), Refusal> {
+        if self.recorded().len() <= k as usize {
+            return Err(Refusal::NoWord);
+        }
+        let former = overwritten(self.list, k, value);
+        self.run.keep_former(former);
+        Ok(())
+    }
 }

@@ -1,13 +1,13 @@
 -- Laws by which the functions on heads meet the definitions: r is what the call gave, x what its contract says of it.
 use Prim.Native.Nat.{ℕ, zero, suc, ◌+◌, ◌-◌, ◌<◌, ◌≤◌, ◌%◌}
 use native.Mathlib.Omega.{arith}
-use Rattle.std.specs.Prelude.{◌≡◌, Bool, false, eqb, length, get_or, set, drop}
+use Rattle.std.specs.Prelude.{◌≡◌, Bool, false, eqb, length, get_or, set, drop, Option, Some, None, Result, Ok, Err}
 use Rattle.std.proofs.Math.Path.{refl, sym, ap}
 use Rattle.std.proofs.Common.{◌∙◌, take-suc-set}
 use Rattle.std.proofs.Math.Bool.{true}
 use mathlib.Core.List.{List, [], ◌∷◌, ◌++◌}
 use Rattle.std.proofs.Math.ListN.{take}
-use Rattle.refusal.specs.Answer.{Answer, value, refused, number_of, damaged}
+use Rattle.refusal.specs.Answer.{Answer, value, refused, number_of, damaged, by_number, or_damaged, damage}
 use Rattle.refusal.specs.declared.Refusal.{Refusal}
 use Rattle.refusal.specs.Cases.{choose, given, if_equal}
 use Rattle.arbitration.specs.declared.Candidate.{Candidate}
@@ -15,12 +15,7 @@ use Rattle.arbitration.specs.declared.CpuWindow.{CpuWindow}
 use Rattle.arbitration.specs.declared.Demand.{Demand}
 use Rattle.dispatch_keys.specs.declared.DispatchKey.{DispatchKey}
 use Rattle.arbitration.specs.declared.DispatchMode.{DispatchMode}
-use Rattle.arbitration.specs.declared.KeyOption.{KeyOption}
-use Rattle.arbitration.specs.declared.KeyOption.TheVariants as key
 use Rattle.thread.specs.declared.CpuIndex.{CpuIndex}
-use Rattle.thread.specs.declared.CpuOption.TheVariants as cpu
-use Rattle.thread.specs.declared.Link.{Link}
-use Rattle.thread.specs.declared.Link.TheVariants as link
 use Rattle.thread.specs.declared.QueueMembership.TheVariants as membership
 use Rattle.thread.specs.declared.ThreadRecord.{ThreadRecord}
 use Rattle.thread.specs.Membership.{on_link, on_membership, on_cpu, ready_cpu, is_ready_on}
@@ -30,14 +25,7 @@ use Rattle.rows.specs.Table.{Out, out, table}
 use Rattle.lists.specs.Lists.{on_answer, on_out}
 use Rattle.lists.specs.ListsLaws.{row_inside, row_outside}
 use Rattle.ready_index.specs.LoopLaws.{whole, setting_out, onward}
-use Rattle.queue.specs.declared.Verdict.{Verdict}
-use Rattle.queue.specs.declared.Verdict.TheVariants as verdict
-use Rattle.queue.specs.Answers.{verdict_answer}
 use Rattle.demands.specs.declared.Gathered.{Gathered}
-use Rattle.renewal.specs.declared.HeadRead.{HeadRead}
-use Rattle.renewal.specs.declared.HeadRead.TheVariants as head
-use Rattle.selection.specs.declared.ReadyOption.{ReadyOption}
-use Rattle.selection.specs.declared.ReadyOption.TheVariants as ready
 use Rattle.selection.specs.declared.ReadyThread.{ReadyThread}
 use Rattle.demands.specs.Demands.{candidate_of}
 use Rattle.renewal.specs.Renewal.{head_of, root_at}
@@ -45,43 +33,44 @@ use Rattle.renewal.specs.RootRows.{roots_of}
 use Rattle.selection.specs.Heads.{on_ready, on_key_option, comes_before, lesser_ready, ready_with}
 use Rattle.selection.specs.Steps.{head_refreshed, head_gathered}
 use Rattle.selection.specs.HeadNumbers.{same_byte, HeadNumbers, gather_numbers, takes_over, ready_by, least_number}
-use Rattle.renewal.specs.Answers.{head_answer}
 use Rattle.queue.specs.RunQueue.{tree_count, last_tree}
+use Rattle.refusal.specs.declared.Damaged.{Damaged}
 
 -- By the least so far.
-module _ {A : Type 0} {y : A} {x : ReadyOption} (a : A) (f : ReadyThread → A) where
-  pub no_ready : x ≡ ready.None → y ≡ a → y ≡ on_ready x a f
+module _ {A : Type 0} {y : A} {x : Option ReadyThread} (a : A) (f : ReadyThread → A) where
+  pub no_ready : x ≡ None → y ≡ a → y ≡ on_ready x a f
   unfolding on_ready
   no_ready m h = rw m h
 
-  pub some_ready : {r : ReadyThread} → x ≡ ready.Some r → y ≡ f r → y ≡ on_ready x a f
+  pub some_ready : {r : ReadyThread} → x ≡ Some r → y ≡ f r → y ≡ on_ready x a f
   unfolding on_ready
   some_ready m h = rw m h
 
 -- By a key.
-module _ {A : Type 0} {y : A} {r x : KeyOption} (a : A) (f : DispatchKey → DispatchMode → A) where
-  pub no_key : r ≡ x → r ≡ key.None → y ≡ a → y ≡ on_key_option x a f
-  unfolding on_key_option
-  no_key e m h = rw (sym e ∙ m) h
+module _ {A : Type 0} {y : A} {r x : Option (DispatchKey × DispatchMode)} (a : A) (f : DispatchKey → DispatchMode → A)
+  where
+    pub no_key : r ≡ x → r ≡ None → y ≡ a → y ≡ on_key_option x a f
+    unfolding on_key_option
+    no_key e m h = rw (sym e ∙ m) h
 
-  pub some_key : {k : DispatchKey} {mode : DispatchMode} → r ≡ x → r ≡ key.Some k mode → y ≡ f k mode
-      → y ≡ on_key_option x a f
-  unfolding on_key_option
-  some_key e m h = rw (sym e ∙ m) h
+    pub some_key : {k : DispatchKey} {mode : DispatchMode} → r ≡ x → r ≡ Some (k, mode) → y ≡ f k mode
+        → y ≡ on_key_option x a f
+    unfolding on_key_option
+    some_key e m h = rw (sym e ∙ m) h
 
 -- The lesser of two, by whether the second takes over.
-module _ (best : ReadyOption) (r : ReadyThread) where
-  lesser_by : lesser_ready best r ≡ choose (takes_over best r) (ready.Some r) best
+module _ (best : Option ReadyThread) (r : ReadyThread) where
+  lesser_by : lesser_ready best r ≡ choose (takes_over best r) (Some r) best
   unfolding lesser_ready takes_over on_ready choose
   lesser_by = go best
     where
-      go : (best : ReadyOption)
-          → on_ready best (ready.Some r) (λ old. choose (comes_before r old) (ready.Some r) (ready.Some old))
-          ≡ choose (on_ready best true (λ old. comes_before r old)) (ready.Some r) best
-      go ready.None = refl
-      go (ready.Some old) = refl
+      go : (best : Option ReadyThread)
+          → on_ready best (Some r) (λ old. choose (comes_before r old) (Some r) (Some old))
+          ≡ choose (on_ready best true (λ old. comes_before r old)) (Some r) best
+      go None = refl
+      go (Some old) = refl
 
-  pub taken_over : {x : Bool} → x ≡ takes_over best r → x ≡ true → ready.Some r ≡ lesser_ready best r
+  pub taken_over : {x : Bool} → x ≡ takes_over best r → x ≡ true → Some r ≡ lesser_ready best r
   unfolding choose
   taken_over e m = rw (lesser_by, sym e, m)
 
@@ -90,8 +79,8 @@ module _ (best : ReadyOption) (r : ReadyThread) where
   kept_on e m = rw (lesser_by, sym e, m)
 
 -- The least so far with the record of a row.
-module _ {y : ReadyOption} (rows : List (List ℕ)) (i : ℕ) (w : CpuWindow) (now : ℕ) (d : Demand)
-    (best : ReadyOption) where
+module _ {y : Option ReadyThread} (rows : List (List ℕ)) (i : ℕ) (w : CpuWindow) (now : ℕ) (d : Demand)
+    (best : Option ReadyThread) where
   pub ready_inside : {c : Candidate} → i < length rows → c ≡ candidate_of (decoded (get_or rows i []))
       → y ≡ ready_by c i w now d best → y ≡ ready_with (table rows) i w now d best
   unfolding ready_with ready_by candidate_of given
@@ -125,7 +114,7 @@ ready_by_words w c e =
         (word w membership_second % 256))
         (choose d (membership.ReadyFair (record { 0 = word w membership_first % 256 }))
         (choose f (membership.Waiting (word w membership_first)) membership.Terminated))))
-        cpu.None (λ c p. cpu.Some c) (λ c. cpu.Some c) (λ q. cpu.None) cpu.None)
+        None (λ c p. Some c) (λ c. Some c) (λ q. None) None)
         false (λ d. choose (eqb d.0 c.0) true false)
         ≡ choose a false (choose b (choose (eqb (word w membership_first % 256) c.0) true false)
         (choose d (choose (eqb (word w membership_first % 256) c.0) true false) false))
@@ -158,36 +147,36 @@ module _ (t : List ThreadRecord) (rows : List (List ℕ)) (c : CpuIndex) (now : 
       let one : suc n - 1 ≡ n = omega arith in
       rw (place, one) refl
 
-  module _ {y : Out (Answer HeadNumbers)} {r : HeadRead} {root : Link} (n : ℕ) where
+  module _ {y : Out (Answer HeadNumbers)} {r : Result (Option ℕ) Damaged} {root : Option ℕ} (n : ℕ) where
     pub tree_damaged : (l : List ℕ) → 0 < n → root ≡ root_at (roots_of rows) (tree_count - n)
-        → head_answer r ≡ head_of t root → r ≡ head.Damaged → y ≡ out (refused damaged) t
+        → or_damaged r ≡ head_of t root → r ≡ (Err damage) → y ≡ out (refused damaged) t
         → y ≡ gather_numbers n t (roots_of rows) c now l g
-    unfolding on_answer
+    unfolding on_answer or_damaged
     tree_damaged l p o e m h = rw (gather_step l n p, sym o, sym e, m) h
 
     -- An empty tree is passed over.
-    pub tree_empty : {k : Link} (l : List ℕ) → 0 < n → root ≡ root_at (roots_of rows) (tree_count - n)
-        → head_answer r ≡ head_of t root → r ≡ head.Head k → k ≡ link.None
+    pub tree_empty : {k : Option ℕ} (l : List ℕ) → 0 < n → root ≡ root_at (roots_of rows) (tree_count - n)
+        → or_damaged r ≡ head_of t root → r ≡ Ok k → k ≡ None
         → y ≡ gather_numbers (n - 1) t (roots_of rows) c now l g → y ≡ gather_numbers n t (roots_of rows) c now l g
-    unfolding on_answer on_link
+    unfolding on_answer on_link or_damaged
     tree_empty l p o e m k h = rw (gather_step l n p, sym o, sym e, m, k) h
 
-    module _ {k : Link} {id : ℕ} {v : Verdict} {t₁ : List ThreadRecord} where
+    module _ {k : Option ℕ} {id : ℕ} {v : Result (Unit {0}) Refusal} {t₁ : List ThreadRecord} where
       pub tree_refused : {why : Refusal} (l : List ℕ) → 0 < n → root ≡ root_at (roots_of rows) (tree_count - n)
-          → head_answer r ≡ head_of t root → r ≡ head.Head k → k ≡ link.Some id
-          → out (verdict_answer v) t₁ ≡ head_refreshed t id c now → v ≡ verdict.Refused why
+          → or_damaged r ≡ head_of t root → r ≡ Ok k → k ≡ Some id
+          → out (by_number v) t₁ ≡ head_refreshed t id c now → v ≡ Err why
           → y ≡ out (refused (number_of why)) t₁ → y ≡ gather_numbers n t (roots_of rows) c now l g
-      unfolding on_answer on_link on_out
+      unfolding on_answer on_link on_out or_damaged
       tree_refused l p o e m k f u h = rw (gather_step l n p, sym o, sym e, m, k, sym f, u) h
 
       pub tree_found_lem : {more : Gathered} {heads₁ : List ℕ} (heads : List ℕ) (count : ℕ) → 0 < n
-          → root ≡ root_at (roots_of rows) (tree_count - n) → head_answer r ≡ head_of t root → r ≡ head.Head k
-          → k ≡ link.Some id
-          → out (verdict_answer v) t₁ ≡ head_refreshed t id c now → v ≡ verdict.Accepted → heads₁ ≡ set heads count id
+          → root ≡ root_at (roots_of rows) (tree_count - n) → or_damaged r ≡ head_of t root → r ≡ Ok k
+          → k ≡ Some id
+          → out (by_number v) t₁ ≡ head_refreshed t id c now → v ≡ (Ok tt) → heads₁ ≡ set heads count id
           → count + n ≤ tree_count → length heads ≡ tree_count → more ≡ head_gathered t₁ id g
           → y ≡ gather_numbers (n - 1) t₁ (roots_of rows) c now (take (count + 1) heads₁) more
           → y ≡ gather_numbers n t (roots_of rows) c now (take count heads) g
-      unfolding on_answer on_link on_out
+      unfolding on_answer on_link on_out or_damaged
       tree_found_lem {more} {heads₁} heads count p o e m k f u s b z w h =
           let held : take (count + 1) heads₁ ≡ take count heads ++ (id ∷ []) = ap (take (count + 1)) s
           ∙ one_more heads count id (omega arith) in
@@ -231,15 +220,15 @@ none_held (x ∷ l) (suc k) zero h = refl
 none_held (x ∷ l) (suc k) (suc count) h = none_held l k count (omega arith)
 
 module _ (t : List ThreadRecord) (heads : List ℕ) (count now : ℕ) (d : Demand) (w : CpuWindow)
-    (best : ReadyOption) where
-  module _ {y : ReadyOption} (k : ℕ) where
-    pub next_head : {next : ReadyOption} → k < count → count ≤ length heads
+    (best : Option ReadyThread) where
+  module _ {y : Option ReadyThread} (k : ℕ) where
+    pub next_head : {next : Option ReadyThread} → k < count → count ≤ length heads
         → next ≡ ready_with t (get_or heads k 0) w now d best
         → y ≡ least_number t (drop (k + 1) (take count heads)) now d w next
         → y ≡ least_number t (drop k (take count heads)) now d w best
     unfolding least_number
     next_head p b e h =
-        h ∙ ap (λ (x : ReadyOption). least_number t (drop (k + 1) (take count heads)) now d w x) e
+        h ∙ ap (λ (x : Option ReadyThread). least_number t (drop (k + 1) (take count heads)) now d w x) e
         ∙ sym (ap (λ (l : List ℕ). least_number t l now d w best) (next_held heads k count p b))
 
     pub heads_over : count ≤ k → y ≡ best → y ≡ least_number t (drop k (take count heads)) now d w best

@@ -1,6 +1,6 @@
 -- The heads as the code holds them: the numbers of those that were found, one after the other. The laws (HeadLaws,
 -- LookLaws) say that this is selection by `Heads`.
-use Rattle.std.specs.Prelude.{ℕ, zero, suc, ◌-◌, Bool, true, false, List, [], ◌∷◌, ◌++◌}
+use Rattle.std.specs.Prelude.{ℕ, zero, suc, ◌-◌, Bool, true, false, List, [], ◌∷◌, ◌++◌, Option, None}
 use Rattle.refusal.specs.Answer.{Answer, value, refused}
 use Rattle.refusal.specs.Cases.{given, if_equal}
 use Rattle.arbitration.specs.declared.Candidate.{Candidate}
@@ -14,10 +14,7 @@ use Rattle.thread.specs.Membership.{on_link}
 use Rattle.rows.specs.Table.{Out, out}
 use Rattle.lists.specs.Lists.{on_answer, on_out}
 use Rattle.queue.specs.declared.Root.{Root}
-use Rattle.demands.specs.declared.CandidateOption.{CandidateOption}
 use Rattle.demands.specs.declared.Gathered.{Gathered}
-use Rattle.selection.specs.declared.ReadyOption.{ReadyOption}
-use Rattle.selection.specs.declared.ReadyOption.TheVariants as ready
 use Rattle.selection.specs.declared.ReadyThread.{ReadyThread}
 use Rattle.demands.specs.Demands.{of_current}
 use Rattle.renewal.specs.Renewal.{head_of, root_at}
@@ -49,22 +46,23 @@ gather_numbers (suc left) t roots c now l g =
     (λ u. gather_numbers left t₁ roots c now (l ++ (id ∷ [])) (head_gathered t₁ id g))))))
 
 -- Whether a thread is chosen over the least so far.
-unfoldable pub takes_over : ReadyOption → ReadyThread → Bool
+unfoldable pub takes_over : Option ReadyThread → ReadyThread → Bool
 takes_over best r = on_ready best true (λ old. comes_before r old)
 
 -- The least so far with one more candidate, under a window that is refreshed to now.
-unfoldable pub ready_by : Candidate → ℕ → CpuWindow → ℕ → Demand → ReadyOption → ReadyOption
+unfoldable pub ready_by : Candidate → ℕ → CpuWindow → ℕ → Demand → Option ReadyThread → Option ReadyThread
 ready_by c id w now d best =
     on_key_option (key_of w now c d) best
     (λ k mode. lesser_ready best (record { id = record { 0 = id }; policy = c.parameters.policy; key = k }))
 
 -- The least key, under a window that is refreshed to now.
-unfoldable pub least_number : List ThreadRecord → List ℕ → ℕ → Demand → CpuWindow → ReadyOption → ReadyOption
+unfoldable pub least_number : List ThreadRecord → List ℕ → ℕ → Demand → CpuWindow → Option ReadyThread
+    → Option ReadyThread
 least_number t [] now d w best = best
 least_number t (id ∷ l) now d w best = least_number t l now d w (ready_with t id w now d best)
 
 -- The least key, and the window, which is refreshed at each head.
-unfoldable pub least_numbers : List ThreadRecord → List ℕ → ℕ → Demand → CpuWindow → ReadyOption → Chosen
+unfoldable pub least_numbers : List ThreadRecord → List ℕ → ℕ → Demand → CpuWindow → Option ReadyThread → Chosen
 least_numbers t [] now d w best = record { window = w; ready = best }
 least_numbers t (id ∷ l) now d w best =
     given (refreshed w now) (λ fresh. least_numbers t l now d fresh (ready_with t id fresh now d best))
@@ -72,12 +70,12 @@ least_numbers t (id ∷ l) now d w best =
 -- The selection among the heads that were found, and the window as they leave it.
 unfoldable pub chosen_number : List ThreadRecord → List ℕ → ℕ → CpuWindow → Gathered → Looked
 chosen_number t l now w g =
-    given (least_numbers t l now g.demand w ready.None)
+    given (least_numbers t l now g.demand w None)
     (λ least. looked (value (record { ready = least.ready; demand = g.demand; fair_min_pass = g.fair_min_pass }))
     least.window)
 
 -- `looked_at` by numbers.
-unfoldable pub looked_numbers : List ThreadRecord → List Root → CpuIndex → ℕ → CpuWindow → CandidateOption → Out Looked
+unfoldable pub looked_numbers : List ThreadRecord → List Root → CpuIndex → ℕ → CpuWindow → Option Candidate → Out Looked
 looked_numbers t roots c now w current =
     given (of_current current)
     (λ g. on_out (gather_numbers tree_count t roots c now [] g)

@@ -1,6 +1,6 @@
 -- Selection: on the parts of a queue that it touches, and on a queue. After `CpuRunQueue::peek_next`, with document
 -- 01's refusals in its order.
-use Rattle.std.specs.Prelude.{ℕ, ◌/◌, List, length}
+use Rattle.std.specs.Prelude.{ℕ, ◌/◌, List, length, Option, None}
 use Rattle.refusal.specs.Answer.{Answer, value, refused, bad_config, queue_halted, bad_table}
 use Rattle.refusal.specs.Cases.{choose, given, if_less}
 use Rattle.arbitration.specs.declared.CpuWindow.{CpuWindow}
@@ -11,14 +11,13 @@ use Rattle.rows.specs.Table.{Out, out}
 use Rattle.lists.specs.Lists.{on_answer, on_out}
 use Rattle.queue.specs.RunQueue.{CpuRunQueue, tree_count}
 use Rattle.queue.specs.Queue.{max_records}
-use Rattle.demands.specs.declared.CandidateOption.{CandidateOption}
-use Rattle.selection.specs.declared.ReadyOption.TheVariants as ready
 use Rattle.selection.specs.declared.Selection.{Selection}
 use Rattle.renewal.specs.Parts.{SelectionParts}
 use Rattle.renewal.specs.Leaves.{on_leaves}
 use Rattle.demands.specs.Demands.{of_current}
 use Rattle.renewal.specs.Renewal.{renew}
 use Rattle.selection.specs.Heads.{Heads, no_heads, gather_heads, least_of}
+use Rattle.arbitration.specs.declared.Candidate.{Candidate}
 
 -- An answer, the window, and the parts or the queue, as they are left; the table stands beside it (`Out`).
 pub data Peeked (B : Type 0) : Type 0 where
@@ -27,7 +26,7 @@ pub data Peeked (B : Type 0) : Type 0 where
 -- With the heads gathered: the least key. Where there is no head the window is not refreshed (SPECIFICATION 9.4).
 unfoldable pub chosen : List ThreadRecord → SelectionParts → ℕ → CpuWindow → Heads → Out (Peeked SelectionParts)
 chosen t p now w h =
-    given (least_of tree_count t h.heads now h.found.demand w ready.None)
+    given (least_of tree_count t h.heads now h.found.demand w None)
     (λ least. out (peeked (value (record {
       ready = least.ready;
       demand = h.found.demand;
@@ -36,7 +35,7 @@ chosen t p now w h =
 
 -- With a window that is sound and a queue that runs: the change of period, then the heads, then the least key.
 -- (SPECIFICATION 9.5).
-unfoldable pub peek_running : List ThreadRecord → SelectionParts → CpuIndex → ℕ → CpuWindow → CandidateOption
+unfoldable pub peek_running : List ThreadRecord → SelectionParts → CpuIndex → ℕ → CpuWindow → Option Candidate
     → Out (Peeked SelectionParts)
 peek_running t p c now w current =
     given (now / w.config.period_ns)
@@ -49,7 +48,7 @@ peek_running t p c now w current =
     (λ h. chosen t₂ p₁ now w h)))))
 
 -- BadTable, BadConfig and Halted, in that order, with nothing changed.
-unfoldable pub peek_parts : List ThreadRecord → SelectionParts → CpuIndex → ℕ → CpuWindow → CandidateOption
+unfoldable pub peek_parts : List ThreadRecord → SelectionParts → CpuIndex → ℕ → CpuWindow → Option Candidate
     → Out (Peeked SelectionParts)
 peek_parts t p c now w current =
     if_less max_records (length t) (out (peeked (refused bad_table) w p) t)
@@ -77,7 +76,7 @@ restored q (peeked a w p) = peeked a w (with_selection_parts q p)
 
 -- `peek_next`: the queued thread with the least dispatch key, or none; the demand; the lowest fair pass; window and
 -- queue as they are left (SPECIFICATION 9.1).
-unfoldable pub peek_next : List ThreadRecord → CpuRunQueue → CpuIndex → ℕ → CpuWindow → CandidateOption
+unfoldable pub peek_next : List ThreadRecord → CpuRunQueue → CpuIndex → ℕ → CpuWindow → Option Candidate
     → Out (Peeked CpuRunQueue)
 peek_next t q c now w current =
     on_out (peek_parts t (selection_parts q) c now w current) (λ x t₁. out (restored q x) t₁)

@@ -1,15 +1,12 @@
 -- A small table, a window and selections on it, by which the definitions are judged.
-use Rattle.std.specs.Prelude.{ℕ, suc, ◌+◌, true, false, List, [], ◌∷◌}
+use Rattle.std.specs.Prelude.{ℕ, suc, ◌+◌, true, false, List, [], ◌∷◌, Option, Some, None}
 use Rattle.refusal.specs.Answer.{Answer, value, refused}
-use Rattle.time.specs.declared.Epoch.{Epoch}
-use Rattle.time.specs.declared.Epoch.TheVariants as epoch
 use Rattle.policy.specs.declared.FairBackend.{FairBackend}
 use Rattle.policy.specs.declared.FairBackend.TheVariants as backend
 use Rattle.policy.specs.declared.SchedulingParameters.{SchedulingParameters}
 use Rattle.policy.specs.declared.SchedulingPolicy.TheVariants as policy
 use Rattle.policy.specs.declared.SchedulingRole.{SchedulingRole}
 use Rattle.policy.specs.declared.SchedulingRole.TheVariants as role
-use Rattle.policy.specs.declared.BudgetOption.TheVariants as budget
 use Rattle.policy.specs.Parameters.{default_weight, of_budget, of_fifo}
 use Rattle.algorithms.specs.declared.PolicyRuntime.{PolicyRuntime}
 use Rattle.algorithms.specs.declared.PolicyRuntime.TheVariants as runtime
@@ -20,13 +17,10 @@ use Rattle.thread.specs.Membership.{empty_links, empty_queue_links}
 use Rattle.rows.specs.Table.{Out, out}
 use Rattle.queue.specs.RunQueue.{CpuRunQueue, tree_count}
 use Rattle.queue.specs.Samples.{cpu, Left}
-use Rattle.demands.specs.declared.CandidateOption.{CandidateOption}
-use Rattle.demands.specs.declared.PassOption.{PassOption}
-use Rattle.demands.specs.declared.PassOption.TheVariants as pass
-use Rattle.selection.specs.declared.ReadyOption.{ReadyOption}
-use Rattle.selection.specs.declared.ReadyOption.TheVariants as ready
 use Rattle.selection.specs.declared.Selection.{Selection}
 use Rattle.selection.specs.Peek.{Peeked, peeked, peek_next}
+use Rattle.algorithms.specs.declared.Wide.{Wide}
+use Rattle.selection.specs.declared.ReadyThread.{ReadyThread}
 
 -- Document 01's window: period 10,000,000, allowance 2,000,000, floor 3,000,000, ranks 0 to 3.
 abbrev pub window : CpuWindow
@@ -39,7 +33,7 @@ window =
         order = record { priority_rank = 0; budget_rank = 1; fair_rank = 2; borrow_rank = 3 };
         prefer_fair = false;
       };
-      epoch = epoch.None;
+      epoch = None;
       priority_remaining_ns = 2000000;
       protected_remaining_ns = 3000000;
     }
@@ -49,7 +43,7 @@ abbrev pub spent_window : CpuWindow
 spent_window =
     record {
       config = window.config;
-      epoch = epoch.Some 0;
+      epoch = Some 0;
       priority_remaining_ns = 0;
       protected_remaining_ns = 3000000;
     }
@@ -66,7 +60,7 @@ bad_window =
             order = window.config.order;
             prefer_fair = false;
           };
-      epoch = epoch.None;
+      epoch = None;
       priority_remaining_ns = 0;
       protected_remaining_ns = 0;
     }
@@ -84,7 +78,7 @@ thread p r turn =
     }
 
 -- 2,000,000 in 10,000,000, with this epoch and so much left.
-abbrev pub budgeted : SchedulingRole → Epoch → ℕ → ℕ → ThreadRecord
+abbrev pub budgeted : SchedulingRole → Option ℕ → ℕ → ℕ → ThreadRecord
 budgeted r e left turn =
     thread (of_budget (record { budget_ns = 2000000; period_ns = 10000000; burst_ns = 2000000 })
     (record { 0 = 1 }) r)
@@ -99,7 +93,7 @@ fair_parameters b r =
       weight = default_weight;
       quantum_ns = 1000000;
       fair_backend = b;
-      budget = budget.None;
+      budget = None;
     }
 
 abbrev pub fair : FairBackend → SchedulingRole → ℕ → ℕ → ℕ → ThreadRecord
@@ -110,7 +104,7 @@ fair b r high low turn =
 -- Protected and empty in epoch 1; ordinary and empty in epoch 0; FIFO; three Fair threads of two backends.
 abbrev pub six : List ThreadRecord
 six =
-    budgeted role.Protected (epoch.Some 1) 0 7 ∷ budgeted role.Ordinary (epoch.Some 0) 0 8
+    budgeted role.Protected (Some 1) 0 7 ∷ budgeted role.Ordinary (Some 0) 0 8
     ∷ thread (of_fifo (record { 0 = 5 }) (record { 0 = 1 }) role.Ordinary) runtime.Fifo 9
     ∷ fair backend.Stride role.Ordinary 1 5 10 ∷ fair backend.Stride role.Priority 1 4 11
     ∷ fair backend.RoundRobin role.Protected 3 3 tree_count ∷ []
@@ -135,7 +129,7 @@ running_fair b high low =
     }
 
 -- The queue as if its last selection had been in this epoch.
-abbrev pub last_at : Epoch → CpuRunQueue → CpuRunQueue
+abbrev pub last_at : Option ℕ → CpuRunQueue → CpuRunQueue
 last_at e q = record {
   realtime = q.realtime;
   realtime_len = q.realtime_len;
@@ -147,7 +141,7 @@ last_at e q = record {
 }
 
 -- A selection on processor 0 after calls that left queue and table.
-abbrev pub selected : Left → ℕ → CandidateOption → Out (Peeked CpuRunQueue)
+abbrev pub selected : Left → ℕ → Option Candidate → Out (Peeked CpuRunQueue)
 selected l now current = peek_next l.table l.queue (cpu 0) now window current
 
 -- What it answers and leaves.
@@ -164,14 +158,14 @@ abbrev pub table_of : Out (Peeked CpuRunQueue) → List ThreadRecord
 table_of (out (peeked a w q) t) = t
 
 -- The thread's number and one, or 0 for none; a refusal's number and a hundred.
-abbrev pub named_by : ReadyOption → ℕ
-named_by ready.None = 0
-named_by (ready.Some r) = suc r.id.0
+abbrev pub named_by : Option ReadyThread → ℕ
+named_by None = 0
+named_by (Some r) = suc r.id.0
 
 abbrev pub named : Answer Selection → ℕ
 named (value s) = named_by s.ready
 named (refused n) = 100 + n
 
-abbrev pub lowest : Answer Selection → PassOption
+abbrev pub lowest : Answer Selection → Option Wide
 lowest (value s) = s.fair_min_pass
-lowest (refused n) = pass.None
+lowest (refused n) = None

@@ -1,6 +1,6 @@
 -- Parts of selection that have a function of their own; each is a part of a definition's text, or the definition goes
 -- by it (HeadLaws, PeekLaws).
-use Rattle.std.specs.Prelude.{ℕ, List}
+use Rattle.std.specs.Prelude.{ℕ, List, Option, None}
 use Rattle.refusal.specs.Answer.{Answer, value, refused, damaged}
 use Rattle.refusal.specs.Cases.{choose, given}
 use Rattle.arbitration.specs.declared.CpuWindow.{CpuWindow}
@@ -11,14 +11,13 @@ use Rattle.rows.specs.Table.{Out, out, record_at}
 use Rattle.rows.specs.TableCases.{on_record}
 use Rattle.lists.specs.Lists.{on_answer, on_out}
 use Rattle.queue.specs.declared.Root.{Root}
-use Rattle.demands.specs.declared.CandidateOption.{CandidateOption}
 use Rattle.demands.specs.declared.Gathered.{Gathered}
-use Rattle.selection.specs.declared.ReadyOption.TheVariants as ready
 use Rattle.selection.specs.declared.Selection.{Selection}
 use Rattle.demands.specs.Demands.{candidate_of, gathered, of_current}
 use Rattle.selection.specs.Heads.{no_heads, gather_heads, least_of}
 use Rattle.renewal.specs.Steps.{row_refreshed}
 use Rattle.queue.specs.RunQueue.{tree_count}
+use Rattle.arbitration.specs.declared.Candidate.{Candidate}
 
 -- A head: ready on its processor, then judged and refreshed.
 unfoldable pub head_refreshed : List ThreadRecord → ℕ → CpuIndex → ℕ → Out (Answer (Unit {0}))
@@ -35,13 +34,13 @@ pub data Looked : Type 0 where
   looked : Answer Selection → CpuWindow → Looked
 
 -- The heads and the least key among them, on the roots alone.
-unfoldable pub looked_at : List ThreadRecord → List Root → CpuIndex → ℕ → CpuWindow → CandidateOption → Out Looked
+unfoldable pub looked_at : List ThreadRecord → List Root → CpuIndex → ℕ → CpuWindow → Option Candidate → Out Looked
 looked_at t roots c now w current =
     given (of_current current)
     (λ g. on_out (gather_heads tree_count t roots c now no_heads g)
     (λ a t₁. on_answer a
     (λ n. out (looked (refused n) w) t₁)
-    (λ h. given (least_of tree_count t₁ h.heads now h.found.demand w ready.None)
+    (λ h. given (least_of tree_count t₁ h.heads now h.found.demand w None)
     (λ least. out (looked (value (record {
       ready = least.ready;
       demand = h.found.demand;

@@ -1,30 +1,29 @@
 // The heads of the twelve trees, refreshed, with what they ask for; and the least key among them. After the second and
 // third loop of `CpuRunQueue::peek_next`.
-ghost use Rattle.std.specs.Prelude.{◌<◌, ◌≤◌, ◌≡◌, length, take, set, []};
+ghost use Rattle.std.specs.Prelude.{◌<◌, ◌≤◌, ◌≡◌, length, take, set, [], None};
+ghost use Rattle.refusal.specs.Answer.{by_number};
 ghost use Rattle.thread.specs.Membership.{is_ready_on};
 ghost use Rattle.codec.specs.Codec.{decoded};
 ghost use Rattle.rows.specs.Table.{table, out};
 ghost use Rattle.rows.specs.Frame.{Framed};
-ghost use Rattle.queue.specs.Answers.{verdict_answer};
 ghost use Rattle.selection.specs.Heads as choice;
 ghost use Rattle.selection.specs.Steps as steps;
 ghost use Rattle.selection.specs.HeadNumbers as numbers;
 ghost use Rattle.renewal.specs.RootRows.{roots_of};
-ghost use Rattle.selection.specs.declared.ReadyOption.TheVariants as ready;
 ghost use Rattle.selection.specs.Answers.{found_answer};
 ghost use Rattle.queue.specs.RunQueue.{tree_count};
 
-use crate::{GatheredAnswer, Gathering, ReadyOption, ReadyThread};
-use arbitration::{Candidate, CpuWindow, Demand, KeyOption};
+use crate::{Gathering, ReadyThread};
+use arbitration::{Candidate, CpuWindow, Demand};
 use codec::{MEMBERSHIP_FIRST, MEMBERSHIP_TAG, Row, byte_from};
 use demands::{Gathered, candidate_of_row, gathered_row};
 use dispatch_keys::compare_keys;
 use lent_queue::QueueRow;
-use order::Ordering;
-use queue::{TREES, Verdict};
+use queue::TREES;
 use refusal::Refusal;
-use renewal::{HeadRead, head_of, refresh_row, root_at};
-use thread::{CpuIndex, Link, ThreadId};
+use renewal::{head_of, refresh_row, root_at};
+use std::cmp::Ordering;
+use thread::{CpuIndex, ThreadId};
 
 fn same_byte(a: u8, b: u8) -> bool
     ensures { result ≡ numbers.same_byte a b }
@@ -52,8 +51,8 @@ fn is_ready_row(w: Row, cpu: CpuIndex) -> bool
 }
 
 // A head: ready on this processor, then judged and refreshed.
-fn head_at(t: &mut [Row], id: u64, cpu: CpuIndex, reading: u64) -> Verdict
-    ensures t_after { out (verdict_answer result) (table t.new)
+fn head_at(t: &mut [Row], id: u64, cpu: CpuIndex, reading: u64) -> Result<(), Refusal>
+    ensures t_after { out (by_number result) (table t.new)
         ≡ steps.head_refreshed (table t.old) id cpu reading }
     ensures framed { Framed t.old t.new }
 {
@@ -61,11 +60,11 @@ fn head_at(t: &mut [Row], id: u64, cpu: CpuIndex, reading: u64) -> Verdict
     if k < t.len() {
         let row = t[k];
         if !is_ready_row(row, cpu) {
-            return Verdict::Refused(Refusal::Damaged);
+            return Err(Refusal::Damaged);
         }
         return refresh_row(t, id, row, reading);
     }
-    Verdict::Refused(Refusal::Damaged)
+    Err(Refusal::Damaged)
 }
 
 // What was found before, with one more head.
@@ -120,30 +119,30 @@ pub fn gather_heads(
         let k = TREES - left;
         left -= 1;
         let root = root_at(roots, k);
-        let HeadRead::Head(head) = head_of(t, root) else {
+        let Ok(head) = head_of(t, root) else {
             return Gathering {
-                answer: GatheredAnswer::Refused(Refusal::Damaged),
+                answer: Err(Refusal::Damaged),
                 count: 0,
             };
         };
-        let Link::Some(id) = head else {
+        let Some(id) = head else {
             continue;
         };
         match head_at(t, id, cpu, reading) {
-            Verdict::Accepted => {
+            Ok(()) => {
                 found = join_head(t, heads, count, id, found);
                 count += 1;
             }
-            Verdict::Refused(refusal) => {
+            Err(refusal) => {
                 return Gathering {
-                    answer: GatheredAnswer::Refused(refusal),
+                    answer: Err(refusal),
                     count: 0,
                 };
             }
         }
     }
     Gathering {
-        answer: GatheredAnswer::Found(found),
+        answer: Ok(found),
         count,
     }
 }
@@ -169,21 +168,21 @@ fn comes_before(thread: ReadyThread, old: ReadyThread) -> bool
 }
 
 // Whether a thread is chosen over the least so far.
-fn takes_over(best: ReadyOption, thread: ReadyThread) -> bool
+fn takes_over(best: Option<ReadyThread>, thread: ReadyThread) -> bool
     ensures { result ≡ numbers.takes_over best thread }
 {
     match best {
-        ReadyOption::None => true,
-        ReadyOption::Some(old) => comes_before(thread, old),
+        None => true,
+        Some(old) => comes_before(thread, old),
     }
 }
 
 // The lesser of the two.
-fn lesser_ready(best: ReadyOption, thread: ReadyThread) -> ReadyOption
+fn lesser_ready(best: Option<ReadyThread>, thread: ReadyThread) -> Option<ReadyThread>
     ensures { result ≡ choice.lesser_ready best thread }
 {
     if takes_over(best, thread) {
-        return ReadyOption::Some(thread);
+        return Some(thread);
     }
     best
 }
@@ -195,15 +194,15 @@ fn ready_by(
     window: CpuWindow,
     reading: u64,
     demand: Demand,
-    best: ReadyOption,
-) -> ReadyOption
+    best: Option<ReadyThread>,
+) -> Option<ReadyThread>
     ensures { result ≡ numbers.ready_by candidate id window reading demand best }
 {
     let parameters = candidate.parameters;
     let policy = parameters.policy;
     match window.key(reading, candidate, demand) {
-        KeyOption::None => best,
-        KeyOption::Some(key, _) => {
+        None => best,
+        Some((key, _)) => {
             let ready = ReadyThread {
                 id: ThreadId(id),
                 policy,
@@ -221,8 +220,8 @@ fn ready_with(
     window: CpuWindow,
     reading: u64,
     demand: Demand,
-    best: ReadyOption,
-) -> ReadyOption
+    best: Option<ReadyThread>,
+) -> Option<ReadyThread>
     ensures { result ≡ choice.ready_with (table t.now) id window reading demand best }
 {
     let k = id as usize;
@@ -242,12 +241,12 @@ pub fn least_of(
     reading: u64,
     demand: Demand,
     window: CpuWindow,
-) -> ReadyOption
+) -> Option<ReadyThread>
     requires { count ≤ length heads.now }
     ensures { result ≡ numbers.least_number (table t.now)
-        (take count heads.now) reading demand window ready.None }
+        (take count heads.now) reading demand window None }
 {
-    let mut best = ReadyOption::None;
+    let mut best = None;
     let mut k: usize = 0;
     while k < count {
         let id = heads[k];

@@ -5,8 +5,9 @@
 mod choosing;
 mod peeking;
 
+use algorithms::Wide;
 use arbitration::{CpuWindow, Demand};
-use demands::{Gathered, PassOption};
+use demands::Gathered;
 use dispatch_keys::DispatchKey;
 pub use peeking::peek_heads;
 use policy::SchedulingPolicy;
@@ -22,40 +23,22 @@ pub struct ReadyThread {
 }
 
 #[derive(Clone, Copy)]
-pub enum ReadyOption {
-    None,
-    Some(ReadyThread),
-}
-
-#[derive(Clone, Copy)]
 pub struct Selection {
-    pub ready: ReadyOption,
+    pub ready: Option<ReadyThread>,
     pub demand: Demand,
-    pub fair_min_pass: PassOption,
-}
-
-#[derive(Clone, Copy)]
-enum GatheredAnswer {
-    Found(Gathered),
-    Refused(Refusal),
+    pub fair_min_pass: Option<Wide>,
 }
 
 // What the heads ask for, and how many were found.
 #[derive(Clone, Copy)]
 struct Gathering {
-    answer: GatheredAnswer,
+    answer: Result<Gathered, Refusal>,
     count: usize,
-}
-
-#[derive(Clone, Copy)]
-pub enum PeekAnswer {
-    Selected(Selection),
-    Refused(Refusal),
 }
 
 // The answer, and the window as its heads leave it.
 #[derive(Clone, Copy)]
 pub struct WindowPeek {
-    pub answer: PeekAnswer,
+    pub answer: Result<Selection, Refusal>,
     pub window: CpuWindow,
 }

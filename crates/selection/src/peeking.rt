@@ -9,10 +9,10 @@ ghost use Rattle.renewal.specs.RootRows.{roots_of};
 ghost use Rattle.selection.specs.Answers.{looked_of};
 
 use crate::choosing::{gather_heads, least_of};
-use crate::{GatheredAnswer, PeekAnswer, ReadyOption, Selection, WindowPeek};
-use arbitration::CpuWindow;
+use crate::{Selection, WindowPeek};
+use arbitration::{Candidate, CpuWindow};
 use codec::Row;
-use demands::{CandidateOption, Gathered, of_current};
+use demands::{Gathered, of_current};
 use lent_queue::QueueRow;
 use queue::TREES;
 use thread::CpuIndex;
@@ -34,8 +34,8 @@ fn choose_head(
     let fair_min_pass = found.fair_min_pass;
     if count == 0 {
         return WindowPeek {
-            answer: PeekAnswer::Selected(Selection {
-                ready: ReadyOption::None,
+            answer: Ok(Selection {
+                ready: None,
                 demand,
                 fair_min_pass,
             }),
@@ -45,7 +45,7 @@ fn choose_head(
     let fresh = window.refreshed(reading);
     let ready = least_of(t, heads, count, reading, demand, fresh);
     WindowPeek {
-        answer: PeekAnswer::Selected(Selection {
+        answer: Ok(Selection {
             ready,
             demand,
             fair_min_pass,
@@ -61,7 +61,7 @@ pub fn peek_heads(
     cpu: CpuIndex,
     reading: u64,
     window: CpuWindow,
-    current: CandidateOption,
+    current: Option<Candidate>,
 ) -> WindowPeek
     ensures t_after { out (looked_of result) (table t.new) ≡ steps.looked_at (table t.old)
         (roots_of roots.now) cpu reading window current }
@@ -73,10 +73,10 @@ pub fn peek_heads(
     let count = gathering.count;
     let answer = gathering.answer;
     match answer {
-        GatheredAnswer::Refused(refusal) => WindowPeek {
-            answer: PeekAnswer::Refused(refusal),
+        Err(refusal) => WindowPeek {
+            answer: Err(refusal),
             window,
         },
-        GatheredAnswer::Found(found) => { choose_head(t, &heads, count, reading, found, window) }
+        Ok(found) => { choose_head(t, &heads, count, reading, found, window) }
     }
 }

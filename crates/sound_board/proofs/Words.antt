@@ -1,6 +1,6 @@
 -- Demand 3 over the words that a board lends: from `board_new`'s words on, whatever calls are made for one processor
 -- and whatever becomes of rows that are not queued.
-use Rattle.std.specs.Prelude.{ℕ, ◌≤◌, ◌<◌, ◌≡◌, refl, Bool, List, [], ◌∷◌, length, get_or}
+use Rattle.std.specs.Prelude.{ℕ, ◌≤◌, ◌<◌, ◌≡◌, refl, Bool, List, [], ◌∷◌, length, get_or, Ok}
 use Rattle.std.proofs.Common.{sym, ap, ◌∙◌, subst, arith, ne_eqb}
 use Rattle.std.proofs.lemmas.List.{length-map}
 use Rattle.std.proofs.Math.ListN.{get_or-map}
@@ -10,7 +10,6 @@ use Rattle.thread.specs.declared.ThreadRecord.{ThreadRecord}
 use Rattle.arbitration.specs.declared.CpuWindow.{CpuWindow}
 use Rattle.window_words.specs.WindowWords.{flag_from, window_of}
 use Rattle.codec.specs.Codec.{decoded}
-use Rattle.rows.specs.declared.RecordRead.TheVariants as read
 use Rattle.rows.specs.Table.{Out, out, table, record_of, record_at, max_records}
 use Rattle.rows.specs.TableLaws.{record_within}
 use Rattle.queue.specs.RunQueue.{CpuRunQueue}
@@ -94,7 +93,7 @@ row_kept : (s t : List (List ℕ)) (j : ℕ) → j < length s → j < length t �
 unfolding table record_of
 row_kept s t j l m e =
     record_within (table s) j (omega (arith, rows_length s))
-    ∙ ap (λ (r : ThreadRecord). read.Got r)
+    ∙ ap (λ (r : ThreadRecord). Ok r)
     (get_or-map decoded s j [] ∙ ap decoded e ∙ sym (get_or-map decoded t j []))
     ∙ sym (record_within (table t) j (omega (arith, rows_length t)))
 

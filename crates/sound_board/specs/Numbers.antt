@@ -1,13 +1,10 @@
 -- No refusal has the number 0: so 0 says that a call was accepted.
-use Rattle.std.specs.Prelude.{ℕ, Bool, ◌≢◌, List, ltb, eqb}
+use Rattle.std.specs.Prelude.{ℕ, Bool, ◌≢◌, List, ltb, eqb, Option, Some, None, Result, Ok, Err}
 use Rattle.std.proofs.Math.Bool.{true, false}
 use Rattle.std.proofs.Common.{arith}
 use Rattle.refusal.specs.Answer.{Answer, value, refused}
 use Rattle.refusal.specs.Cases.{choose, if_less, if_equal, given}
 use Rattle.thread.specs.declared.CpuIndex.{CpuIndex}
-use Rattle.thread.specs.declared.IndexFor.{IndexFor}
-use Rattle.thread.specs.declared.Link.{Link}
-use Rattle.thread.specs.declared.IndexFor.TheVariants as index
 use Rattle.thread.specs.declared.QueueMembership.{QueueMembership}
 use Rattle.thread.specs.declared.QueueMembership.TheVariants as membership
 use Rattle.thread.specs.declared.QueueLinks.{QueueLinks}
@@ -15,19 +12,11 @@ use Rattle.thread.specs.declared.ThreadQueue.{ThreadQueue}
 use Rattle.thread.specs.declared.ThreadRecord.{ThreadRecord}
 use Rattle.thread.specs.Filing.{on_index}
 use Rattle.thread.specs.Membership.{on_membership}
-use Rattle.rows.specs.declared.QueueLinksRead.{QueueLinksRead}
-use Rattle.rows.specs.declared.QueueLinksRead.TheVariants as queue_links_read
-use Rattle.rows.specs.declared.RecordRead.{RecordRead}
-use Rattle.rows.specs.declared.RecordRead.TheVariants as read
 use Rattle.rows.specs.Table.{Out, out, record_at, queue_links_at}
 use Rattle.rows.specs.TableCases.{on_record, on_queue_links}
 use Rattle.lists.specs.Checks.{preflight_insert}
 use Rattle.lists.specs.Lists.{on_answer, on_out, push, push_front, append, prepend, unlink}
 use Rattle.lists.specs.Lists as lists
-use Rattle.ready_index.specs.declared.Contained.{Contained}
-use Rattle.ready_index.specs.declared.Contained.TheVariants as contained
-use Rattle.ready_index.specs.declared.Rooted.{Rooted}
-use Rattle.ready_index.specs.declared.Rooted.TheVariants as rooted
 use Rattle.ready_index.specs.Cases.{on_rooted}
 use Rattle.ready_index.specs.Index as trees
 use Rattle.queue_work.specs.declared.Parts.{Parts}
@@ -37,6 +26,7 @@ use Rattle.queue.specs.RunQueue.{CpuRunQueue}
 use Rattle.queue.specs.Queue.{Step, step, worked, on_contained, tree_with, judged, enqueue_call, remove_ready}
 use Rattle.queue.specs.Queue.{remove_from}
 use Rattle.queue.specs.Queue.{remove_call}
+use Rattle.refusal.specs.declared.Damaged.{Damaged}
 
 -- Accepted, or refused with a number.
 abbrev pub Numbered : {A : Type 0} → Answer A → Type 0
@@ -69,28 +59,28 @@ module _ {A : Type 0} (P : A → Type 0) where
   unfolding if_equal
   if_equal_lem n m x y h k = by_test (eqb n m) x y h k
 
-  by_record : (r : RecordRead) (a : A) (f : ThreadRecord → A) → P a → ((x : ThreadRecord) → P (f x))
+  by_record : (r : Result ThreadRecord Damaged) (a : A) (f : ThreadRecord → A) → P a → ((x : ThreadRecord) → P (f x))
       → P (on_record r a f)
   unfolding on_record
-  by_record (read.Got x) a f h k = k x
-  by_record read.Damaged a f h k = h
+  by_record (Ok x) a f h k = k x
+  by_record (Err _) a f h k = h
 
-  by_links : (r : QueueLinksRead) (a : A) (f : QueueLinks → A) → P a → ((x : QueueLinks) → P (f x))
+  by_links : (r : Result QueueLinks Damaged) (a : A) (f : QueueLinks → A) → P a → ((x : QueueLinks) → P (f x))
       → P (on_queue_links r a f)
   unfolding on_queue_links
-  by_links (queue_links_read.Got x) a f h k = k x
-  by_links queue_links_read.Damaged a f h k = h
+  by_links (Ok x) a f h k = k x
+  by_links (Err _) a f h k = h
 
-  by_index : (i : IndexFor) (a : A) (f : ℕ → A) → P a → ((k : ℕ) → P (f k)) → P (on_index i a f)
+  by_index : (i : Option ℕ) (a : A) (f : ℕ → A) → P a → ((k : ℕ) → P (f k)) → P (on_index i a f)
   unfolding on_index
-  by_index index.None a f h k = h
-  by_index (index.Index n) a f h k = k n
+  by_index None a f h k = h
+  by_index (Some n) a f h k = k n
 
-  by_contained : (c : Contained) (x y z : A) → P x → P y → P z → P (on_contained c x y z)
+  by_contained : (c : Result Bool Damaged) (x y z : A) → P x → P y → P z → P (on_contained c x y z)
   unfolding on_contained
-  by_contained contained.Yes x y z h k l = h
-  by_contained contained.No x y z h k l = k
-  by_contained contained.Damaged x y z h k l = l
+  by_contained (Ok true) x y z h k l = h
+  by_contained (Ok false) x y z h k l = k
+  by_contained (Err _) x y z h k l = l
 
   by_answer : {B : Type 0} (a : Answer B) (g : ℕ → A) (f : B → A) → Numbered a → ((n : ℕ) → n ≢ 0 → P (g n))
       → ((b : B) → P (f b)) → P (on_answer a g f)
@@ -103,11 +93,11 @@ module _ {A : Type 0} (P : A → Type 0) where
   unfolding on_out
   by_out (out a t) f h k = k a t h
 
-  by_root : (o : Out Rooted) (g : List ThreadRecord → A) (f : Link → List ThreadRecord → A)
-      → ((t : List ThreadRecord) → P (g t)) → ((l : Link) (t : List ThreadRecord) → P (f l t)) → P (on_rooted o g f)
+  by_root : (o : Out (Result (Option ℕ) Damaged)) (g : List ThreadRecord → A) (f : Option ℕ → List ThreadRecord → A)
+      → ((t : List ThreadRecord) → P (g t)) → ((l : Option ℕ) (t : List ThreadRecord) → P (f l t)) → P (on_rooted o g f)
   unfolding on_rooted
-  by_root (out (rooted.Root l) t) g f h k = k l t
-  by_root (out rooted.Damaged t) g f h k = h t
+  by_root (out (Ok l) t) g f h k = k l t
+  by_root (out (Err _) t) g f h k = h t
 
   by_membership : (m : QueueMembership) (a b : A) (f : CpuIndex → ℕ → A) (g : CpuIndex → A) (h : ℕ → A) → P a
       → ((c : CpuIndex) (n : ℕ) → P (f c n)) → ((c : CpuIndex) → P (g c)) → ((n : ℕ) → P (h n)) → P b

@@ -1,21 +1,16 @@
 -- The calls on a tree by itself. On up to 4,096 records, with a number of the table, they do what Demand2 says of the
 -- queue's forms (what is refused before that is in specs/Calls.antt); accepted calls leave a sound tree sound.
-use Rattle.std.specs.Prelude.{◌≡◌, Bool, List, ℕ, suc, ◌≤◌, ◌<◌, length}
+use Rattle.std.specs.Prelude.{◌≡◌, Bool, List, ℕ, suc, ◌≤◌, ◌<◌, length, Option, Result, Ok, Err}
 use Rattle.std.proofs.Math.Path.{refl, ap}
 use Rattle.std.proofs.Common.{sym, ◌∙◌, arith}
 use Rattle.std.proofs.Math.Bool.{true, false}
 use Rattle.std.proofs.Math.Decide.{dec_le}
-use Rattle.refusal.specs.Answer.{value, damaged}
+use Rattle.refusal.specs.Answer.{value, damaged, or_damaged}
 use Rattle.refusal.specs.Cases.{never, choose}
 use Rattle.avl.specs.Tree.{Tree, in_order, Balanced}
-use Rattle.thread.specs.declared.Link.{Link}
 use Rattle.thread.specs.declared.ThreadRecord.{ThreadRecord}
 use Rattle.rows.specs.Table.{Out, out, max_records}
 use Rattle.rows.specs.Asked.{unchanged, answering}
-use Rattle.ready_index.specs.declared.Contained.TheVariants as contained
-use Rattle.ready_index.specs.declared.Rooted.{Rooted}
-use Rattle.ready_index.specs.declared.Rooted.TheVariants as rooted
-use Rattle.ready_index.specs.Answers.{least_answer, contained_answer, rooted_answer}
 use Rattle.ready_index.specs.Index.{insert, remove}
 use Rattle.ready_index.specs.Calls.{first_call, contains_call, insert_call, remove_call}
 use Rattle.sound_index.specs.Holds.{root, Holds, has}
@@ -25,18 +20,19 @@ use Rattle.sound_index.proofs.Demand2.{equal_key_refused, absent_refused}
 use Rattle.sound_index.specs.Sound.{Sound, inserted, removed}
 use Rattle.sound_index.proofs.Soundness.{sound_held}
 use Rattle.sound_index.specs.Calls.{first_is, outside_refused, call_is}
+use Rattle.refusal.specs.declared.Damaged.{Damaged}
 
 -- On a table of up to 4,096 records that holds a balanced tree.
 module _ (t : List ThreadRecord) (x : Tree) (h : Holds t x) (b : Balanced x) (n : length t ≤ max_records) where
-  pub first_call_lem : first_call t (root x) ≡ least_answer (least_of (in_order x))
-  first_call_lem = first_is t (root x) n ∙ ap least_answer (first_names_least t x h b n)
+  pub first_call_lem : first_call t (root x) ≡ or_damaged (least_of (in_order x))
+  first_call_lem = first_is t (root x) n ∙ ap or_damaged (first_names_least t x h b n)
 
   pub contains_call_lem : (i : ℕ) → i < length t → contains_call t (root x) i ≡ value (has i (in_order x))
-  unfolding choose contained_answer
-  contains_call_lem i l = (call_is t (root x) i n l).0 ∙ ap contained_answer (contains_tells t x i h b n l)
+  unfolding choose or_damaged
+  contains_call_lem i l = (call_is t (root x) i n l).0 ∙ ap or_damaged (contains_tells t x i h b n l)
       ∙ told (has i (in_order x))
     where
-      told : (y : Bool) → contained_answer (choose y contained.Yes contained.No) ≡ value y
+      told : (y : Bool) → or_damaged (choose y (Ok true) (Ok false)) ≡ value y
       told true = refl
       told false = refl
 
@@ -44,42 +40,43 @@ module _ (t : List ThreadRecord) (x : Tree) (h : Holds t x) (b : Balanced x) (n 
   pub insert_call_lem : (i : ℕ) (l : i < length t) (e : has i (in_order x) ≡ false)
       → let I : Inserted t x i (insert t (root x) i) = insertion t x i h b n l e in
       insert_call t (root x) i ≡ out (value (root I.tree)) I.table
-  unfolding answering rooted_answer
+  unfolding answering or_damaged
   insert_call_lem i l e =
-      (call_is t (root x) i n l).1 ∙ ap (answering rooted_answer) (insertion t x i h b n l e).is
+      (call_is t (root x) i n l).1 ∙ ap (answering or_damaged) (insertion t x i h b n l e).is
 
   -- A thread of the tree is taken out: root and table are those of `removal`.
   pub remove_call_lem : (i : ℕ) (e : has i (in_order x) ≡ true)
       → let R : Removed t x i (remove t (root x) i) = removal t x i h b n e in
       remove_call t (root x) i ≡ out (value (root R.tree)) R.table
-  unfolding answering rooted_answer
+  unfolding answering or_damaged
   remove_call_lem i e =
-      (call_is t (root x) i n (held_inside t x i h e)).2 ∙ ap (answering rooted_answer) (removal t x i h b n e).is
+      (call_is t (root x) i n (held_inside t x i h e)).2 ∙ ap (answering or_damaged) (removal t x i h b n e).is
 
   -- An equal key, or a thread that the tree does not hold, is Damaged, and nothing changes.
   pub equal_key_damaged : (i : ℕ) → has i (in_order x) ≡ true → insert_call t (root x) i ≡ unchanged t damaged
-  unfolding answering rooted_answer
+  unfolding answering or_damaged
   equal_key_damaged i e =
       (call_is t (root x) i n (held_inside t x i h e)).1
-      ∙ ap (answering rooted_answer) (equal_key_refused t x i h b n e)
+      ∙ ap (answering or_damaged) (equal_key_refused t x i h b n e)
 
   pub absent_damaged : (i : ℕ) → i < length t → has i (in_order x) ≡ false
       → remove_call t (root x) i ≡ unchanged t damaged
-  unfolding answering rooted_answer
-  absent_damaged i l e = (call_is t (root x) i n l).2 ∙ ap (answering rooted_answer) (absent_refused t x i h l e)
+  unfolding answering or_damaged
+  absent_damaged i l e = (call_is t (root x) i n l).2 ∙ ap (answering or_damaged) (absent_refused t x i h l e)
 
 -- What was answered as a value was answered as a root.
-accepted : (o : Out Rooted) (m : Link) (s : List ThreadRecord) → answering rooted_answer o ≡ out (value m) s
-    → o ≡ out (rooted.Root m) s
-unfolding answering rooted_answer
-accepted (out (rooted.Root l) t) m s e =
+accepted : (o : Out (Result (Option ℕ) Damaged)) (m : Option ℕ) (s : List ThreadRecord)
+    → answering or_damaged o ≡ out (value m) s
+    → o ≡ out (Ok m) s
+unfolding answering or_damaged
+accepted (out (Ok l) t) m s e =
     let p : l ≡ m = cc in
     let q : t ≡ s = cc in
     rw (p, q)
-accepted (out rooted.Damaged t) m s e = never cc
+accepted (out (Err _) t) m s e = never cc
 
 -- Accepted calls on a tree by itself leave a sound tree sound.
-module _ {t : List ThreadRecord} {l : Link} (S : Sound t l) (s : List ThreadRecord) (m : Link) (i : ℕ) where
+module _ {t : List ThreadRecord} {l : Option ℕ} (S : Sound t l) (s : List ThreadRecord) (m : Option ℕ) (i : ℕ) where
   pub insert_call_sound : insert_call t l i ≡ out (value m) s → Sound s m
   insert_call_sound e = go (dec_le (suc i) (length t))
     where

@@ -1,6 +1,8 @@
 -- Document 01's demand 2 on one tree: what the ready index does on a table of up to 4,096 records that holds a balanced
 -- tree.
-use Rattle.std.specs.Prelude.{◌≡◌, refl, Bool, true, false, ◌≢◌, List, [], ◌∷◌, ℕ, suc, ◌≤◌, ◌<◌, length, eqb}
+use Rattle.std.specs.Prelude.{◌≡◌, refl, Bool, true, false, ◌≢◌, List, [], ◌∷◌, ℕ, suc, ◌≤◌, ◌<◌, length, eqb, Option}
+use Rattle.std.specs.Prelude.{Result, Ok, Err}
+use Rattle.refusal.specs.Answer.{damage}
 use Rattle.std.proofs.Common.{sym, ap, ◌∙◌, subst, arith, eq-eqb, ne_eqb}
 use Rattle.refusal.specs.Cases.{never, choose}
 use Rattle.avl.specs.Tree.{Tree, leaf, node, in_order, Balanced}
@@ -8,13 +10,9 @@ use Rattle.avl.specs.Operations.{insert_at, remove_at, Added}
 use Rattle.avl.proofs.InOrder.{leftmost_first}
 use Rattle.avl.proofs.Insertion.{insertion_in_order, insertion_balanced}
 use Rattle.avl.proofs.Removal.{removal_in_order, removal_balanced}
-use Rattle.thread.specs.declared.Link.{Link}
 use Rattle.thread.specs.declared.TreeKey.{TreeKey}
 use Rattle.thread.specs.declared.ThreadRecord.{ThreadRecord}
 use Rattle.thread.specs.Membership.{on_link}
-use Rattle.ready_index.specs.declared.Contained.TheVariants as contained
-use Rattle.ready_index.specs.declared.Rooted.{Rooted}
-use Rattle.ready_index.specs.declared.Rooted.TheVariants as rooted
 use Rattle.rows.specs.Table.{Out, out, links_at, record_at, max_records}
 use Rattle.rows.specs.TableCases.{on_key}
 use Rattle.ready_index.specs.Index.{first, contains, on_walk, insert, on_search, remove}
@@ -33,6 +31,7 @@ use Rattle.sound_index.specs.HoldsLaws.{holds_represents, represents_rising, rep
 use Rattle.sound_index.specs.HoldsLaws.{holds_still, rekey, fresh_by}
 use Rattle.sound_index.specs.Height.{held_height}
 use Rattle.sound_index.specs.Outcomes.{OnlyLinks, Inserted, Removed, least_of}
+use Rattle.refusal.specs.declared.Damaged.{Damaged}
 
 in_inside : (t : List ThreadRecord) (j : ℕ) (x : Tree) (lo hi : ℕ) (ranks key : ℕ → ℕ) → In j x
     → Represents ranks key t lo hi x → j < length t
@@ -72,14 +71,14 @@ first_names_least t (node l i r) h b n =
 
 contains_yes : (t : List ThreadRecord) (x : Tree) (i : ℕ) (a : TreeKey) → Holds t x → Balanced x
     → length t ≤ max_records
-    → Read t i a → has i (in_order x) ≡ true → contains t (root x) i ≡ contained.Yes
+    → Read t i a → has i (in_order x) ≡ true → contains t (root x) i ≡ (Ok true)
 unfolding contains on_key
 contains_yes t x i a h b n k e =
     rw k.key (look_yes (rank t) (rank t) 40 t 0 (suc (length t)) a (compare_ranks_lem t) k (has_in i x e)
     (holds_represents t x h) (omega (arith, held_height t x h b n)))
 
 contains_no : (t : List ThreadRecord) (x : Tree) (i : ℕ) (a : TreeKey) → Holds t x → Balanced x → length t ≤ max_records
-    → Read t i a → has i (in_order x) ≡ false → contains t (root x) i ≡ contained.No
+    → Read t i a → has i (in_order x) ≡ false → contains t (root x) i ≡ (Ok false)
 unfolding contains on_key
 contains_no t x i a h b n k e =
     rw k.key (look_no (rank t) (rank t) x 40 t 0 (suc (length t)) i a (compare_ranks_lem t) k
@@ -89,12 +88,12 @@ contains_no t x i a h b n k e =
 -- `contains` answers Yes of a thread of the tree and No of every other of the table.
 pub contains_tells : (t : List ThreadRecord) (x : Tree) (i : ℕ) → Holds t x → Balanced x → length t ≤ max_records
     → i < length t
-    → contains t (root x) i ≡ choose (has i (in_order x)) contained.Yes contained.No
+    → contains t (root x) i ≡ choose (has i (in_order x)) (Ok true) (Ok false)
 unfolding choose
 contains_tells t x i h b n l = let k = reading t i l in go (has i (in_order x)) refl k.0 k.1
   where
     go : (y : Bool) → has i (in_order x) ≡ y → (a : TreeKey) → Read t i a
-        → contains t (root x) i ≡ choose y contained.Yes contained.No
+        → contains t (root x) i ≡ choose y (Ok true) (Ok false)
     go true e a k = contains_yes t x i a h b n k e
     go false e a k = contains_no t x i a h b n k e
 
@@ -131,7 +130,7 @@ holds_after t s l y f e p =
           (represents_rising t s 0 (suc (length t)) y (besides_length t s e) q);
     }
 
-insertion_outcome : (t : List ThreadRecord) (x : Tree) (i : ℕ) (o : Out Rooted) → Balanced x
+insertion_outcome : (t : List ThreadRecord) (x : Tree) (i : ℕ) (o : Out (Result (Option ℕ) Damaged)) → Balanced x
     → Inserts (rank t) (in_list t (i ∷ in_order x)) t 0 (suc (length t)) x i o → Inserted t x i o
 insertion_outcome t x i o b I =
     let l = i ∷ in_order x in
@@ -173,7 +172,7 @@ away_has : (key : ℕ → ℕ) (ranks : ℕ → ℕ) (i : ℕ) (l : List ℕ) �
 away_has key ranks i [] p = refl
 away_has key ranks i (j ∷ l) p = rw (ne_eqb i j (λ e. p.here (ap key (sym e)))) (away_has key ranks i l p.rest)
 
-removal_outcome : (t : List ThreadRecord) (x : Tree) (i : ℕ) (o : Out Rooted) → Balanced x
+removal_outcome : (t : List ThreadRecord) (x : Tree) (i : ℕ) (o : Out (Result (Option ℕ) Damaged)) → Balanced x
     → Removes (rank t) (in_list t (in_order x)) t 0 (suc (length t)) x i o → Removed t x i o
 removal_outcome t x i o b I =
     let y = remove_at I.path I.left I.right in
@@ -211,7 +210,7 @@ removal t x i h b n e =
 insert_again : (t : List ThreadRecord) (x : Tree) (i : ℕ) (a : TreeKey) → Holds t x → Balanced x
     → length t ≤ max_records
     → Read t i a → has i (in_order x) ≡ true
-    → insert t (root x) i ≡ out rooted.Damaged t
+    → insert t (root x) i ≡ out (Err damage) t
 unfolding insert on_key on_walk
 insert_again t x i a h b n k e =
     rw (
@@ -224,13 +223,13 @@ insert_again t x i a h b n k e =
 -- tree has an equal one.
 pub equal_key_refused : (t : List ThreadRecord) (x : Tree) (i : ℕ) → Holds t x → Balanced x → length t ≤ max_records
     → has i (in_order x) ≡ true
-    → insert t (root x) i ≡ out rooted.Damaged t
+    → insert t (root x) i ≡ out (Err damage) t
 equal_key_refused t x i h b n e =
     let k = reading t i (held_inside t x i h e) in insert_again t x i k.0 h b n k.1 e
 
 remove_nothing : (t : List ThreadRecord) (x : Tree) (i : ℕ) (a : TreeKey) → Holds t x → Read t i a
     → has i (in_order x) ≡ false
-    → remove t (root x) i ≡ out rooted.Damaged t
+    → remove t (root x) i ≡ out (Err damage) t
 unfolding remove on_key on_search
 remove_nothing t x i a h k e =
     rw (
@@ -241,13 +240,13 @@ remove_nothing t x i a h k e =
 
 -- A removal of a thread of the table that is not of the tree is refused, and the table is unchanged.
 pub absent_refused : (t : List ThreadRecord) (x : Tree) (i : ℕ) → Holds t x → i < length t → has i (in_order x) ≡ false
-    → remove t (root x) i ≡ out rooted.Damaged t
+    → remove t (root x) i ≡ out (Err damage) t
 absent_refused t x i h l e = let k = reading t i l in remove_nothing t x i k.0 h k.1 e
 
 -- A number outside of the table is refused by every call, on every table and root, and the table is unchanged.
-pub outside_refused : (t : List ThreadRecord) (l : Link) (i : ℕ) → length t ≤ i
-    → (contains t l i ≡ contained.Damaged) × (insert t l i ≡ out rooted.Damaged t)
-    × (remove t l i ≡ out rooted.Damaged t)
+pub outside_refused : (t : List ThreadRecord) (l : Option ℕ) (i : ℕ) → length t ≤ i
+    → (contains t l i ≡ (Err damage)) × (insert t l i ≡ out (Err damage) t)
+    × (remove t l i ≡ out (Err damage) t)
 unfolding contains insert remove on_key
 outside_refused t l i h = (rw (key_beyond t i h), rw (key_beyond t i h), rw (key_beyond t i h))
 

@@ -1,6 +1,6 @@
 -- The ways down on a table that represents a tree: to the least thread, to where a key is to stand, to a thread, and to
 -- a successor.
-use Rattle.std.specs.Prelude.{◌≡◌, ◌≢◌, List, ◌∷◌, length}
+use Rattle.std.specs.Prelude.{◌≡◌, ◌≢◌, List, ◌∷◌, length, Option, Some, None, Result, Ok, Bool}
 use Rattle.std.proofs.Math.Path.{refl}
 use Rattle.std.proofs.Math.Bool.{true, false}
 use Prim.Native.Nat.{ℕ, zero, suc, ◌+◌, ◌≤◌, ◌<◌}
@@ -8,23 +8,17 @@ use native.Mathlib.Omega.{arith}
 use Rattle.std.proofs.Math.Nat.{le_refl}
 use borrow.Author.Tests.{eq-eqb}
 use Rattle.refusal.specs.Cases.{choose, if_equal}
-use Rattle.order.specs.declared.Ordering.{Ordering}
-use Rattle.order.specs.declared.Ordering.TheVariants.{Less, Equal, Greater}
+use Rattle.std.specs.declared.cmp.Ordering.{Ordering}
+use Rattle.std.specs.declared.cmp.Ordering.TheVariants.{Less, Equal, Greater}
 use Rattle.order.specs.Order.{compare_numbers, on_ordering}
 use Rattle.order.specs.StrictOrder.{Says, says, compare_less, compare_equal, compare_greater}
 use Rattle.avl.specs.Tree.{Tree, leaf, node, height, leftmost}
 use Rattle.avl.specs.Path.{Frame, left_of, right_of, plug}
 use Rattle.avl.specs.Operations as operations
-use Rattle.thread.specs.declared.Link.{Link}
-use Rattle.thread.specs.declared.Link.TheVariants as link
 use Rattle.thread.specs.declared.Links.{Links}
 use Rattle.thread.specs.declared.TreeKey.{TreeKey}
 use Rattle.thread.specs.declared.ThreadRecord.{ThreadRecord}
 use Rattle.thread.specs.Membership.{on_link}
-use Rattle.rows.specs.declared.LinksRead.TheVariants as links
-use Rattle.ready_index.specs.declared.Least.TheVariants as least
-use Rattle.ready_index.specs.declared.Contained.{Contained}
-use Rattle.ready_index.specs.declared.Contained.TheVariants as contained
 use Rattle.ready_index.specs.declared.Step.{Step}
 use Rattle.ready_index.specs.declared.Way.TheVariants as way
 use Rattle.ready_index.specs.declared.Sought.{Sought}
@@ -39,10 +33,11 @@ use Rattle.rows.specs.TableLaws.{links_got_within}
 use Rattle.sound_index.specs.TableLaws.{inside_key}
 use Rattle.sound_index.specs.Represents.{In, here, in_left, in_right, Compares, Read, links_by, Represents, Fresh}
 use Rattle.sound_index.specs.Represents.{Frames, steps}
+use Rattle.refusal.specs.declared.Damaged.{Damaged}
 
 -- The step from a node j, by the ordering of the sought key.
 way_by : (t : List ThreadRecord) (ranks : ℕ → ℕ) (i j : ℕ) (a : TreeKey) (l r : Tree) → Compares t ranks → Read t i a
-    → links_at t j ≡ links.Got (links_over l r)
+    → links_at t j ≡ Ok (links_over l r)
     → way_at t a j ≡ on_ordering (compare_numbers (ranks i) (ranks j)) (way.Left (root l)) way.Equal
     (way.Right (root r))
 unfolding way_at on_key on_links
@@ -52,7 +47,7 @@ way_by t ranks i j a l r c k e =
     rw (b.1, c i j a b.0 k.inside m k.key b.1, e)
 
 sought_by : (t : List ThreadRecord) (ranks : ℕ → ℕ) (i j id : ℕ) (a : TreeKey) (l r : Tree) → Compares t ranks
-    → Read t i a → links_at t j ≡ links.Got (links_over l r)
+    → Read t i a → links_at t j ≡ Ok (links_over l r)
     → sought_at t a id j ≡ on_ordering (compare_numbers (ranks i) (ranks j)) (sought.Left (root l))
     (if_equal j id (sought.Found (links_over l r)) sought.Damaged) (sought.Right (root r))
 unfolding sought_at on_key on_links
@@ -72,7 +67,7 @@ module _ (ranks key : ℕ → ℕ) where
   -- `first`'s way down ends at the leftmost thread.
   pub descend_is : (l : Tree) (n : ℕ) (t : List ThreadRecord) (lo hi : ℕ) (i : ℕ) (r : Tree)
       → Represents ranks key t lo hi (node l i r) → height l < n
-      → descend n t i ≡ least.Some (leftmost l i r)
+      → descend n t i ≡ Ok (Some (leftmost l i r))
   unfolding descend on_links on_link
   descend_is leaf zero t lo hi i r p h = absurd (omega arith)
   descend_is (node a j b) zero t lo hi i r p h = absurd (omega arith)
@@ -83,7 +78,7 @@ module _ (ranks key : ℕ → ℕ) where
   -- `contains` finds a thread of the tree,
   pub look_yes : {i : ℕ} {x : Tree} (n : ℕ) (t : List ThreadRecord) (lo hi : ℕ) (a : TreeKey) → Compares t ranks
       → Read t i a → In i x → Represents ranks key t lo hi x → height x ≤ n
-      → look_for n t a i (root x) ≡ contained.Yes
+      → look_for n t a i (root x) ≡ (Ok true)
   unfolding look_for on_link on_way on_ordering if_equal choose
   look_yes zero t lo hi a c k here p h = absurd (omega arith)
   look_yes zero t lo hi a c k (in_left m) p h = absurd (omega arith)
@@ -101,11 +96,12 @@ module _ (ranks key : ℕ → ℕ) where
       rw (way_by t ranks i j a l r c k p.cell, compare_greater (ranks i) (ranks j) (omega arith))
       (look_yes n t (suc (key j)) hi a c k m p.right (omega arith))
 
-  look_no_by : (o : Ordering) (i j : ℕ) (l r : Tree) (E : Contained) (f : Contained) (n : ℕ) (t : List ThreadRecord)
+  look_no_by : (o : Ordering) (i j : ℕ) (l r : Tree) (E : Result Bool Damaged) (f : Result Bool Damaged) (n : ℕ) (t :
+      List ThreadRecord)
       (a : TreeKey) (id : ℕ) → Says o i j → i ≢ j
-      → look_for n t a id (root l) ≡ contained.No → look_for n t a id (root r) ≡ contained.No
+      → look_for n t a id (root l) ≡ (Ok false) → look_for n t a id (root r) ≡ (Ok false)
       → on_way (on_ordering o (way.Left (root l)) way.Equal (way.Right (root r))) f E (λ m. look_for n t a id m)
-      (λ m. look_for n t a id m) ≡ contained.No
+      (λ m. look_for n t a id m) ≡ (Ok false)
   unfolding on_ordering on_way
   look_no_by Less i j l r E f n t a id s d p q = p
   look_no_by Equal i j l r E f n t a id s d p q = absurd (d s)
@@ -114,7 +110,7 @@ module _ (ranks key : ℕ → ℕ) where
   -- and no other.
   pub look_no : (x : Tree) (n : ℕ) (t : List ThreadRecord) (lo hi i : ℕ) (a : TreeKey) → Compares t ranks → Read t i a
       → Fresh ranks key (ranks i) x → Represents ranks key t lo hi x → height x < n
-      → look_for n t a i (root x) ≡ contained.No
+      → look_for n t a i (root x) ≡ (Ok false)
   unfolding look_for on_link
   look_no leaf zero t lo hi i a c k f p h = absurd (omega arith)
   look_no (node l j r) zero t lo hi i a c k f p h = absurd (omega arith)
@@ -141,7 +137,7 @@ module _ (ranks key : ℕ → ℕ) where
     pub short : length path ≤ length z + height x
 
   walk_by : (o : Ordering) (t : List ThreadRecord) (LO HI k : ℕ) (z : List Frame) (l : Tree) (j : ℕ) (r : Tree)
-      (A : Walk) (f g : Link → Walk) → Says o k (key j) → k ≢ key j
+      (A : Walk) (f g : Option ℕ → Walk) → Says o k (key j) → k ≢ key j
       → (k < key j → Walks t LO HI k (left_of j r ∷ z) l (f (root l)))
       → (key j < k → Walks t LO HI k (right_of l j ∷ z) r (g (root r)))
       → Walks t LO HI k z (node l j r)
@@ -366,7 +362,7 @@ module _ (ranks key : ℕ → ℕ) where
     pub is : o ≡ next (steps s.path) s.thread (root s.right)
     pub frames : Frames ranks key t (suc (key s.thread)) hi (suc (key s.thread)) HI s.path
     pub tie : ranks s.thread ≡ key s.thread
-    pub cell : links_at t s.thread ≡ links.Got (links_by link.None (root s.right) old)
+    pub cell : links_at t s.thread ≡ Ok (links_by None (root s.right) old)
     pub subtree : Represents ranks key t (suc (key s.thread)) hi s.right
     pub short : length s.path + height s.right ≤ length z + height x
 
@@ -462,7 +458,7 @@ module _ (ranks key : ℕ → ℕ) where
       rw (way_by t ranks i j a l r c k p.cell, compare_greater (ranks i) (ranks j) (omega arith))
       (walk_lost n t (suc (key j)) hi a (record { id = j; right = true } ∷ s) c k m p.right (omega arith))
 
-  missing_by : (o : Ordering) (i j : ℕ) (l r : Link) (S : Sought) (F : Links → Search) (f g : Link → Search)
+  missing_by : (o : Ordering) (i j : ℕ) (l r : Option ℕ) (S : Sought) (F : Links → Search) (f g : Option ℕ → Search)
       → Says o i j → i ≢ j → f l ≡ missing → g r ≡ missing
       → on_sought (on_ordering o (sought.Left l) S (sought.Right r)) missing F f g ≡ missing
   unfolding on_sought on_ordering

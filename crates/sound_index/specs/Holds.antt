@@ -1,16 +1,12 @@
 -- What it means that a table holds a tree.
-use Rattle.std.specs.Prelude.{◌≡◌, List, [], ◌∷◌, map, Bool, false, ◌||◌, ℕ, suc, max, eqb}
-use Rattle.order.specs.declared.Ordering.TheVariants.{Less}
+use Rattle.std.specs.Prelude.{◌≡◌, List, [], ◌∷◌, map, Bool, false, ◌||◌, ℕ, suc, max, eqb, Option, Some, None, Ok}
+use Rattle.std.specs.declared.cmp.Ordering.TheVariants.{Less}
 use Rattle.avl.specs.Tree.{Tree, leaf, node, in_order, height}
-use Rattle.thread.specs.declared.Link.{Link}
-use Rattle.thread.specs.declared.Link.TheVariants as link
 use Rattle.thread.specs.declared.Links.{Links}
 use Rattle.thread.specs.declared.TreeKey.{TreeKey}
 use Rattle.thread.specs.declared.ThreadRecord.{ThreadRecord}
 use Rattle.thread.specs.Membership.{empty_links}
 use Rattle.thread.specs.TreeKey.{compare_tree_keys}
-use Rattle.rows.specs.declared.LinksRead.TheVariants as links
-use Rattle.rows.specs.declared.KeyRead.TheVariants as read
 use Rattle.thread.specs.Records.{with_links}
 use Rattle.rows.specs.Table.{changed, links_at, key_at}
 
@@ -19,9 +15,9 @@ abbrev pub stored : List ThreadRecord → ℕ → Links → List ThreadRecord
 stored t i l = changed t i (with_links l)
 
 -- The link to a tree's top.
-abbrev pub root : Tree → Link
-root leaf = link.None
-root (node l i r) = link.Some i
+abbrev pub root : Tree → Option ℕ
+root leaf = None
+root (node l i r) = Some i
 
 -- The links of a node over two subtrees.
 abbrev pub links_over : Tree → Tree → Links
@@ -31,14 +27,14 @@ links_over l r = record { left = root l; right = root r; height = suc (max (heig
 abbrev pub Linked : List ThreadRecord → Tree → Type 0
 Linked t leaf = Unit {0}
 Linked t (node l i r) =
-    record { links : links_at t i ≡ links.Got (links_over l r); left : Linked t l; right : Linked t r }
+    record { links : links_at t i ≡ Ok (links_over l r); left : Linked t l; right : Linked t r }
 
 -- Two threads of the table, the first with the lesser tree key.
 pub record Precedes (t : List ThreadRecord) (i j : ℕ) : Type 0 where
   pub key : TreeKey
   pub other : TreeKey
-  pub has_key : key_at t i ≡ read.Got key
-  pub has_other : key_at t j ≡ read.Got other
+  pub has_key : key_at t i ≡ Ok key
+  pub has_other : key_at t j ≡ Ok other
   pub less : compare_tree_keys key other ≡ Less
 
 -- A thread before all of a list.

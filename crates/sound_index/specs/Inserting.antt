@@ -1,12 +1,11 @@
 -- On a table that represents a tree, `insert` of a thread whose key is not there does what the insertion of trees does.
-use Rattle.std.specs.Prelude.{◌≡◌, List, [], ℕ, ◌≤◌, ◌<◌}
+use Rattle.std.specs.Prelude.{◌≡◌, List, [], ℕ, ◌≤◌, ◌<◌, Option, Result}
 use Rattle.std.proofs.Common.{arith, le_refl}
 use Rattle.avl.specs.Tree.{Tree, leaf, node, height}
 use Rattle.avl.specs.Path.{Frame, plug}
 use Rattle.avl.specs.Operations.{insert_at}
 use Rattle.thread.specs.declared.TreeKey.{TreeKey}
 use Rattle.thread.specs.declared.ThreadRecord.{ThreadRecord}
-use Rattle.ready_index.specs.declared.Rooted.{Rooted}
 use Rattle.rows.specs.Table.{Out}
 use Rattle.rows.specs.TableCases.{on_key, on_made}
 use Rattle.ready_index.specs.Index.{on_walk, walk, insert}
@@ -16,10 +15,12 @@ use Rattle.sound_index.specs.Represents.{Compares, Read, Represents, Fresh, Root
 use Rattle.sound_index.specs.RepresentsLaws.{kept_store, kept_trans, keep_frames, frames_within, put}
 use Rattle.sound_index.specs.Rebuilding.{rebuild_is}
 use Rattle.sound_index.specs.Descents.{Walks, walk_is}
+use Rattle.refusal.specs.declared.Damaged.{Damaged}
 
 module _ (ranks key : ℕ → ℕ) where
   -- The call answered the root of x with i put at the end of a path to a leaf.
-  pub record Inserts (t : List ThreadRecord) (LO HI : ℕ) (x : Tree) (i : ℕ) (o : Out Rooted) : Type 0 where
+  pub record Inserts (t : List ThreadRecord) (LO HI : ℕ) (x : Tree) (i : ℕ) (o : Out (Result (Option ℕ) Damaged)) :
+      Type 0 where
     pub path : List Frame
     pub whole : plug path leaf ≡ x
     pub roots : Roots ranks key t LO HI o (insert_at path i)

@@ -1,16 +1,12 @@
 -- What an accepted insertion and an accepted removal are, and what `first` is to name.
-use Rattle.std.specs.Prelude.{◌≡◌, false, List, [], ◌∷◌, ℕ}
+use Rattle.std.specs.Prelude.{◌≡◌, false, List, [], ◌∷◌, ℕ, Option, Some, None, Result, Ok}
 use Rattle.avl.specs.Tree.{Tree, in_order, Balanced}
 use Rattle.avl.specs.Operations.{Added}
 use Rattle.thread.specs.declared.ThreadRecord.{ThreadRecord}
 use Rattle.thread.specs.Membership.{empty_links}
-use Rattle.rows.specs.declared.LinksRead.TheVariants as links
-use Rattle.ready_index.specs.declared.Rooted.{Rooted}
-use Rattle.ready_index.specs.declared.Rooted.TheVariants as rooted
-use Rattle.ready_index.specs.declared.Least.{Least}
-use Rattle.ready_index.specs.declared.Least.TheVariants as least
 use Rattle.rows.specs.Table.{Out, out, links_at, record_at}
 use Rattle.sound_index.specs.Holds.{root, Holds, has, besides_links}
+use Rattle.refusal.specs.declared.Damaged.{Damaged}
 
 -- From t to s no record outside of the list changed at all, and of the others only the tree links.
 pub record OnlyLinks (l : List ℕ) (t s : List ThreadRecord) : Type 0 where
@@ -19,10 +15,10 @@ pub record OnlyLinks (l : List ℕ) (t s : List ThreadRecord) : Type 0 where
 
 -- An accepted insertion of i into x: a root is answered, and the table then holds a balanced tree with exactly the
 -- earlier threads and i, each at its place.
-pub record Inserted (t : List ThreadRecord) (x : Tree) (i : ℕ) (o : Out Rooted) : Type 0 where
+pub record Inserted (t : List ThreadRecord) (x : Tree) (i : ℕ) (o : Out (Result (Option ℕ) Damaged)) : Type 0 where
   pub table : List ThreadRecord
   pub tree : Tree
-  pub is : o ≡ out (rooted.Root (root tree)) table
+  pub is : o ≡ out (Ok (root tree)) table
   pub holds : Holds table tree
   pub balanced : Balanced tree
   pub added : Added (in_order x) i (in_order tree)
@@ -30,18 +26,18 @@ pub record Inserted (t : List ThreadRecord) (x : Tree) (i : ℕ) (o : Out Rooted
 
 -- An accepted removal of i from x: a root is answered, the table then holds a balanced tree with exactly the other
 -- threads in their order, and i's links are empty.
-pub record Removed (t : List ThreadRecord) (x : Tree) (i : ℕ) (o : Out Rooted) : Type 0 where
+pub record Removed (t : List ThreadRecord) (x : Tree) (i : ℕ) (o : Out (Result (Option ℕ) Damaged)) : Type 0 where
   pub table : List ThreadRecord
   pub tree : Tree
-  pub is : o ≡ out (rooted.Root (root tree)) table
+  pub is : o ≡ out (Ok (root tree)) table
   pub holds : Holds table tree
   pub balanced : Balanced tree
   pub removed : Added (in_order tree) i (in_order x)
   pub gone : has i (in_order tree) ≡ false
-  pub empty : links_at table i ≡ links.Got empty_links
+  pub empty : links_at table i ≡ Ok empty_links
   pub only : OnlyLinks (in_order x) t table
 
 -- The first of a list in order, which is the least.
-abbrev pub least_of : List ℕ → Least
-least_of [] = least.None
-least_of (i ∷ l) = least.Some i
+abbrev pub least_of : List ℕ → Result (Option ℕ) Damaged
+least_of [] = (Ok None)
+least_of (i ∷ l) = Ok (Some i)

@@ -1,5 +1,6 @@
 -- On a table that represents a tree along a path, `rebuild` does what the rebuilding of trees does.
-use Rattle.std.specs.Prelude.{◌≡◌, refl, List, [], ◌∷◌, ℕ, suc, ◌+◌, ◌≤◌, ◌<◌, length}
+use Rattle.std.specs.Prelude.{◌≡◌, refl, List, [], ◌∷◌, ℕ, suc, ◌+◌, ◌≤◌, ◌<◌, length, Some, Ok, Err}
+use Rattle.refusal.specs.Answer.{damage}
 use Rattle.std.proofs.Common.{arith, le_refl}
 use Rattle.refusal.specs.Cases.{choose}
 use Rattle.avl.specs.Tree.{Tree}
@@ -8,12 +9,8 @@ use Rattle.avl.specs.Rotation as rotation
 use Rattle.avl.specs.Path.{Frame, left_of, right_of}
 use Rattle.avl.specs.Path as path
 use Rattle.avl.proofs.Balance.{balance_height}
-use Rattle.thread.specs.declared.Link.TheVariants as link
 use Rattle.thread.specs.declared.Links.{Links}
 use Rattle.thread.specs.declared.ThreadRecord.{ThreadRecord}
-use Rattle.rows.specs.declared.LinksRead.TheVariants as links
-use Rattle.rotations.specs.declared.Turned.TheVariants as turned
-use Rattle.ready_index.specs.declared.Rooted.TheVariants as rooted
 use Rattle.rows.specs.Table.{out, links_at, set_links}
 use Rattle.rows.specs.TableCases.{on_links, on_made}
 use Rattle.rotations.specs.Cases.{on_turned}
@@ -37,12 +34,12 @@ module _ (ranks key : ℕ → ℕ) where
 
   -- One step up, and the rest of the path.
   step_up : (t : List ThreadRecord) (lo hi LO HI i : ℕ) (c h : Links) (z : List Frame) (l r : Tree) (n : ℕ)
-      → links_at t i ≡ links.Got h → lo ≤ key i → key i < hi → Frames ranks key t lo hi LO HI z
+      → links_at t i ≡ Ok h → lo ≤ key i → key i < hi → Frames ranks key t lo hi LO HI z
       → Turns ranks key (stored t i c) lo hi (balance (stored t i c) i) (rotation.balance l i r)
       → tree.height l ≤ n → tree.height r ≤ n → 100 ≤ n → n + suc (length z) < 200 → Rebuilds z
       → Roots ranks key t LO HI
-      (on_turned (on_made (set_links t i c) (out turned.Damaged) (λ t₁. balance t₁ i)) (out rooted.Damaged)
-      (λ top t₁. rebuild (steps z) t₁ (link.Some top)))
+      (on_turned (on_made (set_links t i c) (out (Err damage)) (λ t₁. balance t₁ i)) (out (Err damage))
+      (λ top t₁. rebuild (steps z) t₁ (Some top)))
       (path.rebuild z (rotation.balance l i r))
   unfolding on_turned on_made
   step_up t lo hi LO HI i c h z l r n e a b p d hl hr hn hz ih =

@@ -1,6 +1,7 @@
 -- On a table that represents a tree, `remove` of a thread of it does what the removal of trees does, and empties the
 -- thread's links.
-use Rattle.std.specs.Prelude.{◌≡◌, ℕ, suc, ◌≤◌, ◌<◌, length}
+use Rattle.std.specs.Prelude.{◌≡◌, ℕ, suc, ◌≤◌, ◌<◌, length, Option, Some, Result, Ok, Err}
+use Rattle.refusal.specs.Answer.{damage}
 use Rattle.std.proofs.Math.Path.{refl, ap}
 use Rattle.std.proofs.Common.{sym, ◌∙◌, subst}
 use mathlib.Core.List.{List, [], ◌++◌}
@@ -13,15 +14,10 @@ use Rattle.avl.specs.Operations.{successor_from, join, remove_at}
 use Rattle.avl.proofs.InOrder.{rebuild_in_order}
 use Rattle.avl.proofs.Rebuild.{BalancedAt, balanced_at}
 use Rattle.avl.proofs.Removal.{successor_in, right_side, Joined, join_joins}
-use Rattle.thread.specs.declared.Link.{Link}
-use Rattle.thread.specs.declared.Link.TheVariants as link
 use Rattle.thread.specs.declared.Links.{Links}
 use Rattle.thread.specs.declared.TreeKey.{TreeKey}
 use Rattle.thread.specs.declared.ThreadRecord.{ThreadRecord}
 use Rattle.thread.specs.Membership.{on_link, empty_links}
-use Rattle.rows.specs.declared.LinksRead.TheVariants as links
-use Rattle.ready_index.specs.declared.Rooted.{Rooted}
-use Rattle.ready_index.specs.declared.Rooted.TheVariants as rooted
 use Rattle.rows.specs.Table.{Out, out, links_at, set_links}
 use Rattle.rows.specs.TableCases.{on_key, on_made}
 use Rattle.rotations.specs.Cases.{on_turned}
@@ -38,21 +34,23 @@ use Rattle.sound_index.specs.Rotations.{balance_is}
 use Rattle.sound_index.specs.Rebuilding.{rebuild_is}
 use Rattle.sound_index.specs.Descents.{in_bounds, Finds, find_is, successor_bounds, Succeeds, successor_is}
 use Rattle.sound_index.specs.AwayLaws.{away_append, away_above, away_below, away_before, away_after, stored_away}
+use Rattle.refusal.specs.declared.Damaged.{Damaged}
 
 module _ (ranks key : ℕ → ℕ) where
   -- The end of a replacement: s, whose links are known, takes l and y for its sides.
-  replace_end : (t : List ThreadRecord) (lo hi i : ℕ) (l : Tree) (s : ℕ) (c : Links) (y : Tree) (o : Out Rooted)
-      → links_at t s ≡ links.Got c → ranks s ≡ key s → key i < key s → lo ≤ key i
+  replace_end : (t : List ThreadRecord) (lo hi i : ℕ) (l : Tree) (s : ℕ) (c : Links) (y : Tree) (o :
+      Out (Result (Option ℕ) Damaged))
+      → links_at t s ≡ Ok c → ranks s ≡ key s → key i < key s → lo ≤ key i
       → Represents ranks key t lo (key i) l → (f : Roots ranks key t (suc (key s)) hi o y) → key s < hi → height l < 200
       → height y < 200
       → Roots ranks key t lo hi
-      (on_rooted o (out rooted.Damaged) (λ sub t₁. on_made (set_links t₁ s (links_by (root l) sub 1))
-      (out rooted.Damaged)
-      (λ t₂. on_turned (balance t₂ s) (out rooted.Damaged) (λ top t₃. out (rooted.Root (link.Some top)) t₃))))
+      (on_rooted o (out (Err damage)) (λ sub t₁. on_made (set_links t₁ s (links_by (root l) sub 1))
+      (out (Err damage))
+      (λ t₂. on_turned (balance t₂ s) (out (Err damage)) (λ top t₃. out (Ok (Some top)) t₃))))
       (rotation.balance l s y)
   unfolding on_rooted on_made on_turned
   replace_end t lo hi i l s c y o e k h g p f q hl hy =
-      let e₁ : links_at f.table s ≡ links.Got c = f.kept.below s (le_refl _) ∙ e in
+      let e₁ : links_at f.table s ≡ Ok c = f.kept.below s (le_refl _) ∙ e in
       let n = links_by (root l) (root y) 1 in
       let ge : lo ≤ key s = omega arith in
       let d = balance_is ranks key (stored f.table s n) lo hi l s y
@@ -77,7 +75,7 @@ module _ (ranks key : ℕ → ℕ) where
       → Represents ranks key t lo hi (node (node a x b) i (node d j e)) → Balanced (node (node a x b) i (node d j e))
       → height (node (node a x b) i (node d j e)) ≤ 40
       → (m : Succeeds ranks key t hi [] (node d j e) (successor_from [] d j e) (successor n t j []))
-      → Roots ranks key t lo hi (replace t n (link.Some x) (link.Some j)) (join (node a x b) (node d j e))
+      → Roots ranks key t lo hi (replace t n (Some x) (Some j)) (join (node a x b) (node d j e))
   unfolding replace on_link on_successor
   replace_two t lo hi a x b i d j e n p v h m =
       let s = successor_from [] d j e in
@@ -114,13 +112,13 @@ module _ (ranks key : ℕ → ℕ) where
       (omega arith) (omega arith))
 
   -- The thread's own links, emptied last.
-  emptied : (t : List ThreadRecord) (lo hi i : ℕ) (c : Links) (y : Tree) (o : Out Rooted)
-      (f : Roots ranks key t lo hi o y) → links_at t i ≡ links.Got c → lo ≤ key i → key i < hi
+  emptied : (t : List ThreadRecord) (lo hi i : ℕ) (c : Links) (y : Tree) (o : Out (Result (Option ℕ) Damaged))
+      (f : Roots ranks key t lo hi o y) → links_at t i ≡ Ok c → lo ≤ key i → key i < hi
       → Away ranks key (key i) (in_order y)
       → (b : Roots ranks key t lo hi
-      (on_rooted o (out rooted.Damaged)
-      (λ top t₁. on_made (set_links t₁ i empty_links) (out rooted.Damaged) (λ t₂. out (rooted.Root top) t₂))) y)
-      × (links_at b.table i ≡ links.Got empty_links)
+      (on_rooted o (out (Err damage))
+      (λ top t₁. on_made (set_links t₁ i empty_links) (out (Err damage)) (λ t₂. out (Ok top) t₂))) y)
+      × (links_at b.table i ≡ Ok empty_links)
   unfolding on_rooted on_made
   emptied t lo hi i c y o f e ge lt w =
       let g = inside_links f.table i
@@ -137,10 +135,11 @@ module _ (ranks key : ℕ → ℕ) where
       )
 
   -- The path rebuilt over what took the thread's place.
-  rebuilt_above : (t : List ThreadRecord) (LO HI lo hi i : ℕ) (l r : Tree) (z : List Frame) (o : Out Rooted)
+  rebuilt_above : (t : List ThreadRecord) (LO HI lo hi i : ℕ) (l r : Tree) (z : List Frame) (o :
+      Out (Result (Option ℕ) Damaged))
       → Frames ranks key t lo hi LO HI z → Roots ranks key t lo hi o (join l r)
       → Joined l i r (join l r) → height (node l i r) ≤ 40 → length z ≤ 40
-      → Roots ranks key t LO HI (on_rooted o (out rooted.Damaged) (λ sub t₁. rebuild (steps z) t₁ sub))
+      → Roots ranks key t LO HI (on_rooted o (out (Err damage)) (λ sub t₁. rebuild (steps z) t₁ sub))
       (remove_at z l r)
   unfolding on_rooted
   rebuilt_above t LO HI lo hi i l r z o p B J h k =
@@ -171,23 +170,25 @@ module _ (ranks key : ℕ → ℕ) where
       (away_after ranks key (key i) t lo hi LO HI z q.lt p))
 
   -- The call answered the root of x with the node of i taken out, and left that thread's links empty.
-  pub record Removes (t : List ThreadRecord) (LO HI : ℕ) (x : Tree) (i : ℕ) (o : Out Rooted) : Type 0 where
+  pub record Removes (t : List ThreadRecord) (LO HI : ℕ) (x : Tree) (i : ℕ) (o : Out (Result (Option ℕ) Damaged)) :
+      Type 0 where
     pub path : List Frame
     pub left : Tree
     pub right : Tree
     pub whole : plug path (node left i right) ≡ x
     pub subtree : Balanced (node left i right)
     pub roots : Roots ranks key t LO HI o (remove_at path left right)
-    pub empty : links_at roots.table i ≡ links.Got empty_links
+    pub empty : links_at roots.table i ≡ Ok empty_links
     pub gone : Away ranks key (key i) (in_order (remove_at path left right))
 
   -- Two calls one after the other, grouped either way.
-  then_then : (o : Out Rooted) (f g : Link → List ThreadRecord → Out Rooted)
-      → on_rooted (on_rooted o (out rooted.Damaged) f) (out rooted.Damaged) g
-      ≡ on_rooted o (out rooted.Damaged) (λ sub t. on_rooted (f sub t) (out rooted.Damaged) g)
+  then_then : (o : Out (Result (Option ℕ) Damaged)) (f g : Option ℕ → List ThreadRecord
+      → Out (Result (Option ℕ) Damaged))
+      → on_rooted (on_rooted o (out (Err damage)) f) (out (Err damage)) g
+      ≡ on_rooted o (out (Err damage)) (λ sub t. on_rooted (f sub t) (out (Err damage)) g)
   unfolding on_rooted
-  then_then (out (rooted.Root l) t) f g = refl
-  then_then (out rooted.Damaged t) f g = refl
+  then_then (out (Ok l) t) f g = refl
+  then_then (out (Err _) t) f g = refl
 
   remove_along : (t : List ThreadRecord) (LO HI : ℕ) (x : Tree) (i : ℕ) (a : TreeKey) → Read t i a → height x ≤ 40
       → LO ≤ key i → key i < HI

@@ -1,27 +1,20 @@
 -- What the proofs of the operations go by: a table represents a tree whose threads have ranks in an interval, so that
 -- what lies outside of the interval is not of the tree.
-use Rattle.std.specs.Prelude.{◌≡◌, ◌≢◌, List, [], ◌∷◌, ℕ, suc, ◌≤◌, ◌<◌, length, true, false}
+use Rattle.std.specs.Prelude.{◌≡◌, ◌≢◌, List, [], ◌∷◌, ℕ, suc, ◌≤◌, ◌<◌, length, true, false, Option, Some, Result, Ok}
 use Rattle.order.specs.Order.{compare_numbers}
 use Rattle.avl.specs.Tree.{Tree, leaf, node, height}
 use Rattle.avl.specs.Path.{Frame, left_of, right_of}
-use Rattle.thread.specs.declared.Link.{Link}
-use Rattle.thread.specs.declared.Link.TheVariants as link
 use Rattle.thread.specs.declared.Links.{Links}
 use Rattle.thread.specs.declared.TreeKey.{TreeKey}
 use Rattle.thread.specs.declared.ThreadRecord.{ThreadRecord}
 use Rattle.thread.specs.TreeKey.{compare_tree_keys}
-use Rattle.rows.specs.declared.KeyRead.TheVariants as read
-use Rattle.rows.specs.declared.LinksRead.TheVariants as links
-use Rattle.rotations.specs.declared.Turned.{Turned}
-use Rattle.rotations.specs.declared.Turned.TheVariants as turned
-use Rattle.ready_index.specs.declared.Rooted.{Rooted}
-use Rattle.ready_index.specs.declared.Rooted.TheVariants as rooted
 use Rattle.ready_index.specs.declared.Step.{Step}
 use Rattle.rows.specs.Table.{Out, out, links_at, key_at}
 use Rattle.sound_index.specs.Holds.{root, links_over, besides_links}
+use Rattle.refusal.specs.declared.Damaged.{Damaged}
 
 -- Links by their parts.
-abbrev pub links_by : Link → Link → ℕ → Links
+abbrev pub links_by : Option ℕ → Option ℕ → ℕ → Links
 links_by l r h = record { left = l; right = r; height = h }
 
 -- A thread of the tree.
@@ -33,13 +26,13 @@ pub data In (i : ℕ) : Tree → Type 0 where
 -- Keys of the table compare as these numbers.
 abbrev pub Compares : List ThreadRecord → (ℕ → ℕ) → Type 0
 Compares t ranks =
-    (i j : ℕ) (a b : TreeKey) → i < length t → j < length t → key_at t i ≡ read.Got a → key_at t j ≡ read.Got b
+    (i j : ℕ) (a b : TreeKey) → i < length t → j < length t → key_at t i ≡ Ok a → key_at t j ≡ Ok b
     → compare_tree_keys a b ≡ compare_numbers (ranks i) (ranks j)
 
 -- A key that was read, of a thread of the table.
 pub record Read (t : List ThreadRecord) (i : ℕ) (a : TreeKey) : Type 0 where
   pub inside : i < length t
-  pub key : key_at t i ≡ read.Got a
+  pub key : key_at t i ≡ Ok a
 
 -- Keys in strict order, from lo to below hi.
 abbrev pub Up : (ℕ → ℕ) → ℕ → ℕ → List ℕ → Type 0
@@ -60,7 +53,7 @@ module _ (ranks key : ℕ → ℕ) where
     ge : lo ≤ key i;
     lt : key i < hi;
     tie : ranks i ≡ key i;
-    cell : links_at t i ≡ links.Got (links_over l r);
+    cell : links_at t i ≡ Ok (links_over l r);
     left : Represents t lo (key i) l;
     right : Represents t (suc (key i)) hi r;
   }
@@ -71,7 +64,7 @@ module _ (ranks key : ℕ → ℕ) where
     pub ge : lo ≤ key i
     pub lt : key i < hi
     pub tie : ranks i ≡ key i
-    pub cell : links_at t i ≡ links.Got (links_by (root l) (root r) old)
+    pub cell : links_at t i ≡ Ok (links_by (root l) (root r) old)
     pub left : Represents t lo (key i) l
     pub right : Represents t (suc (key i)) hi r
 
@@ -97,44 +90,44 @@ module _ (ranks key : ℕ → ℕ) where
   Frames t lo hi LO HI [] = record { low : LO ≤ lo; high : hi ≤ HI }
   Frames t lo hi LO HI (left_of i r ∷ z) = record {
     end : ℕ;
-    link : Link;
+    link : Option ℕ;
     old : ℕ;
     hole : hi ≤ key i;
     ge : lo ≤ key i;
     lt : key i < end;
     small : height r < 100;
     tie : ranks i ≡ key i;
-    cell : links_at t i ≡ links.Got (links_by link (root r) old);
+    cell : links_at t i ≡ Ok (links_by link (root r) old);
     side : Represents t (suc (key i)) end r;
     up : Frames t lo end LO HI z;
   }
   Frames t lo hi LO HI (right_of l i ∷ z) = record {
     end : ℕ;
-    link : Link;
+    link : Option ℕ;
     old : ℕ;
     hole : key i < lo;
     ge : end ≤ key i;
     lt : key i < hi;
     small : height l < 100;
     tie : ranks i ≡ key i;
-    cell : links_at t i ≡ links.Got (links_by (root l) link old);
+    cell : links_at t i ≡ Ok (links_by (root l) link old);
     side : Represents t end (key i) l;
     up : Frames t end hi LO HI z;
   }
 
   -- A call answered the top of the tree x, which its table represents, and stored nothing outside.
-  pub record Turns (t : List ThreadRecord) (lo hi : ℕ) (o : Out Turned) (x : Tree) : Type 0 where
+  pub record Turns (t : List ThreadRecord) (lo hi : ℕ) (o : Out (Result ℕ Damaged)) (x : Tree) : Type 0 where
     pub table : List ThreadRecord
     pub top : ℕ
-    pub is : o ≡ out (turned.Root top) table
-    pub at_top : root x ≡ link.Some top
+    pub is : o ≡ out (Ok top) table
+    pub at_top : root x ≡ Some top
     pub represents : Represents table lo hi x
     pub kept : Kept t lo hi table
 
   -- The same of an answer that may be an empty tree.
-  pub record Roots (t : List ThreadRecord) (lo hi : ℕ) (o : Out Rooted) (x : Tree) : Type 0 where
+  pub record Roots (t : List ThreadRecord) (lo hi : ℕ) (o : Out (Result (Option ℕ) Damaged)) (x : Tree) : Type 0 where
     pub table : List ThreadRecord
-    pub is : o ≡ out (rooted.Root (root x)) table
+    pub is : o ≡ out (Ok (root x)) table
     pub represents : Represents table lo hi x
     pub kept : Kept t lo hi table
 

@@ -1,11 +1,10 @@
 -- Storing elsewhere keeps what a table represents, and one store at the top of two subtrees represents their node.
-use Rattle.std.specs.Prelude.{◌≡◌, refl, ◌≢◌, List, [], ◌∷◌, ℕ, suc, ◌≤◌, ◌<◌}
+use Rattle.std.specs.Prelude.{◌≡◌, refl, ◌≢◌, List, [], ◌∷◌, ℕ, suc, ◌≤◌, ◌<◌, Ok}
 use Rattle.std.proofs.Common.{ap, ◌∙◌, arith}
 use Rattle.avl.specs.Tree.{Tree, leaf, node}
 use Rattle.avl.specs.Path.{Frame, left_of, right_of}
 use Rattle.thread.specs.declared.Links.{Links}
 use Rattle.thread.specs.declared.ThreadRecord.{ThreadRecord}
-use Rattle.rows.specs.declared.LinksRead.TheVariants as links
 use Rattle.rows.specs.Table.{links_at}
 use Rattle.sound_index.specs.Holds.{stored, root, links_over}
 use Rattle.sound_index.specs.TableLaws.{stored_same, stored_other, stored_besides}
@@ -100,7 +99,7 @@ module _ (ranks key : ℕ → ℕ) where
   keep_above t lo hi s a b x k h = frame t s a b x (λ j p q. k.above j (omega arith))
 
   -- One node stored over two subtrees,
-  pub put : (t : List ThreadRecord) (lo hi : ℕ) (l : Tree) (i : ℕ) (r : Tree) (c : Links) → links_at t i ≡ links.Got c
+  pub put : (t : List ThreadRecord) (lo hi : ℕ) (l : Tree) (i : ℕ) (r : Tree) (c : Links) → links_at t i ≡ Ok c
       → ranks i ≡ key i → lo ≤ key i → key i < hi
       → Represents ranks key t lo (key i) l → Represents ranks key t (suc (key i)) hi r
       → Represents ranks key (stored t i (links_over l r)) lo hi (node l i r)
@@ -115,7 +114,7 @@ module _ (ranks key : ℕ → ℕ) where
 
   -- and the same with any height.
   pub put_opened : (t : List ThreadRecord) (lo hi : ℕ) (l : Tree) (i : ℕ) (r : Tree) (c : Links) (h : ℕ)
-      → links_at t i ≡ links.Got c → ranks i ≡ key i → lo ≤ key i → key i < hi
+      → links_at t i ≡ Ok c → ranks i ≡ key i → lo ≤ key i → key i < hi
       → Represents ranks key t lo (key i) l → Represents ranks key t (suc (key i)) hi r
       → Opened ranks key (stored t i (links_by (root l) (root r) h)) lo hi l i r
   put_opened t lo hi l i r c h e k a b p q = record {

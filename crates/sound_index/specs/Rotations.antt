@@ -1,5 +1,6 @@
 -- On a table that represents a tree, update, the rotations and balance do what those of trees do.
-use Rattle.std.specs.Prelude.{◌≡◌, List, Bool, ℕ, suc, ◌≤◌, ◌<◌, max, ltb}
+use Rattle.std.specs.Prelude.{◌≡◌, List, Bool, ℕ, suc, ◌≤◌, ◌<◌, max, ltb, Some, Ok, Err}
+use Rattle.refusal.specs.Answer.{damage}
 use Rattle.std.proofs.Math.Path.{refl}
 use Rattle.std.proofs.Common.{sym, ◌∙◌, arith, le_refl}
 use Rattle.std.proofs.Math.Bool.{true, false}
@@ -14,14 +15,9 @@ use Rattle.avl.specs.Tree as tree
 use Rattle.avl.specs.Rotation.{lean_of, on_lean, outward_left, outward_right, balance_by}
 use Rattle.avl.specs.Rotation as rotation
 use Rattle.avl.specs.RotationLaws.{Leans, leans}
-use Rattle.thread.specs.declared.Link.TheVariants as link
 use Rattle.thread.specs.declared.Links.{Links}
 use Rattle.thread.specs.declared.ThreadRecord.{ThreadRecord}
 use Rattle.thread.specs.Membership.{on_link}
-use Rattle.rows.specs.declared.LinksRead.TheVariants as links
-use Rattle.rotations.specs.declared.HeightRead.TheVariants as read
-use Rattle.rows.specs.declared.Change.TheVariants as change
-use Rattle.rotations.specs.declared.Turned.TheVariants as turned
 use Rattle.rows.specs.Table.{out, links_at, set_links}
 use Rattle.rows.specs.TableCases.{on_links, on_made}
 use Rattle.rotations.specs.Cases.{on_height, on_turned}
@@ -44,16 +40,16 @@ larger_max a b = go (ltb a b) refl
 module _ (ranks key : ℕ → ℕ) where
   -- The stored height is the tree's.
   pub height_is : (t : List ThreadRecord) (lo hi : ℕ) (x : Tree) → Represents ranks key t lo hi x
-      → height t (root x) ≡ read.Got (tree.height x)
+      → height t (root x) ≡ Ok (tree.height x)
   unfolding height on_link on_links
   height_is t lo hi leaf p = refl
   height_is t lo hi (node l i r) p = rw p.cell
 
   -- An update stores the node over its two sides.
   pub update_is : (t : List ThreadRecord) (lo hi lo' hi' : ℕ) (l : Tree) (i : ℕ) (r : Tree) (c : Links) (h : ℕ)
-      → links_at t i ≡ links.Got c
+      → links_at t i ≡ Ok c
       → Represents ranks key t lo hi l → Represents ranks key t lo' hi' r → max (tree.height l) (tree.height r) < 255
-      → update t i (links_by (root l) (root r) h) ≡ out change.Made (stored t i (links_over l r))
+      → update t i (links_by (root l) (root r) h) ≡ out (Ok tt) (stored t i (links_over l r))
   unfolding update on_height given if_less choose
   update_is t lo hi lo' hi' l i r c h e p q s =
       rw (
@@ -78,7 +74,7 @@ module _ (ranks key : ℕ → ℕ) where
       o.tie p.lt o.lt p.right o.right in
       let a₁ : Represents ranks key t₁ lo (key j) a = stored_above ranks key t lo (key j) i _ a (omega arith)
       p.left in
-      let e₁ : links_at t₁ j ≡ links.Got (links_over a b) = stored_other t i j _ (apart ranks key i j (omega arith))
+      let e₁ : links_at t₁ j ≡ Ok (links_over a b) = stored_other t i j _ (apart ranks key i j (omega arith))
       ∙ p.cell in
       record {
         table = t₂;
@@ -110,7 +106,7 @@ module _ (ranks key : ℕ → ℕ) where
       o.ge p.ge o.left p.left in
       let b₁ : Represents ranks key t₁ (suc (key j)) hi b = stored_below ranks key t (suc (key j)) hi i _ b
       (omega arith) p.right in
-      let e₁ : links_at t₁ j ≡ links.Got (links_over a b) = stored_other t i j _ (apart ranks key i j (omega arith))
+      let e₁ : links_at t₁ j ≡ Ok (links_over a b) = stored_other t i j _ (apart ranks key i j (omega arith))
       ∙ p.cell in
       record {
         table = t₂;
@@ -136,15 +132,15 @@ module _ (ranks key : ℕ → ℕ) where
       → Turns ranks key t lo (key i) (rotate_left t j) (node a k b) → tree.height a < 250 → tree.height b < 250
       → tree.height r < 250
       → Turns ranks key t lo hi
-      (on_turned (rotate_left t j) (out turned.Damaged)
-      (λ top t₁. on_made (set_links t₁ i (links_by (link.Some top) (root r) o.old)) (out turned.Damaged)
+      (on_turned (rotate_left t j) (out (Err damage))
+      (λ top t₁. on_made (set_links t₁ i (links_by (Some top) (root r) o.old)) (out (Err damage))
       (λ t₂. rotate_right t₂ i)))
       (node a k (node b i r))
   unfolding on_turned on_made
   double_right_lem t lo hi l i r j a k b o f ha hb hr =
-      let e₁ : links_at f.table i ≡ links.Got (links_by (root l) (root r) o.old) = f.kept.above i (le_refl _)
+      let e₁ : links_at f.table i ≡ Ok (links_by (root l) (root r) o.old) = f.kept.above i (le_refl _)
       ∙ o.cell in
-      let o₂ : Opened ranks key (stored f.table i (links_by (link.Some k) (root r) o.old)) lo hi (node a k b) i r =
+      let o₂ : Opened ranks key (stored f.table i (links_by (Some k) (root r) o.old)) lo hi (node a k b) i r =
       put_opened ranks key f.table lo hi (node a k b) i r _ o.old e₁ o.tie o.ge o.lt f.represents
       (keep_above ranks key t lo (key i) f.table (suc (key i)) hi r f.kept (omega arith) o.right) in
       let g = rotate_right_is _ lo hi a k b i r o₂ ha hb hr in
@@ -153,7 +149,7 @@ module _ (ranks key : ℕ → ℕ) where
         top = g.top;
         at_top = g.at_top;
         represents = g.represents;
-        is = rw (f.is, ← f.at_top, set_made f.table i (links_by (link.Some k) (root r) o.old) _ e₁) g.is;
+        is = rw (f.is, ← f.at_top, set_made f.table i (links_by (Some k) (root r) o.old) _ e₁) g.is;
         kept =
             kept_between ranks key t lo hi f.table i _ g.table lo (key i) o.ge o.lt (omega arith)
             (omega arith) f.kept g.kept;
@@ -164,8 +160,8 @@ module _ (ranks key : ℕ → ℕ) where
       → ltb (tree.height a) (tree.height b) ≡ s → tree.height (node a j b) < 200 → tree.height r < 200
       → Turns ranks key t lo hi
       (choose s
-      (on_turned (rotate_left t j) (out turned.Damaged)
-      (λ top t₁. on_made (set_links t₁ i (links_by (link.Some top) (root r) o.old)) (out turned.Damaged)
+      (on_turned (rotate_left t j) (out (Err damage))
+      (λ top t₁. on_made (set_links t₁ i (links_by (Some top) (root r) o.old)) (out (Err damage))
       (λ t₂. rotate_right t₂ i)))
       (rotate_right t i))
       (rotation.rotate_right (choose s (rotation.rotate_left a j b) (node a j b)) i r)
@@ -186,15 +182,15 @@ module _ (ranks key : ℕ → ℕ) where
       → Turns ranks key t (suc (key i)) hi (rotate_right t j) (node a k b) → tree.height l < 250 → tree.height a < 250
       → tree.height b < 250
       → Turns ranks key t lo hi
-      (on_turned (rotate_right t j) (out turned.Damaged)
-      (λ top t₁. on_made (set_links t₁ i (links_by (root l) (link.Some top) o.old)) (out turned.Damaged)
+      (on_turned (rotate_right t j) (out (Err damage))
+      (λ top t₁. on_made (set_links t₁ i (links_by (root l) (Some top) o.old)) (out (Err damage))
       (λ t₂. rotate_left t₂ i)))
       (node (node l i a) k b)
   unfolding on_turned on_made
   double_left_lem t lo hi l i r j a k b o f hl ha hb =
-      let e₁ : links_at f.table i ≡ links.Got (links_by (root l) (root r) o.old) = f.kept.below i (le_refl _)
+      let e₁ : links_at f.table i ≡ Ok (links_by (root l) (root r) o.old) = f.kept.below i (le_refl _)
       ∙ o.cell in
-      let o₂ : Opened ranks key (stored f.table i (links_by (root l) (link.Some k) o.old)) lo hi l i (node a k b) =
+      let o₂ : Opened ranks key (stored f.table i (links_by (root l) (Some k) o.old)) lo hi l i (node a k b) =
       put_opened ranks key f.table lo hi l i (node a k b) _ o.old e₁ o.tie o.ge o.lt
       (keep_below ranks key t (suc (key i)) hi f.table lo (key i) l f.kept (omega arith) o.left)
       f.represents in
@@ -204,7 +200,7 @@ module _ (ranks key : ℕ → ℕ) where
         top = g.top;
         at_top = g.at_top;
         represents = g.represents;
-        is = rw (f.is, ← f.at_top, set_made f.table i (links_by (root l) (link.Some k) o.old) _ e₁) g.is;
+        is = rw (f.is, ← f.at_top, set_made f.table i (links_by (root l) (Some k) o.old) _ e₁) g.is;
         kept =
             kept_between ranks key t lo hi f.table i _ g.table (suc (key i)) hi o.ge o.lt (omega arith)
             (omega arith) f.kept g.kept;
@@ -215,8 +211,8 @@ module _ (ranks key : ℕ → ℕ) where
       → ltb (tree.height b) (tree.height a) ≡ s → tree.height l < 200 → tree.height (node a j b) < 200
       → Turns ranks key t lo hi
       (choose s
-      (on_turned (rotate_right t j) (out turned.Damaged)
-      (λ top t₁. on_made (set_links t₁ i (links_by (root l) (link.Some top) o.old)) (out turned.Damaged)
+      (on_turned (rotate_right t j) (out (Err damage))
+      (λ top t₁. on_made (set_links t₁ i (links_by (root l) (Some top) o.old)) (out (Err damage))
       (λ t₂. rotate_left t₂ i)))
       (rotate_left t i))
       (rotation.rotate_left l i (choose s (rotation.rotate_right a j b) (node a j b)))
@@ -233,7 +229,7 @@ module _ (ranks key : ℕ → ℕ) where
   balance_left_is : (t : List ThreadRecord) (lo hi : ℕ) (a : Tree) (j : ℕ) (b : Tree) (i : ℕ) (r : Tree)
       (o : Opened ranks key t lo hi (node a j b) i r)
       → tree.height (node a j b) < 200 → tree.height r < 200
-      → Turns ranks key t lo hi (balance_left t i (links_by (link.Some j) (root r) o.old))
+      → Turns ranks key t lo hi (balance_left t i (links_by (Some j) (root r) o.old))
       (rotation.rotate_right (outward_left (node a j b)) i r)
   unfolding balance_left on_link on_links on_height if_less outward_left
   balance_left_is t lo hi a j b i r o hl hr =
@@ -243,7 +239,7 @@ module _ (ranks key : ℕ → ℕ) where
   balance_right_is : (t : List ThreadRecord) (lo hi : ℕ) (l : Tree) (i : ℕ) (a : Tree) (j : ℕ) (b : Tree)
       (o : Opened ranks key t lo hi l i (node a j b))
       → tree.height l < 200 → tree.height (node a j b) < 200
-      → Turns ranks key t lo hi (balance_right t i (links_by (root l) (link.Some j) o.old))
+      → Turns ranks key t lo hi (balance_right t i (links_by (root l) (Some j) o.old))
       (rotation.rotate_left l i (outward_right (node a j b)))
   unfolding balance_right on_link on_links on_height if_less outward_right
   balance_right_is t lo hi l i a j b o hl hr =
@@ -260,7 +256,7 @@ module _ (ranks key : ℕ → ℕ) where
       → Turns ranks key t lo hi
       (on_lean s (balance_left t i (links_by (root l) (root r) o.old))
       (balance_right t i (links_by (root l) (root r) o.old))
-      (on_made (update t i (links_by (root l) (root r) o.old)) (out turned.Damaged) (λ t₁. out (turned.Root i) t₁)))
+      (on_made (update t i (links_by (root l) (root r) o.old)) (out (Err damage)) (λ t₁. out (Ok i) t₁)))
       (balance_by s l i r)
   unfolding on_lean balance_by on_made
   balance_by_is Left t lo hi leaf i r o k hl hr = absurd (omega arith)

@@ -1,5 +1,8 @@
 -- Laws of reading and storing by number, on top of those of crate rows.
-use Rattle.std.specs.Prelude.{◌≡◌, refl, List, [], ◌∷◌, map, ◌≢◌, ℕ, zero, suc, ◌<◌, ◌≤◌, length, get_or, set}
+use Rattle.std.specs.Prelude.{◌≡◌, refl, List, [], ◌∷◌, map, ◌≢◌, ℕ, zero, suc, ◌<◌, ◌≤◌, length, get_or, set, Ok, Err}
+use Rattle.std.specs.Prelude.{Result}
+use Rattle.refusal.specs.declared.Damaged.{Damaged}
+use Rattle.refusal.specs.Answer.{damage}
 use Rattle.std.proofs.Common.{sym, ap, ◌∙◌, arith}
 use Rattle.std.proofs.Math.Decide.{dec_le}
 use Rattle.std.proofs.lemmas.List.{length-map}
@@ -12,49 +15,45 @@ use Rattle.thread.specs.Membership.{empty_links}
 use Rattle.thread.specs.Records.{with_links}
 use Rattle.thread.specs.TreeKey.{ready_index_key, tree_key}
 use Rattle.codec.specs.Codec.{decoded}
-use Rattle.rows.specs.declared.LinksRead.TheVariants as links
-use Rattle.rows.specs.declared.KeyRead.TheVariants as key
-use Rattle.rows.specs.declared.RecordRead.TheVariants as read
-use Rattle.rows.specs.declared.Change.TheVariants as change
 use Rattle.rows.specs.Table.{out, record_of, changed, reading, links_at, key_at, record_at, set_links}
 use Rattle.rows.specs.TableLaws.{reading_same, reading_other, links_within, links_got_within, key_within}
 use Rattle.rows.specs.TableLaws.{record_within, record_beyond, set_links_within}
 use Rattle.sound_index.specs.Holds.{stored, besides_links}
 
 -- A record of the table has links.
-pub inside_links : (t : List ThreadRecord) (i : ℕ) → i < length t → (l : Links) × (links_at t i ≡ links.Got l)
+pub inside_links : (t : List ThreadRecord) (i : ℕ) → i < length t → (l : Links) × (links_at t i ≡ Ok l)
 inside_links t i h = (_, links_within t i h)
 
 -- A record of the table has a key.
-pub inside_key : (t : List ThreadRecord) (i : ℕ) → i < length t → (k : TreeKey) × (key_at t i ≡ key.Got k)
+pub inside_key : (t : List ThreadRecord) (i : ℕ) → i < length t → (k : TreeKey) × (key_at t i ≡ Ok k)
 inside_key t i h = (_, key_within t i h)
 
 -- A record's key ends with its number.
-pub key_id : (t : List ThreadRecord) (i : ℕ) (k : TreeKey) → i < length t → key_at t i ≡ key.Got k → k.id ≡ i
+pub key_id : (t : List ThreadRecord) (i : ℕ) (k : TreeKey) → i < length t → key_at t i ≡ Ok k → k.id ≡ i
 unfolding ready_index_key tree_key
 key_id t i k h e =
-    let z : key.Got (ready_index_key (record_of t i) i) ≡ key.Got k = sym (key_within t i h) ∙ e in
+    let z : Ok (ready_index_key (record_of t i) i) ≡ Ok k = sym (key_within t i h) ∙ e in
     let y : ready_index_key (record_of t i) i ≡ k = cc in
     ap (λ (q : TreeKey). q.id) (sym y)
 
 -- A store into the table is made.
-pub set_made : (t : List ThreadRecord) (i : ℕ) (l m : Links) → links_at t i ≡ links.Got m
-    → set_links t i l ≡ out change.Made (stored t i l)
+pub set_made : (t : List ThreadRecord) (i : ℕ) (l m : Links) → links_at t i ≡ Ok m
+    → set_links t i l ≡ out (Ok tt) (stored t i l)
 set_made t i l m e = set_links_within t i l (links_got_within t i e)
 
 -- The stored links are read back.
-pub stored_same : (t : List ThreadRecord) (i : ℕ) (l m : Links) → links_at t i ≡ links.Got m
-    → links_at (stored t i l) i ≡ links.Got l
+pub stored_same : (t : List ThreadRecord) (i : ℕ) (l m : Links) → links_at t i ≡ Ok m
+    → links_at (stored t i l) i ≡ Ok l
 unfolding links_at
 stored_same t i l m e =
-    reading_same t i (with_links l) (λ (r : ThreadRecord). links.Got r.ready_tree) links.Damaged
+    reading_same t i (with_links l) (λ (r : ThreadRecord). Ok r.ready_tree) (Err damage)
     (links_got_within t i e)
 
 -- The links of other records stay.
 pub stored_other : (t : List ThreadRecord) (i j : ℕ) (l : Links) → j ≢ i → links_at (stored t i l) j ≡ links_at t j
 unfolding links_at
 stored_other t i j l h =
-    reading_other t i (with_links l) (λ (r : ThreadRecord). links.Got r.ready_tree) links.Damaged j h
+    reading_other t i (with_links l) (λ (r : ThreadRecord). Ok r.ready_tree) (Err damage) j h
 
 set_besides : (t : List ThreadRecord) (i : ℕ) (l : Links) (d : ThreadRecord)
     → map (with_links empty_links) (set t i (with_links l (get_or t i d))) ≡ map (with_links empty_links) t
@@ -87,9 +86,9 @@ besides_record t s i e =
 pub besides_key : (t s : List ThreadRecord) (i : ℕ) → besides_links s ≡ besides_links t → key_at s i ≡ key_at t i
 unfolding key_at reading ready_index_key
 besides_key t s i e =
-    let k : key.Got (ready_index_key (record_of s i) i)
-    ≡ key.Got (ready_index_key (record_of t i) i) =
-    ap (λ (r : ThreadRecord). key.Got (ready_index_key r i)) (besides_record t s i e) in
+    let k : ◌≡◌ {A = Result TreeKey Damaged} (Ok (ready_index_key (record_of s i) i))
+    (Ok (ready_index_key (record_of t i) i)) =
+    ap (λ (r : ThreadRecord). Ok (ready_index_key r i)) (besides_record t s i e) in
     rw (besides_length t s e, k)
 
 -- A record is the same where its tree links are too.
@@ -100,13 +99,13 @@ same_record t s j e h = go (dec_le (suc j) (length t))
     go : Dec (suc j ≤ length t) → record_at s j ≡ record_at t j
     go (yes l) =
         let m : j < length s = omega (arith, besides_length t s e) in
-        let k : links.Got (record_of s j).ready_tree
-        ≡ links.Got (record_of t j).ready_tree = sym (links_within s j m) ∙ h ∙ links_within t j l in
+        let k : Ok (record_of s j).ready_tree
+        ≡ Ok (record_of t j).ready_tree = sym (links_within s j m) ∙ h ∙ links_within t j l in
         let n : (record_of s j).ready_tree ≡ (record_of t j).ready_tree = cc in
         let r : record_of s j ≡ record_of t j =
         ap (λ (x : ThreadRecord). with_links (record_of s j).ready_tree x) (besides_record t s j e)
         ∙ ap (λ (x : Links). with_links x (record_of t j)) n in
-        record_within s j m ∙ ap (λ (x : ThreadRecord). read.Got x) r ∙ sym (record_within t j l)
+        record_within s j m ∙ ap (λ (x : ThreadRecord). Ok x) r ∙ sym (record_within t j l)
     go (no l) =
         let m : length s ≤ j = omega (arith, besides_length t s e) in
         record_beyond s j m ∙ sym (record_beyond t j (omega arith))
@@ -117,10 +116,11 @@ got_record t s j l e = go (dec_le (suc j) (length s))
   where
     go : Dec (suc j ≤ length s) → (j < length s) × (record_of s j ≡ record_of t j)
     go (yes m) =
-        let k : read.Got (record_of s j) ≡ read.Got (record_of t j) = sym (record_within s j m) ∙ e
+        let k : Ok (record_of s j) ≡ Ok (record_of t j) = sym (record_within s j m) ∙ e
         ∙ record_within t j l in (m, cc)
     go (no m) =
-        let k : read.Damaged ≡ read.Got (record_of t j) = sym (record_beyond s j (omega arith)) ∙ e
+        let k : ◌≡◌ {A = Result ThreadRecord Damaged} (Err damage) (Ok (record_of t j)) =
+        sym (record_beyond s j (omega arith)) ∙ e
         ∙ record_within t j l in
         never cc
 
@@ -129,11 +129,11 @@ pub record_links : (t s : List ThreadRecord) (j : ℕ) → j < length t → reco
     → links_at s j ≡ links_at t j
 record_links t s j l e =
     let g = got_record t s j l e in links_within s j g.0
-    ∙ ap (λ (r : ThreadRecord). links.Got r.ready_tree) g.1 ∙ sym (links_within t j l)
+    ∙ ap (λ (r : ThreadRecord). Ok r.ready_tree) g.1 ∙ sym (links_within t j l)
 
 -- and its key.
 pub record_key : (t s : List ThreadRecord) (j : ℕ) → j < length t → record_at s j ≡ record_at t j
     → key_at s j ≡ key_at t j
 record_key t s j l e =
     let g = got_record t s j l e in key_within s j g.0
-    ∙ ap (λ (r : ThreadRecord). key.Got (ready_index_key r j)) g.1 ∙ sym (key_within t j l)
+    ∙ ap (λ (r : ThreadRecord). Ok (ready_index_key r j)) g.1 ∙ sym (key_within t j l)

@@ -1,6 +1,6 @@
 -- The calls on a list by itself that is in order: on up to 4,096 records, with a number of the table, they do what the
 -- queue's forms do (what is refused before that is in specs/Calls.antt).
-use Rattle.std.specs.Prelude.{◌≡◌, List, [], ◌∷◌, ◌++◌, ℕ, ◌≤◌, length}
+use Rattle.std.specs.Prelude.{◌≡◌, List, [], ◌∷◌, ◌++◌, ℕ, ◌≤◌, length, Ok}
 use Rattle.std.proofs.Common.{sym, subst}
 use Rattle.std.proofs.Math.Bool.{true}
 use Rattle.refusal.specs.Answer.{Answer}
@@ -8,7 +8,6 @@ use Rattle.thread.specs.declared.QueueMembership.{QueueMembership}
 use Rattle.thread.specs.declared.ThreadQueue.{ThreadQueue}
 use Rattle.thread.specs.declared.ThreadRecord.{ThreadRecord}
 use Rattle.thread.specs.Membership.{empty_queue_links}
-use Rattle.rows.specs.declared.QueueLinksRead.TheVariants as queue_links_read
 use Rattle.rows.specs.Table.{Out, after, queue_links_at, max_records}
 use Rattle.lists.specs.Calls.{push_call, push_front_call, remove_call}
 use Rattle.sound_lists.specs.Members.{has, without}
@@ -32,7 +31,7 @@ module _ {t : List ThreadRecord} {q : ThreadQueue} {members : List ℕ} {m : Que
 
   pub remove_call_holds : has id members ≡ true
       → Accepted t (remove_call t q id m) members id (without id members) m
-      × (queue_links_at (after (remove_call t q id m)) id ≡ queue_links_read.Got empty_queue_links)
+      × (queue_links_at (after (remove_call t q id m)) id ≡ Ok empty_queue_links)
   remove_call_holds h = subst (λ (x : Out (Answer ThreadQueue)). Accepted t x members id (without id members) m
-      × (queue_links_at (after x) id ≡ queue_links_read.Got empty_queue_links))
+      × (queue_links_at (after x) id ≡ Ok empty_queue_links))
       (sym (call_is t q id m n (member_below L id h)).2) (remove_holds id L h)

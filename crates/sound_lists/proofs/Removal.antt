@@ -1,20 +1,17 @@
 -- remove on a sound list: a thread of it is accepted, wherever it stands, and the list holds the others in the same
 -- order.
-use Rattle.std.specs.Prelude.{ℕ, ◌-◌, ◌≡◌, refl, true, false, ◌||◌, ◌≢◌, eqb}
+use Rattle.std.specs.Prelude.{ℕ, ◌-◌, ◌≡◌, refl, true, false, ◌||◌, ◌≢◌, eqb, Option, Some, None, Ok}
 use Rattle.std.proofs.Common.{arith, sym, ap, ◌∙◌, subst}
 use mathlib.Core.List.{List, [], ◌∷◌, ◌++◌}
 use borrow.Author.Tests.{ne_eqb}
 use Rattle.refusal.specs.Answer.{value}
 use Rattle.refusal.specs.Cases.{choose, if_equal}
-use Rattle.thread.specs.declared.Link.{Link}
-use Rattle.thread.specs.declared.Link.TheVariants as link
 use Rattle.thread.specs.declared.QueueLinks.{QueueLinks}
 use Rattle.thread.specs.declared.QueueMembership.{QueueMembership}
 use Rattle.thread.specs.declared.ThreadQueue.{ThreadQueue}
 use Rattle.thread.specs.declared.ThreadRecord.{ThreadRecord}
 use Rattle.thread.specs.Membership.{on_link, empty_queue_links}
 use Rattle.thread.specs.MembershipLaws.{points_to_self, same_membership_self}
-use Rattle.rows.specs.declared.QueueLinksRead.TheVariants as queue_links_read
 use Rattle.rows.specs.Table.{out, after, changed, record_at, queue_links_at}
 use Rattle.rows.specs.TableCases.{on_queue_links}
 use Rattle.lists.specs.Checks.{previous_valid, next_valid, validate_neighbors}
@@ -32,85 +29,85 @@ use Rattle.sound_lists.specs.LinkedLaws.{linked_split, linked_join, linked_start
 use Rattle.sound_lists.specs.AcceptedLaws.{accepted_by}
 
 -- The table once the two neighbours p and n go past the thread.
-abbrev passed_over : List ThreadRecord → Link → Link → List ThreadRecord
+abbrev passed_over : List ThreadRecord → Option ℕ → Option ℕ → List ThreadRecord
 passed_over t p n = relinked_at (relinked_at t p (next_is n)) n (previous_is p)
 
-abbrev removed_table : List ThreadRecord → Link → Link → ℕ → List ThreadRecord
+abbrev removed_table : List ThreadRecord → Option ℕ → Option ℕ → ℕ → List ThreadRecord
 removed_table t p n id = changed (passed_over t p n) id (relinked (λ (k : QueueLinks). empty_queue_links))
 
-abbrev removed_list : Link → Link → Link → Link → ℕ → ThreadQueue
+abbrev removed_list : Option ℕ → Option ℕ → Option ℕ → Option ℕ → ℕ → ThreadQueue
 removed_list h x p n k = record { head = on_link p n (λ i. h); tail = on_link n p (λ i. x); len = k }
 
-unlink_is : (t : List ThreadRecord) (h x : Link) (old : ℕ) (p n : Link) (m : QueueMembership) (id k : ℕ)
+unlink_is : (t : List ThreadRecord) (h x : Option ℕ) (old : ℕ) (p n : Option ℕ) (m : QueueMembership) (id k : ℕ)
     → unlink t (record { head = h; tail = x; len = old }) (record { previous = p; next = n; membership = m }) id k
     ≡ out (removed_list h x p n k) (removed_table t p n id)
 unfolding unlink update_previous_link update_next_link on_link on_out relinked_at
-unlink_is t h x old link.None link.None m id k = rw (commit_remove_is t id)
-unlink_is t h x old link.None (link.Some j) m id k =
-    rw (set_previous_is t j link.None, commit_remove_is (changed t j (relinked (previous_is link.None))) id)
-unlink_is t h x old (link.Some i) link.None m id k =
-    rw (set_next_is t i link.None, commit_remove_is (changed t i (relinked (next_is link.None))) id)
-unlink_is t h x old (link.Some i) (link.Some j) m id k =
+unlink_is t h x old None None m id k = rw (commit_remove_is t id)
+unlink_is t h x old None (Some j) m id k =
+    rw (set_previous_is t j None, commit_remove_is (changed t j (relinked (previous_is None))) id)
+unlink_is t h x old (Some i) None m id k =
+    rw (set_next_is t i None, commit_remove_is (changed t i (relinked (next_is None))) id)
+unlink_is t h x old (Some i) (Some j) m id k =
     rw (
-      set_next_is t i (link.Some j),
-      set_previous_is (changed t i (relinked (next_is (link.Some j)))) j (link.Some i),
-      commit_remove_is (changed (changed t i (relinked (next_is (link.Some j)))) j
-          (relinked (previous_is (link.Some i)))) id,
+      set_next_is t i (Some j),
+      set_previous_is (changed t i (relinked (next_is (Some j)))) j (Some i),
+      commit_remove_is (changed (changed t i (relinked (next_is (Some j)))) j
+          (relinked (previous_is (Some i)))) id,
     )
 
 -- The ends after the removal.
-first_after : (a : List ℕ) (id : ℕ) (b : List ℕ) (h : Link) → h ≡ first_or (a ++ id ∷ b) link.None
-    → on_link (last_or link.None a) (first_or b link.None) (λ i. h) ≡ first_or (a ++ b) link.None
+first_after : (a : List ℕ) (id : ℕ) (b : List ℕ) (h : Option ℕ) → h ≡ first_or (a ++ id ∷ b) None
+    → on_link (last_or None a) (first_or b None) (λ i. h) ≡ first_or (a ++ b) None
 unfolding on_link
 first_after [] id b h e = refl
 first_after (k ∷ a) id b h e = let y = last_some k a in rw y.1 e
 
-last_after : (a : List ℕ) (id : ℕ) (b : List ℕ) (x : Link) → x ≡ last_or link.None (a ++ id ∷ b)
-    → on_link (first_or b link.None) (last_or link.None a) (λ i. x) ≡ last_or link.None (a ++ b)
+last_after : (a : List ℕ) (id : ℕ) (b : List ℕ) (x : Option ℕ) → x ≡ last_or None (a ++ id ∷ b)
+    → on_link (first_or b None) (last_or None a) (λ i. x) ≡ last_or None (a ++ b)
 unfolding on_link
-last_after a id [] x e = sym (last_append link.None a [])
-last_after a id (k ∷ b) x e = e ∙ last_append link.None a (id ∷ k ∷ b) ∙ sym (last_append link.None a (k ∷ b))
+last_after a id [] x e = sym (last_append None a [])
+last_after a id (k ∷ b) x e = e ∙ last_append None a (id ∷ k ∷ b) ∙ sym (last_append None a (k ∷ b))
 
 -- Both neighbours, or the list's ends, point to the thread.
-module _ (t : List ThreadRecord) (m : QueueMembership) (h x : Link) (old id : ℕ) where
-  previous_points : (a b : List ℕ) (n : Link) → h ≡ first_or (a ++ id ∷ b) link.None
-      → Linked (queue_links_at t) m link.None a (link.Some id)
+module _ (t : List ThreadRecord) (m : QueueMembership) (h x : Option ℕ) (old id : ℕ) where
+  previous_points : (a b : List ℕ) (n : Option ℕ) → h ≡ first_or (a ++ id ∷ b) None
+      → Linked (queue_links_at t) m None a (Some id)
       → previous_valid t (record { head = h; tail = x; len = old })
-      (record { previous = last_or link.None a; next = n; membership = m }) id ≡ true
+      (record { previous = last_or None a; next = n; membership = m }) id ≡ true
   unfolding previous_valid on_link on_queue_links
   previous_points [] b n e l = rw e (points_to_self id)
   previous_points (k ∷ a) b n e l =
       let y = last_some k a in
-      rw (y.1, (last_links (queue_links_at t) m link.None (k ∷ a) (link.Some id) y.0 l y.1).1) (points_to_self id)
+      rw (y.1, (last_links (queue_links_at t) m None (k ∷ a) (Some id) y.0 l y.1).1) (points_to_self id)
 
-  next_points : (a b : List ℕ) (p : Link) → x ≡ last_or link.None (a ++ id ∷ b)
-      → Linked (queue_links_at t) m (link.Some id) b link.None
+  next_points : (a b : List ℕ) (p : Option ℕ) → x ≡ last_or None (a ++ id ∷ b)
+      → Linked (queue_links_at t) m (Some id) b None
       → next_valid t (record { head = h; tail = x; len = old })
-      (record { previous = p; next = first_or b link.None; membership = m }) id ≡ true
+      (record { previous = p; next = first_or b None; membership = m }) id ≡ true
   unfolding next_valid on_link on_queue_links
-  next_points a [] p e l = rw (e ∙ last_append link.None a (id ∷ [])) (points_to_self id)
+  next_points a [] p e l = rw (e ∙ last_append None a (id ∷ [])) (points_to_self id)
   next_points a (k ∷ b) p e l = rw l.here (points_to_self id)
 
 module _ {t : List ThreadRecord} {q : ThreadQueue} {m : QueueMembership} (a : List ℕ) (id : ℕ) (b : List ℕ)
     (L : HoldsList t q (a ++ id ∷ b) m) where
-  sides : Linked (queue_links_at t) m link.None a (link.Some id)
-      × Linked (queue_links_at t) m (last_or link.None a) (id ∷ b) link.None
-  sides = linked_split (queue_links_at t) m link.None a (id ∷ b) link.None L.linked
+  sides : Linked (queue_links_at t) m None a (Some id)
+      × Linked (queue_links_at t) m (last_or None a) (id ∷ b) None
+  sides = linked_split (queue_links_at t) m None a (id ∷ b) None L.linked
 
   valid : validate_neighbors t q (record {
-    previous = last_or link.None a;
-    next = first_or b link.None;
+    previous = last_or None a;
+    next = first_or b None;
     membership = m;
   })
       id ≡ true
   unfolding validate_neighbors choose
   valid =
-      rw (previous_points t m q.head q.tail q.len id a b (first_or b link.None) L.head sides.0)
-      (next_points t m q.head q.tail q.len id a b (last_or link.None a) L.tail sides.1.rest)
+      rw (previous_points t m q.head q.tail q.len id a b (first_or b None) L.head sides.0)
+      (next_points t m q.head q.tail q.len id a b (last_or None a) L.tail sides.1.rest)
 
   remove_is : remove t q id m
-      ≡ out (value (removed_list q.head q.tail (last_or link.None a) (first_or b link.None) (q.len - 1)))
-      (removed_table t (last_or link.None a) (first_or b link.None) id)
+      ≡ out (value (removed_list q.head q.tail (last_or None a) (first_or b None) (q.len - 1)))
+      (removed_table t (last_or None a) (first_or b None) id)
   unfolding remove on_queue_links choose if_equal on_out
   remove_is =
       rw (
@@ -118,33 +115,33 @@ module _ {t : List ThreadRecord} {q : ThreadQueue} {m : QueueMembership} (a : Li
         same_membership_self m,
         ne_eqb q.len 0 (λ z. let n = L.len in let k = length_parts id a b in omega arith),
         valid,
-        unlink_is t q.head q.tail q.len (last_or link.None a) (first_or b link.None) m id (q.len - 1),
+        unlink_is t q.head q.tail q.len (last_or None a) (first_or b None) m id (q.len - 1),
       )
 
-  not_last : (j : ℕ) → has j a ≡ false → last_or link.None a ≢ link.Some j
+  not_last : (j : ℕ) → has j a ≡ false → last_or None a ≢ Some j
   not_last j o y = not_both (has j a) (last_member a j y) o
 
-  not_first : (j : ℕ) → has j b ≡ false → first_or b link.None ≢ link.Some j
+  not_first : (j : ℕ) → has j b ≡ false → first_or b None ≢ Some j
   not_first j o y = not_both (has j b) (first_member b j y) o
 
-  removed_linked : Linked (queue_links_at (removed_table t (last_or link.None a) (first_or b link.None) id)) m link.None
-      (a ++ b) link.None
+  removed_linked : Linked (queue_links_at (removed_table t (last_or None a) (first_or b None) id)) m None
+      (a ++ b) None
   removed_linked =
-      let p = last_or link.None a in
-      let n = first_or b link.None in
+      let p = last_or None a in
+      let n = first_or b None in
       let P = parts a id b L.distinct in
       let u = relinked_at t p (next_is n) in
       let v = passed_over t p n in
       let g : QueueLinks → QueueLinks = λ k. empty_queue_links in
-      linked_join (queue_links_at (removed_table t p n id)) m link.None a b link.None
-      (linked_end (queue_links_at t) (queue_links_at (removed_table t p n id)) m link.None a (link.Some id) n P.left
+      linked_join (queue_links_at (removed_table t p n id)) m None a b None
+      (linked_end (queue_links_at t) (queue_links_at (removed_table t p n id)) m None a (Some id) n P.left
       (λ j z y. links_relinked_other v id g j (apart j id a z P.not_left)
       ∙ links_at_other u n (previous_is p) j (not_first j (P.across j z)) ∙ links_at_other t p (next_is n) j y)
       (λ j l y e. links_relinked_other v id g j (apart j id a (last_member a j y) P.not_left)
       ∙ links_at_other u n (previous_is p) j (not_first j (P.across j (last_member a j y)))
       ∙ links_at_same t p (next_is n) j y e)
       sides.0)
-      (linked_start (queue_links_at t) (queue_links_at (removed_table t p n id)) m (link.Some id) p b link.None P.right
+      (linked_start (queue_links_at t) (queue_links_at (removed_table t p n id)) m (Some id) p b None P.right
       (λ j z y. links_relinked_other v id g j (apart j id b z P.not_right) ∙ links_at_other u n (previous_is p) j y
       ∙ links_at_other t p (next_is n) j (apart_left P j z))
       (λ j l y e. links_relinked_other v id g j (apart j id b (first_member b j y) P.not_right)
@@ -152,15 +149,15 @@ module _ {t : List ThreadRecord} {q : ThreadQueue} {m : QueueMembership} (a : Li
       (links_at_other t p (next_is n) j (apart_left P j (first_member b j y)) ∙ e))
       sides.1.rest)
     where
-      apart_left : Parts a id b → (j : ℕ) → has j b ≡ true → last_or link.None a ≢ link.Some j
+      apart_left : Parts a id b → (j : ℕ) → has j b ≡ true → last_or None a ≢ Some j
       apart_left P j z y = not_both (has j b) z (P.across j (last_member a j y))
 
   -- The removed record is in no list and has no neighbours.
-  removed_empty : queue_links_at (removed_table t (last_or link.None a) (first_or b link.None) id) id
-      ≡ queue_links_read.Got empty_queue_links
+  removed_empty : queue_links_at (removed_table t (last_or None a) (first_or b None) id) id
+      ≡ Ok empty_queue_links
   removed_empty =
-      let p = last_or link.None a in
-      let n = first_or b link.None in
+      let p = last_or None a in
+      let n = first_or b None in
       let P = parts a id b L.distinct in
       let g : QueueLinks → QueueLinks = λ k. empty_queue_links in
       links_relinked_same (passed_over t p n) id g
@@ -168,11 +165,11 @@ module _ {t : List ThreadRecord} {q : ThreadQueue} {m : QueueMembership} (a : Li
       ∙ links_at_other t p (next_is n) id (not_last id P.not_left) ∙ sides.1.here)
 
   removed_others : (j : ℕ) → has j (a ++ id ∷ b) ≡ false → j ≢ id
-      → (record_at (removed_table t (last_or link.None a) (first_or b link.None) id) j ≡ record_at t j)
-      × (queue_links_at (removed_table t (last_or link.None a) (first_or b link.None) id) j ≡ queue_links_at t j)
+      → (record_at (removed_table t (last_or None a) (first_or b None) id) j ≡ record_at t j)
+      × (queue_links_at (removed_table t (last_or None a) (first_or b None) id) j ≡ queue_links_at t j)
   removed_others j o d =
-      let p = last_or link.None a in
-      let n = first_or b link.None in
+      let p = last_or None a in
+      let n = first_or b None in
       let w = or_neither (has j a) (eqb j id || has j b) (sym (has_append j a (id ∷ b)) ∙ o) in
       let z = or_neither (eqb j id) (has j b) w.1 in
       let g : QueueLinks → QueueLinks = λ k. empty_queue_links in (
@@ -184,8 +181,8 @@ module _ {t : List ThreadRecord} {q : ThreadQueue} {m : QueueMembership} (a : Li
             ∙ links_at_other t p (next_is n) j (not_last j w.0),
       )
 
-  removed_holds : HoldsList (removed_table t (last_or link.None a) (first_or b link.None) id)
-      (removed_list q.head q.tail (last_or link.None a) (first_or b link.None) (q.len - 1)) (a ++ b) m
+  removed_holds : HoldsList (removed_table t (last_or None a) (first_or b None) id)
+      (removed_list q.head q.tail (last_or None a) (first_or b None) (q.len - 1)) (a ++ b) m
   removed_holds = record {
     head = first_after a id b q.head L.head;
     tail = last_after a id b q.tail L.tail;
@@ -195,10 +192,10 @@ module _ {t : List ThreadRecord} {q : ThreadQueue} {m : QueueMembership} (a : Li
   }
 
   remove_parts : Accepted t (remove t q id m) (a ++ id ∷ b) id (a ++ b) m
-      × (queue_links_at (after (remove t q id m)) id ≡ queue_links_read.Got empty_queue_links)
+      × (queue_links_at (after (remove t q id m)) id ≡ Ok empty_queue_links)
   remove_parts =
-      let p = last_or link.None a in
-      let n = first_or b link.None in
+      let p = last_or None a in
+      let n = first_or b None in
       let g : QueueLinks → QueueLinks = λ k. empty_queue_links in (
         accepted_by (removed_list q.head q.tail p n (q.len - 1)) (removed_table t p n id) remove_is removed_holds
             (rest_relinked (passed_over t p n) id g ∙ rest_at (relinked_at t p (next_is n)) n (previous_is p)
@@ -210,11 +207,11 @@ module _ {t : List ThreadRecord} {q : ThreadQueue} {m : QueueMembership} (a : Li
 pub remove_holds : {t : List ThreadRecord} {q : ThreadQueue} {members : List ℕ} {m : QueueMembership} (id : ℕ)
     → HoldsList t q members m → has id members ≡ true
     → Accepted t (remove t q id m) members id (without id members) m
-    × (queue_links_at (after (remove t q id m)) id ≡ queue_links_read.Got empty_queue_links)
+    × (queue_links_at (after (remove t q id m)) id ≡ Ok empty_queue_links)
 remove_holds {t} {q} {members} {m} id L h = let c = split_at id members h in go c.0 c.1 c.2
   where
     go : (a b : List ℕ) → members ≡ a ++ id ∷ b → Accepted t (remove t q id m) members id (without id members) m
-        × (queue_links_at (after (remove t q id m)) id ≡ queue_links_read.Got empty_queue_links)
+        × (queue_links_at (after (remove t q id m)) id ≡ Ok empty_queue_links)
     go a b e =
         let K : HoldsList t q (a ++ id ∷ b) m = subst (λ (s : List ℕ). HoldsList t q s m) e L in
         let P = parts a id b K.distinct in

@@ -1,19 +1,16 @@
 -- What the checks before a store find on a sound list, and how an accepted call comes to its conclusion.
-use Rattle.std.specs.Prelude.{ℕ, suc, ◌+◌, ◌≡◌, true, false, ◌≢◌, length}
+use Rattle.std.specs.Prelude.{ℕ, suc, ◌+◌, ◌≡◌, true, false, ◌≢◌, length, Option, None, Ok}
 use Rattle.std.proofs.Common.{arith, sym, ap, ◌∙◌, subst}
 use mathlib.Core.List.{List, [], ◌∷◌}
 use borrow.Author.Tests.{ne_eqb}
 use Rattle.refusal.specs.Answer.{Answer, value}
 use Rattle.refusal.specs.Cases.{choose, if_equal}
-use Rattle.thread.specs.declared.Link.{Link}
-use Rattle.thread.specs.declared.Link.TheVariants as link
 use Rattle.thread.specs.declared.QueueMembership.{QueueMembership}
 use Rattle.thread.specs.declared.QueueMembership.TheVariants as membership
 use Rattle.thread.specs.declared.ThreadQueue.{ThreadQueue}
 use Rattle.thread.specs.declared.ThreadRecord.{ThreadRecord}
 use Rattle.thread.specs.Membership.{on_link, on_membership, is_none, is_unqueued}
 use Rattle.thread.specs.MembershipLaws.{same_membership_self}
-use Rattle.rows.specs.declared.QueueLinksRead.TheVariants as queue_links_read
 use Rattle.rows.specs.Table.{Out, out, answer, after, record_at, queue_links_at}
 use Rattle.rows.specs.TableCases.{on_queue_links, on_record}
 use Rattle.rows.specs.TableLaws.{record_within}
@@ -49,27 +46,27 @@ unfolding is_unqueued on_membership
 unqueued_holds x e = rw e
 
 module _ (t : List ThreadRecord) (m : QueueMembership) where
-  head_agrees_lem : (k : ℕ) {n : Link}
-      → queue_links_at t k ≡ queue_links_read.Got (record { previous = link.None; next = n; membership = m })
+  head_agrees_lem : (k : ℕ) {n : Option ℕ}
+      → queue_links_at t k ≡ Ok (record { previous = None; next = n; membership = m })
       → head_agrees t k m ≡ true
   unfolding head_agrees on_queue_links choose is_none on_link
   head_agrees_lem k e = rw (e, same_membership_self m)
 
-  tail_agrees_lem : (k : ℕ) {p : Link}
-      → queue_links_at t k ≡ queue_links_read.Got (record { previous = p; next = link.None; membership = m })
+  tail_agrees_lem : (k : ℕ) {p : Option ℕ}
+      → queue_links_at t k ≡ Ok (record { previous = p; next = None; membership = m })
       → tail_agrees t k m ≡ true
   unfolding tail_agrees on_queue_links choose is_none on_link
   tail_agrees_lem k e = rw (e, same_membership_self m)
 
-  ends_agree_lem : (h x : Link) (n : ℕ) (s : List ℕ) → h ≡ first_or s link.None → x ≡ last_or link.None s → n ≡ length s
-      → Linked (queue_links_at t) m link.None s link.None
+  ends_agree_lem : (h x : Option ℕ) (n : ℕ) (s : List ℕ) → h ≡ first_or s None → x ≡ last_or None s → n ≡ length s
+      → Linked (queue_links_at t) m None s None
       → ends_agree t (record { head = h; tail = x; len = n }) m ≡ true
   unfolding ends_agree on_link if_equal choose
   ends_agree_lem h x n [] eh ex en q = rw (eh, ex, en)
   ends_agree_lem h x n (k ∷ s) eh ex en q =
       let y = last_some k s in
       rw (eh, ex, y.1, en, ne_eqb (suc (length s)) 0 (λ z. omega arith), head_agrees_lem k q.here)
-      (tail_agrees_lem y.0 (last_links (queue_links_at t) m link.None (k ∷ s) link.None y.0 q y.1).1)
+      (tail_agrees_lem y.0 (last_links (queue_links_at t) m None (k ∷ s) None y.0 q y.1).1)
 
 -- A thread that may join a sound list passes the checks.
 pub preflight_passes : {t : List ThreadRecord} {q : ThreadQueue} {members : List ℕ} {m : QueueMembership} (id : ℕ)

@@ -1,14 +1,12 @@
 -- What is outside a list may change in any way, and a list with no thread holds the empty sequence.
-use Rattle.std.specs.Prelude.{ℕ, ◌<◌, ◌≡◌, refl, true, false, List, [], ◌∷◌, length}
+use Rattle.std.specs.Prelude.{ℕ, ◌<◌, ◌≡◌, refl, true, false, List, [], ◌∷◌, length, Option, None, Ok, Err}
+use Rattle.refusal.specs.Answer.{damage}
 use Rattle.std.proofs.Common.{sym, ◌∙◌}
 use Rattle.thread.specs.declared.QueueMembership.{QueueMembership}
 use Rattle.thread.specs.declared.ThreadQueue.{ThreadQueue}
 use Rattle.thread.specs.declared.ThreadRecord.{ThreadRecord}
 use Rattle.thread.specs.Membership.{empty_queue, is_none}
 use Rattle.thread.specs.MembershipLaws.{is_none_true}
-use Rattle.thread.specs.declared.Link.{Link}
-use Rattle.thread.specs.declared.Link.TheVariants as link
-use Rattle.rows.specs.declared.QueueLinksRead.TheVariants as queue_links_read
 use Rattle.rows.specs.Table.{queue_links_at, changed}
 use Rattle.rows.specs.TableLaws.{reading_other, queue_links_got_within}
 use Rattle.sound_lists.specs.Members.{has, first_or}
@@ -26,21 +24,21 @@ module _ {t : List ThreadRecord} {q : ThreadQueue} {members : List ℕ} {m : Que
   pub no_head_no_thread : is_none q.head ≡ true → members ≡ []
   no_head_no_thread e = go members (sym L.head ∙ is_none_true q.head e)
     where
-      go : (s : List ℕ) → first_or s link.None ≡ link.None → s ≡ []
+      go : (s : List ℕ) → first_or s None ≡ None → s ≡ []
       go [] z = refl
       go (i ∷ s) z = absurd (some_not_none i z)
 
   -- Each thread of a list is a record of the table.
   pub member_below : (j : ℕ) → has j members ≡ true → j < length t
   member_below j h =
-      let l = member_links (queue_links_at t) m link.None members link.None j L.linked h in
+      let l = member_links (queue_links_at t) m None members None j L.linked h in
       queue_links_got_within t j l.2
 
   -- Each thread of a list has the list's membership.
   pub member_of : (j : ℕ) → has j members ≡ true
-      → (p : Link) × (n : Link) × (queue_links_at t j
-      ≡ queue_links_read.Got (record { previous = p; next = n; membership = m }))
-  member_of j h = member_links (queue_links_at t) m link.None members link.None j L.linked h
+      → (p : Option ℕ) × (n : Option ℕ) × (queue_links_at t j
+      ≡ Ok (record { previous = p; next = n; membership = m }))
+  member_of j h = member_links (queue_links_at t) m None members None j L.linked h
 
   -- A table in which the members' links are as they were holds the same list.
   pub holds_frame : (t' : List ThreadRecord)
@@ -50,7 +48,7 @@ module _ {t : List ThreadRecord} {q : ThreadQueue} {members : List ℕ} {m : Que
     head = L.head;
     tail = L.tail;
     len = L.len;
-    linked = linked_frame (queue_links_at t) (queue_links_at t') m link.None members link.None h L.linked;
+    linked = linked_frame (queue_links_at t) (queue_links_at t') m None members None h L.linked;
     distinct = L.distinct;
   }
 
@@ -59,5 +57,5 @@ module _ {t : List ThreadRecord} {q : ThreadQueue} {members : List ℕ} {m : Que
       → HoldsList (changed t id f) q members m
   unfolding queue_links_at
   holds_outside id f o = holds_frame (changed t id f)
-      (λ j h. reading_other t id f (λ (r : ThreadRecord). queue_links_read.Got r.queue_links) queue_links_read.Damaged j
+      (λ j h. reading_other t id f (λ (r : ThreadRecord). Ok r.queue_links) (Err damage) j
       (apart j id members h o))

@@ -1,24 +1,18 @@
 -- On any table, damaged ones too: where the checks pass, every number that is stored to afterwards lies inside the
 -- table, so the source's halts after its checks are never reached.
 use Prim.Native.Nat.{ℕ, ◌+◌, ◌<◌}
-use Rattle.std.specs.Prelude.{◌≡◌, Bool, List, eqb}
+use Rattle.std.specs.Prelude.{◌≡◌, Bool, List, eqb, Option, Some, None, Result, Ok, Err}
 use Rattle.std.proofs.Math.Path.{refl}
 use Rattle.std.proofs.Common.{sym}
 use Rattle.std.proofs.Math.Bool.{true, false}
 use Rattle.std.proofs.Math.ListN.{length}
 use Rattle.refusal.specs.Answer.{Answer, value, refused, damaged, bad_state, already}
 use Rattle.refusal.specs.Cases.{never, choose, if_equal}
-use Rattle.thread.specs.declared.Link.{Link}
-use Rattle.thread.specs.declared.Link.TheVariants as link
 use Rattle.thread.specs.declared.QueueLinks.{QueueLinks}
 use Rattle.thread.specs.declared.QueueMembership.{QueueMembership}
 use Rattle.thread.specs.declared.ThreadQueue.{ThreadQueue}
 use Rattle.thread.specs.declared.ThreadRecord.{ThreadRecord}
 use Rattle.thread.specs.Membership.{on_link, is_none, is_unqueued, points_to, same_membership}
-use Rattle.rows.specs.declared.QueueLinksRead.{QueueLinksRead}
-use Rattle.rows.specs.declared.QueueLinksRead.TheVariants as queue_links_read
-use Rattle.rows.specs.declared.RecordRead.{RecordRead}
-use Rattle.rows.specs.declared.RecordRead.TheVariants as read
 use Rattle.rows.specs.Table.{record_at, queue_links_at}
 use Rattle.rows.specs.TableCases.{on_queue_links, on_record}
 use Rattle.rows.specs.TableLaws.{queue_links_got_within, record_got_within}
@@ -26,6 +20,7 @@ use Rattle.lists.specs.Checks.{max_length, assigned_to, head_agrees, tail_agrees
 use Rattle.lists.specs.Checks.{previous_valid, next_valid, validate_neighbors}
 use Rattle.sound_lists.specs.MembersLaws.{not_both}
 use Rattle.sound_lists.specs.Sound.{Inside}
+use Rattle.refusal.specs.declared.Damaged.{Damaged}
 
 -- A test that passes, taken apart.
 both_hold : (b x : Bool) → choose b x false ≡ true → (b ≡ true) × (x ≡ true)
@@ -56,14 +51,14 @@ unfolding choose
 agreed true x k n e = refl
 agreed false x k n e = value_not_refused (sym e)
 
-no_number : {A : Type 0} {j : ℕ} → link.None ≡ link.Some j → A
+no_number : {A : Type 0} {j : ℕ} → None ≡ Some j → A
 no_number e = never cc
 
 module _ (t : List ThreadRecord) where
-  nothing_inside : Inside t link.None
+  nothing_inside : Inside t None
   nothing_inside j e = no_number e
 
-  number_inside : {i : ℕ} → i < length t → Inside t (link.Some i)
+  number_inside : {i : ℕ} → i < length t → Inside t (Some i)
   number_inside {i} h j e = let z : j ≡ i = cc in rw z h
 
   -- A number whose links were read and passed a test is inside.
@@ -71,9 +66,9 @@ module _ (t : List ThreadRecord) where
   unfolding on_queue_links
   read_inside j f e = go (queue_links_at t j) refl e
     where
-      go : (x : QueueLinksRead) → queue_links_at t j ≡ x → on_queue_links x false f ≡ true → j < length t
-      go (queue_links_read.Got l) k z = queue_links_got_within t j k
-      go queue_links_read.Damaged k z = not_both false z refl
+      go : (x : Result QueueLinks Damaged) → queue_links_at t j ≡ x → on_queue_links x false f ≡ true → j < length t
+      go (Ok l) k z = queue_links_got_within t j k
+      go (Err _) k z = not_both false z refl
 
   head_inside : (j : ℕ) (m : QueueMembership) → head_agrees t j m ≡ true → j < length t
   unfolding head_agrees
@@ -83,13 +78,13 @@ module _ (t : List ThreadRecord) where
   unfolding tail_agrees
   tail_inside j m e = read_inside j (λ l. choose (same_membership l.membership m) (is_none l.next) false) e
 
-  ends_inside : (h x : Link) (n : ℕ) (m : QueueMembership)
+  ends_inside : (h x : Option ℕ) (n : ℕ) (m : QueueMembership)
       → ends_agree t (record { head = h; tail = x; len = n }) m ≡ true → Inside t h × Inside t x
   unfolding ends_agree on_link if_equal
-  ends_inside link.None link.None n m e = (nothing_inside, nothing_inside)
-  ends_inside link.None (link.Some j) n m e = not_both false e refl
-  ends_inside (link.Some i) link.None n m e = not_both false e refl
-  ends_inside (link.Some i) (link.Some j) n m e =
+  ends_inside None None n m e = (nothing_inside, nothing_inside)
+  ends_inside None (Some j) n m e = not_both false e refl
+  ends_inside (Some i) None n m e = not_both false e refl
+  ends_inside (Some i) (Some j) n m e =
       let b = both_hold (head_agrees t i m) (tail_agrees t j m)
       (other_holds (eqb n 0) (choose (head_agrees t i m) (tail_agrees t j m) false) e) in
       (number_inside (head_inside i m b.0), number_inside (tail_inside j m b.1))
@@ -100,15 +95,15 @@ module _ (t : List ThreadRecord) where
   unfolding preflight_insert on_record if_equal
   insertion_inside q id m n e = go (record_at t id) refl e
     where
-      go : (x : RecordRead) → record_at t id ≡ x
+      go : (x : Result ThreadRecord Damaged) → record_at t id ≡ x
           → on_record x (refused damaged) (λ r. choose (is_unqueued r.queue_links.membership)
           (choose (assigned_to m r.cpu)
           (if_equal q.len max_length (refused damaged)
           (choose (ends_agree t q m) (value (q.len + 1)) (refused damaged))) (refused bad_state)) (refused already))
           ≡ value n
           → (id < length t) × Inside t q.head × Inside t q.tail
-      go read.Damaged k z = value_not_refused (sym z)
-      go (read.Got r) k z =
+      go (Err _) k z = value_not_refused (sym z)
+      go (Ok r) k z =
           let last : Answer ℕ = choose (ends_agree t q m) (value (q.len + 1)) (refused damaged) in
           let third : Answer ℕ = choose (eqb q.len max_length) (refused damaged) last in
           let second : Answer ℕ = choose (assigned_to m r.cpu) third (refused bad_state) in
@@ -118,17 +113,17 @@ module _ (t : List ThreadRecord) where
           let w = ends_inside q.head q.tail q.len m (agreed (ends_agree t q m) (value (q.len + 1)) 1 n d) in
           (record_got_within t id k, w.0, w.1)
 
-  previous_inside : (q : ThreadQueue) (p n : Link) (m : QueueMembership) (id : ℕ)
+  previous_inside : (q : ThreadQueue) (p n : Option ℕ) (m : QueueMembership) (id : ℕ)
       → previous_valid t q (record { previous = p; next = n; membership = m }) id ≡ true → Inside t p
   unfolding previous_valid on_link
-  previous_inside q link.None n m id e = nothing_inside
-  previous_inside q (link.Some i) n m id e = number_inside (read_inside i (λ k. points_to k.next id) e)
+  previous_inside q None n m id e = nothing_inside
+  previous_inside q (Some i) n m id e = number_inside (read_inside i (λ k. points_to k.next id) e)
 
-  next_inside : (q : ThreadQueue) (p n : Link) (m : QueueMembership) (id : ℕ)
+  next_inside : (q : ThreadQueue) (p n : Option ℕ) (m : QueueMembership) (id : ℕ)
       → next_valid t q (record { previous = p; next = n; membership = m }) id ≡ true → Inside t n
   unfolding next_valid on_link
-  next_inside q p link.None m id e = nothing_inside
-  next_inside q p (link.Some i) m id e = number_inside (read_inside i (λ k. points_to k.previous id) e)
+  next_inside q p None m id e = nothing_inside
+  next_inside q p (Some i) m id e = number_inside (read_inside i (λ k. points_to k.previous id) e)
 
   -- What `remove` stores to besides the thread, whose links were read: its two neighbours.
   pub removal_inside : (q : ThreadQueue) (l : QueueLinks) (id : ℕ) → validate_neighbors t q l id ≡ true

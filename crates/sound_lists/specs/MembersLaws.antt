@@ -1,11 +1,10 @@
 -- Laws of sequences of numbers: membership, ends, and a sequence in two parts about one of its numbers.
-use Rattle.std.specs.Prelude.{ℕ, suc, ◌≡◌, refl, Bool, true, false, ◌||◌, ◌≢◌, List, [], ◌∷◌, ◌++◌, eqb, length}
+use Rattle.std.specs.Prelude.{ℕ, suc, ◌≡◌, refl, Bool, true, false, ◌||◌, ◌≢◌, List, [], ◌∷◌, ◌++◌, eqb, length, Option}
+use Rattle.std.specs.Prelude.{Some, None}
 use Rattle.std.proofs.Common.{sym, ap, ◌∙◌, subst, eqb-true, eq-eqb, ne_eqb}
 use Rattle.std.proofs.Math.Bool.{or-true, or_assoc}
 use Rattle.std.proofs.lemmas.Bool.{eqb-false}
 use Rattle.refusal.specs.Cases.{never, choose}
-use Rattle.thread.specs.declared.Link.{Link}
-use Rattle.thread.specs.declared.Link.TheVariants as link
 use Rattle.sound_lists.specs.Members.{has, Distinct, first_or, last_or, without}
 
 pub or_left : (x y : Bool) → x ≡ true → (x || y) ≡ true
@@ -40,33 +39,33 @@ has_rest j i s h = or_right (eqb j i) (has j s) h
 pub apart : (j i : ℕ) (s : List ℕ) → has j s ≡ true → has i s ≡ false → j ≢ i
 apart j i s p q e = not_both (has i s) (subst (λ (n : ℕ). has n s ≡ true) e p) q
 
-pub some_not_none : (j : ℕ) → link.Some j ≢ link.None
+pub some_not_none : (j : ℕ) → Some j ≢ None
 some_not_none j e = never cc
 
 -- The end of a sequence that has a number is a number of it.
-pub last_some : (k : ℕ) (s : List ℕ) → (x : ℕ) × (last_or (link.Some k) s ≡ link.Some x)
+pub last_some : (k : ℕ) (s : List ℕ) → (x : ℕ) × (last_or (Some k) s ≡ Some x)
 last_some k [] = (k, refl)
 last_some k (j ∷ s) = last_some j s
 
-pub last_has : (k : ℕ) (s : List ℕ) (j : ℕ) → last_or (link.Some k) s ≡ link.Some j → has j (k ∷ s) ≡ true
+pub last_has : (k : ℕ) (s : List ℕ) (j : ℕ) → last_or (Some k) s ≡ Some j → has j (k ∷ s) ≡ true
 last_has k [] j y = or_left (eqb j k) false (eq-eqb j k (cc))
 last_has k (i ∷ s) j y = or_right (eqb j k) (has j (i ∷ s)) (last_has i s j y)
 
-pub last_member : (s : List ℕ) (j : ℕ) → last_or link.None s ≡ link.Some j → has j s ≡ true
+pub last_member : (s : List ℕ) (j : ℕ) → last_or None s ≡ Some j → has j s ≡ true
 last_member [] j y = absurd (some_not_none j (sym y))
 last_member (k ∷ s) j y = last_has k s j y
 
-pub first_member : (s : List ℕ) (j : ℕ) → first_or s link.None ≡ link.Some j → has j s ≡ true
+pub first_member : (s : List ℕ) (j : ℕ) → first_or s None ≡ Some j → has j s ≡ true
 first_member [] j y = absurd (some_not_none j (sym y))
 first_member (k ∷ s) j y = or_left (eqb j k) (has j s) (eq-eqb j k (cc))
 
-pub first_append : (a b : List ℕ) (e : Link) → first_or (a ++ b) e ≡ first_or a (first_or b e)
+pub first_append : (a b : List ℕ) (e : Option ℕ) → first_or (a ++ b) e ≡ first_or a (first_or b e)
 first_append [] b e = refl
 first_append (i ∷ a) b e = refl
 
-pub last_append : (p : Link) (a b : List ℕ) → last_or p (a ++ b) ≡ last_or (last_or p a) b
+pub last_append : (p : Option ℕ) (a b : List ℕ) → last_or p (a ++ b) ≡ last_or (last_or p a) b
 last_append p [] b = refl
-last_append p (i ∷ a) b = last_append (link.Some i) a b
+last_append p (i ∷ a) b = last_append (Some i) a b
 
 pub distinct_append : (s : List ℕ) (i : ℕ) → has i s ≡ false → Distinct s → Distinct (s ++ i ∷ [])
 distinct_append [] i h d = record { first = refl; rest = tt }

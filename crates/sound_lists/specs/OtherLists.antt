@@ -1,13 +1,13 @@
 -- Several lists in one table, each with its own membership: they share no thread, and a call on one leaves the others
 -- as they were.
-use Rattle.std.specs.Prelude.{ℕ, ◌≡◌, refl, Bool, true, false, ◌≢◌, List}
+use Rattle.std.specs.Prelude.{ℕ, ◌≡◌, refl, Bool, true, false, ◌≢◌, List, Ok, Result}
+use Rattle.refusal.specs.declared.Damaged.{Damaged}
 use Rattle.std.proofs.Common.{sym, ap, ◌∙◌}
 use Rattle.refusal.specs.Answer.{Answer}
 use Rattle.thread.specs.declared.QueueLinks.{QueueLinks}
 use Rattle.thread.specs.declared.QueueMembership.{QueueMembership}
 use Rattle.thread.specs.declared.ThreadQueue.{ThreadQueue}
 use Rattle.thread.specs.declared.ThreadRecord.{ThreadRecord}
-use Rattle.rows.specs.declared.QueueLinksRead.TheVariants as queue_links_read
 use Rattle.rows.specs.Table.{Out, after, record_of}
 use Rattle.rows.specs.TableLaws.{queue_links_within}
 use Rattle.sound_lists.specs.Members.{has}
@@ -21,7 +21,8 @@ outside_unless : (b : Bool) → (b ≡ true → ⊥) → b ≡ false
 outside_unless true h = absurd (h refl)
 outside_unless false h = refl
 
-same_membership_lem : {x y : QueueLinks} → queue_links_read.Got x ≡ queue_links_read.Got y → x.membership ≡ y.membership
+same_membership_lem : {x y : QueueLinks} → ◌≡◌ {A = Result QueueLinks Damaged} (Ok x) (Ok y)
+    → x.membership ≡ y.membership
 same_membership_lem {x} {y} e = ap (λ (l : QueueLinks). l.membership) (same_read x y e)
 
 module _ {t : List ThreadRecord} {q : ThreadQueue} {members : List ℕ} {m : QueueMembership}

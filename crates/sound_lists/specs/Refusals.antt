@@ -1,5 +1,5 @@
 -- On any table and any list: a call that is refused leaves the table as it was.
-use Rattle.std.specs.Prelude.{ℕ, ◌-◌, refl, Bool, List, eqb}
+use Rattle.std.specs.Prelude.{ℕ, ◌-◌, refl, Bool, List, eqb, Result, Ok, Err}
 use Rattle.std.proofs.Math.Bool.{true, false}
 use Rattle.refusal.specs.Answer.{Answer, value, refused, damaged}
 use Rattle.refusal.specs.Cases.{never, choose, if_equal}
@@ -8,13 +8,12 @@ use Rattle.thread.specs.declared.QueueMembership.{QueueMembership}
 use Rattle.thread.specs.declared.ThreadQueue.{ThreadQueue}
 use Rattle.thread.specs.declared.ThreadRecord.{ThreadRecord}
 use Rattle.thread.specs.Membership.{same_membership}
-use Rattle.rows.specs.declared.QueueLinksRead.{QueueLinksRead}
-use Rattle.rows.specs.declared.QueueLinksRead.TheVariants as queue_links_read
 use Rattle.rows.specs.Table.{Out, out, queue_links_at}
 use Rattle.rows.specs.TableCases.{on_queue_links}
 use Rattle.lists.specs.Checks.{preflight_insert, validate_neighbors}
 use Rattle.lists.specs.Lists.{on_answer, on_out, append, prepend, push, push_front, unlink, remove}
 use Rattle.sound_lists.specs.Sound.{KeptIfRefused}
+use Rattle.refusal.specs.declared.Damaged.{Damaged}
 
 module _ (t : List ThreadRecord) where
   kept_refused : (k : ℕ) → KeptIfRefused t (out (refused k) t)
@@ -37,11 +36,11 @@ module _ (t : List ThreadRecord) where
   kept_choice true x y p q = p
   kept_choice false x y p q = q
 
-  kept_read : (x : QueueLinksRead) (f : QueueLinks → Out (Answer ThreadQueue))
+  kept_read : (x : Result QueueLinks Damaged) (f : QueueLinks → Out (Answer ThreadQueue))
       → ((l : QueueLinks) → KeptIfRefused t (f l)) → KeptIfRefused t (on_queue_links x (out (refused damaged) t) f)
   unfolding on_queue_links
-  kept_read (queue_links_read.Got l) f h = h l
-  kept_read queue_links_read.Damaged f h = kept_refused damaged
+  kept_read (Ok l) f h = h l
+  kept_read (Err _) f h = kept_refused damaged
 
   module _ (q : ThreadQueue) (id : ℕ) (m : QueueMembership) where
     pub push_refused : KeptIfRefused t (push t q id m)

@@ -1,38 +1,36 @@
 -- What it means that a list in the table holds a sequence of threads, and what a call on it is to leave. For any table
 -- and any membership value, so that many lists may stand in one table.
-use Rattle.std.specs.Prelude.{ℕ, ◌<◌, ◌≡◌, true, false, ◌≢◌, List, [], ◌∷◌, map, length}
+use Rattle.std.specs.Prelude.{ℕ, ◌<◌, ◌≡◌, true, false, ◌≢◌, List, [], ◌∷◌, map, length, Option, Some, None, Result, Ok}
 use Rattle.refusal.specs.Answer.{Answer, value, refused}
-use Rattle.thread.specs.declared.Link.{Link}
-use Rattle.thread.specs.declared.Link.TheVariants as link
 use Rattle.thread.specs.declared.QueueMembership.{QueueMembership}
 use Rattle.thread.specs.declared.QueueMembership.TheVariants as membership
 use Rattle.thread.specs.declared.ThreadQueue.{ThreadQueue}
 use Rattle.thread.specs.declared.ThreadRecord.{ThreadRecord}
 use Rattle.thread.specs.Membership.{empty_queue_links}
 use Rattle.thread.specs.Records.{with_queue_links}
-use Rattle.rows.specs.declared.QueueLinksRead.{QueueLinksRead}
-use Rattle.rows.specs.declared.QueueLinksRead.TheVariants as queue_links_read
 use Rattle.rows.specs.Table.{Out, answer, after, record_of, record_at, queue_links_at}
 use Rattle.lists.specs.Checks.{max_length, assigned_to}
 use Rattle.sound_lists.specs.Members.{has, Distinct, first_or, last_or}
+use Rattle.thread.specs.declared.QueueLinks.{QueueLinks}
+use Rattle.refusal.specs.declared.Damaged.{Damaged}
 
 -- Each thread's links, as `links` gives them, are its neighbours and the list's membership; the first stands after p,
 -- the last before e.
-abbrev pub Linked : (ℕ → QueueLinksRead) → QueueMembership → Link → List ℕ → Link → Type 0
+abbrev pub Linked : (ℕ → Result QueueLinks Damaged) → QueueMembership → Option ℕ → List ℕ → Option ℕ → Type 0
 Linked links m p [] e = Unit {0}
 Linked links m p (i ∷ s) e = record {
-  here : links i ≡ queue_links_read.Got (record { previous = p; next = first_or s e; membership = m });
-  rest : Linked links m (link.Some i) s e;
+  here : links i ≡ Ok (record { previous = p; next = first_or s e; membership = m });
+  rest : Linked links m (Some i) s e;
 }
 
 -- The list holds just these threads, in this order: no one twice, head and tail the two ends, linked both ways, the
 -- length true. That each number is below the record count is part of `linked`: its links are read (`member_below` in
 -- Frame.antt).
 pub record HoldsList (t : List ThreadRecord) (q : ThreadQueue) (members : List ℕ) (m : QueueMembership) : Type 0 where
-  pub head : q.head ≡ first_or members link.None
-  pub tail : q.tail ≡ last_or link.None members
+  pub head : q.head ≡ first_or members None
+  pub tail : q.tail ≡ last_or None members
   pub len : q.len ≡ length members
-  pub linked : Linked (queue_links_at t) m link.None members link.None
+  pub linked : Linked (queue_links_at t) m None members None
   pub distinct : Distinct members
 
 -- A thread that may be inserted: it is in the table and not in the list, in no list by its membership, of the right
@@ -65,5 +63,5 @@ abbrev pub KeptIfRefused : List ThreadRecord → Out (Answer ThreadQueue) → Ty
 KeptIfRefused t x = (n : ℕ) → answer x ≡ refused n → after x ≡ t
 
 -- A link that, if it is a number, is one of the table's.
-abbrev pub Inside : List ThreadRecord → Link → Type 0
-Inside t x = (j : ℕ) → x ≡ link.Some j → j < length t
+abbrev pub Inside : List ThreadRecord → Option ℕ → Type 0
+Inside t x = (j : ℕ) → x ≡ Some j → j < length t

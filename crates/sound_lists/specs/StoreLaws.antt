@@ -1,20 +1,19 @@
 -- What each store does to the records' list links, and that it does nothing else. Every store is one record put through
 -- a function that changes its list links alone.
-use Rattle.std.specs.Prelude.{ℕ, zero, suc, ◌<◌, ◌≡◌, Bool, ◌≢◌, List, [], ◌∷◌, map, get_or, set}
+use Rattle.std.specs.Prelude.{ℕ, zero, suc, ◌<◌, ◌≡◌, Bool, ◌≢◌, List, [], ◌∷◌, map, get_or, set, Option, Some, None}
+use Rattle.std.specs.Prelude.{Ok, Err, Result}
+use Rattle.refusal.specs.declared.Damaged.{Damaged}
+use Rattle.refusal.specs.Answer.{damage}
 use Rattle.std.proofs.Math.Path.{refl}
 use Rattle.std.proofs.Common.{sym, ap, ◌∙◌, ltb-true, ltb-false}
 use Rattle.std.proofs.Math.Bool.{true, false}
 use Rattle.std.proofs.Math.Dec.{ltb}
 use Rattle.std.proofs.Math.ListN.{length}
-use Rattle.thread.specs.declared.Link.{Link}
-use Rattle.thread.specs.declared.Link.TheVariants as link
 use Rattle.thread.specs.declared.QueueLinks.{QueueLinks}
 use Rattle.thread.specs.declared.ThreadRecord.{ThreadRecord}
 use Rattle.thread.specs.Membership.{empty_queue_links}
 use Rattle.thread.specs.Records.{with_queue_links}
 use Rattle.codec.specs.Codec.{decoded}
-use Rattle.rows.specs.declared.QueueLinksRead.TheVariants as queue_links_read
-use Rattle.rows.specs.declared.RecordRead.TheVariants as read
 use Rattle.rows.specs.Table.{after, record_of, changed, record_at, queue_links_at, set_queue_links}
 use Rattle.rows.specs.TableCases.{on_queue_links}
 use Rattle.rows.specs.TableLaws.{after_set_queue_links, changed_beyond, reading_same, reading_other}
@@ -24,29 +23,29 @@ use Rattle.sound_lists.specs.Sound.{without_lists}
 use Rattle.sound_lists.specs.Stores.{next_is, previous_is, relinked, relinked_at}
 
 -- Two reads that are the same read the same links.
-pub same_read : (x y : QueueLinks) → queue_links_read.Got x ≡ queue_links_read.Got y → x ≡ y
+pub same_read : (x y : QueueLinks) → ◌≡◌ {A = Result QueueLinks Damaged} (Ok x) (Ok y) → x ≡ y
 same_read x y e = cc
 
 module _ (t : List ThreadRecord) (i : ℕ) (g : QueueLinks → QueueLinks) where
-  pub links_relinked_same : {l : QueueLinks} → queue_links_at t i ≡ queue_links_read.Got l
-      → queue_links_at (changed t i (relinked g)) i ≡ queue_links_read.Got (g l)
+  pub links_relinked_same : {l : QueueLinks} → queue_links_at t i ≡ Ok l
+      → queue_links_at (changed t i (relinked g)) i ≡ Ok (g l)
   unfolding queue_links_at
   links_relinked_same {l} e =
       let h : i < length t = queue_links_got_within t i e in
       let k : (record_of t i).queue_links ≡ l = same_read (record_of t i).queue_links l
       (sym (queue_links_within t i h) ∙ e) in
-      reading_same t i (relinked g) (λ (r : ThreadRecord). queue_links_read.Got r.queue_links) queue_links_read.Damaged
+      reading_same t i (relinked g) (λ (r : ThreadRecord). Ok r.queue_links) (Err damage)
       h ∙ rw k
 
   pub links_relinked_other : (j : ℕ) → j ≢ i → queue_links_at (changed t i (relinked g)) j ≡ queue_links_at t j
   unfolding queue_links_at
   links_relinked_other j h =
-      reading_other t i (relinked g) (λ (r : ThreadRecord). queue_links_read.Got r.queue_links) queue_links_read.Damaged
+      reading_other t i (relinked g) (λ (r : ThreadRecord). Ok r.queue_links) (Err damage)
       j h
 
   pub record_relinked_other : (j : ℕ) → j ≢ i → record_at (changed t i (relinked g)) j ≡ record_at t j
   unfolding record_at
-  record_relinked_other j h = reading_other t i (relinked g) (λ (r : ThreadRecord). read.Got r) read.Damaged j h
+  record_relinked_other j h = reading_other t i (relinked g) (λ (r : ThreadRecord). Ok r) (Err damage) j h
 
 -- The rest of every record stays as it was.
 rest_set : (t : List ThreadRecord) (i : ℕ) (l : QueueLinks) (d : ThreadRecord)
@@ -83,11 +82,11 @@ module _ (t : List ThreadRecord) (i : ℕ) where
           rw (queue_links_beyond t i (ltb-false i (length t) e))
           (sym (changed_beyond t i (relinked g) (ltb-false i (length t) e)))
 
-  pub set_next_is : (n : Link) → set_next t i n ≡ changed t i (relinked (next_is n))
+  pub set_next_is : (n : Option ℕ) → set_next t i n ≡ changed t i (relinked (next_is n))
   unfolding set_next
   set_next_is n = by_links (next_is n)
 
-  pub set_previous_is : (p : Link) → set_previous t i p ≡ changed t i (relinked (previous_is p))
+  pub set_previous_is : (p : Option ℕ) → set_previous t i p ≡ changed t i (relinked (previous_is p))
   unfolding set_previous
   set_previous_is p = by_links (previous_is p)
 
@@ -100,40 +99,40 @@ module _ (t : List ThreadRecord) (i : ℕ) where
   commit_remove_is = set_queue_links_is (λ (k : QueueLinks). empty_queue_links)
 
 -- A store at a link.
-module _ (t : List ThreadRecord) (x : Link) (g : QueueLinks → QueueLinks) where
-  pub links_at_same : (j : ℕ) {l : QueueLinks} → x ≡ link.Some j → queue_links_at t j ≡ queue_links_read.Got l
-      → queue_links_at (relinked_at t x g) j ≡ queue_links_read.Got (g l)
+module _ (t : List ThreadRecord) (x : Option ℕ) (g : QueueLinks → QueueLinks) where
+  pub links_at_same : (j : ℕ) {l : QueueLinks} → x ≡ Some j → queue_links_at t j ≡ Ok l
+      → queue_links_at (relinked_at t x g) j ≡ Ok (g l)
   unfolding relinked_at
   links_at_same j {l} e h = rw e (links_relinked_same t j g h)
 
-  pub links_at_other : (j : ℕ) → x ≢ link.Some j → queue_links_at (relinked_at t x g) j ≡ queue_links_at t j
+  pub links_at_other : (j : ℕ) → x ≢ Some j → queue_links_at (relinked_at t x g) j ≡ queue_links_at t j
   unfolding relinked_at
   links_at_other j h = go x h
     where
-      go : (x : Link) → x ≢ link.Some j → queue_links_at (relinked_at t x g) j ≡ queue_links_at t j
-      go link.None h = refl
-      go (link.Some i) h = links_relinked_other t i g j (λ z. h (ap link.Some (sym z)))
+      go : (x : Option ℕ) → x ≢ Some j → queue_links_at (relinked_at t x g) j ≡ queue_links_at t j
+      go None h = refl
+      go (Some i) h = links_relinked_other t i g j (λ z. h (ap Some (sym z)))
 
-  pub record_at_other : (j : ℕ) → x ≢ link.Some j → record_at (relinked_at t x g) j ≡ record_at t j
+  pub record_at_other : (j : ℕ) → x ≢ Some j → record_at (relinked_at t x g) j ≡ record_at t j
   unfolding relinked_at
   record_at_other j h = go x h
     where
-      go : (x : Link) → x ≢ link.Some j → record_at (relinked_at t x g) j ≡ record_at t j
-      go link.None h = refl
-      go (link.Some i) h = record_relinked_other t i g j (λ z. h (ap link.Some (sym z)))
+      go : (x : Option ℕ) → x ≢ Some j → record_at (relinked_at t x g) j ≡ record_at t j
+      go None h = refl
+      go (Some i) h = record_relinked_other t i g j (λ z. h (ap Some (sym z)))
 
   pub rest_at : without_lists (relinked_at t x g) ≡ without_lists t
   unfolding relinked_at
   rest_at = go x
     where
-      go : (x : Link) → without_lists (relinked_at t x g) ≡ without_lists t
-      go link.None = refl
-      go (link.Some i) = rest_relinked t i g
+      go : (x : Option ℕ) → without_lists (relinked_at t x g) ≡ without_lists t
+      go None = refl
+      go (Some i) = rest_relinked t i g
 
   pub length_at : length (relinked_at t x g) ≡ length t
   unfolding relinked_at
   length_at = go x
     where
-      go : (x : Link) → length (relinked_at t x g) ≡ length t
-      go link.None = refl
-      go (link.Some i) = length_changed t i (relinked g)
+      go : (x : Option ℕ) → length (relinked_at t x g) ≡ length t
+      go None = refl
+      go (Some i) = length_changed t i (relinked g)

@@ -1,13 +1,15 @@
 -- The theorems about sound queues: a new queue is sound, changes beside it keep it so, and enqueue at either end and
 -- remove do what they say.
-use Rattle.std.specs.Prelude.{◌≡◌, Bool, ◌&&◌, ◌≢◌, List, [], ℕ, ◌%◌, ◌≤◌, ◌<◌, length}
+use Rattle.std.specs.Prelude.{◌≡◌, Bool, ◌&&◌, ◌≢◌, List, [], ℕ, ◌%◌, ◌≤◌, ◌<◌, length, Result, Ok, Err}
+use Rattle.refusal.specs.declared.Damaged.{Damaged}
+use Rattle.refusal.specs.declared.Refusal.{Refusal}
 use Rattle.std.proofs.Math.Path.{refl, sym, ap}
 use Rattle.std.proofs.Common.{◌∙◌, subst, arith, mod-lt}
 use Rattle.std.proofs.Math.Bool.{true, false}
 use Rattle.std.proofs.Math.ListN.{get_or-map}
 use Rattle.std.proofs.Math.Dec.{eqb}
 use borrow.Author.Tests.{eqb-true, eqb-false, eq-eqb, ne_eqb}
-use Rattle.refusal.specs.Answer.{value, refused, damaged, bad_state, already}
+use Rattle.refusal.specs.Answer.{value, refused, damaged, bad_state, already, damage}
 use Rattle.refusal.specs.Cases.{never, choose, if_equal, given}
 use Rattle.policy.specs.declared.SchedulingPolicy.TheVariants as policy
 use Rattle.thread.specs.declared.CpuIndex.{CpuIndex}
@@ -18,9 +20,7 @@ use Rattle.codec.specs.Codec.{policy_from, parameters_of, decoded}
 use Rattle.thread.specs.MembershipLaws.{is_unqueued_true}
 use Rattle.rows.specs.Table.{Out, out, table, record_of, record_at, changed, max_records}
 use Rattle.rows.specs.TableLaws.{length_changed, reading_other}
-use Rattle.rows.specs.declared.RecordRead.TheVariants as read
 use Rattle.lists.specs.Lists.{on_answer}
-use Rattle.ready_index.specs.declared.Contained.TheVariants as contained
 use Rattle.ready_index.specs.Index.{contains}
 use Rattle.queue.specs.RunQueue.{CpuRunQueue, tree_count}
 use Rattle.queue.specs.Queue.{Step, step, new_queue, root_of, enqueue_call, remove_call}
@@ -56,7 +56,7 @@ module _ {queued : ℕ → Bool} {q : CpuRunQueue} {t : List ThreadRecord} (S : 
   pub change_sound : (i : ℕ) (f : ThreadRecord → ThreadRecord) → queued i ≡ false → Sound queued q (changed t i f)
   unfolding record_at
   change_sound i f e = changes_sound (changed t i f) (omega (arith, length_changed t i f, S.forest.small))
-      (λ j h. reading_other t i f (λ (r : ThreadRecord). read.Got r) read.Damaged j
+      (λ j h. reading_other t i f (λ (r : ThreadRecord). Ok r) (Err damage) j
       (λ z. let w : true ≡ false = sym h ∙ ap queued z ∙ e in never cc))
 
   row_tells : (n j : ℕ) → n < list_count → eqb (row_of queued t j) n ≡ queued_of (λ p. eqb (list_for p) n) queued t j
@@ -249,7 +249,7 @@ module _ {queued : ℕ → Bool} {q : CpuRunQueue} {t : List ThreadRecord} (S : 
 module _ {queued : ℕ → Bool} {q : CpuRunQueue} {t : List ThreadRecord} (S : Sound queued q t) where
   -- `contains` answers Yes for the tree in which a thread of the table stands and No for every other,
   pub tree_tells : (j k : ℕ) → k < tree_count → j < length t
-      → contains t (root_of q k) j ≡ choose (eqb (S.place j) k) contained.Yes contained.No
+      → contains t (root_of q k) j ≡ choose (eqb (S.place j) k) (Ok true) (Ok false)
   tree_tells j k b l = contains_placed S.forest j k b l
 
   -- and whoever reads a list from its head along the links finds its members, in their order.
@@ -261,15 +261,15 @@ module _ {queued : ℕ → Bool} {q : CpuRunQueue} {t : List ThreadRecord} (S : 
   module _ {e : Effect} {r : CpuRunQueue} {s : List ThreadRecord} (K : Kept S e r s) where
     pub kept_trees : (j k : ℕ) → k < tree_count → j < length t
         → contains s (root_of r k) j
-        ≡ choose (eqb j e.thread) (choose (eqb e.tree k) contained.Yes contained.No) (contains t (root_of q k) j)
+        ≡ choose (eqb j e.thread) (choose (eqb e.tree k) (Ok true) (Ok false)) (contains t (root_of q k) j)
     unfolding choose placed
     kept_trees j k b l =
         contains_placed K.sound.forest j k b (omega (arith, same_length t s K.besides))
         ∙ rw (K.places j, contains_placed S.forest j k b l) (go (eqb j e.thread))
       where
-        go : (x : Bool) → choose (eqb (choose x e.tree (S.place j)) k) contained.Yes contained.No
-            ≡ choose x (choose (eqb e.tree k) contained.Yes contained.No)
-            (choose (eqb (S.place j) k) contained.Yes contained.No)
+        go : (x : Bool) → choose {A = Result Bool Damaged} (eqb (choose x e.tree (S.place j)) k) (Ok true) (Ok false)
+            ≡ choose x (choose (eqb e.tree k) (Ok true) (Ok false))
+            (choose (eqb (S.place j) k) (Ok true) (Ok false))
         go true = refl
         go false = refl
 

@@ -1,5 +1,5 @@
 -- An enqueue, at either end, on a sound queue.
-use Rattle.std.specs.Prelude.{◌≡◌, Bool, ◌≢◌, List, [], ◌∷◌, ℕ, suc, ◌≤◌, ◌<◌, length, get_or, ltb, eqb}
+use Rattle.std.specs.Prelude.{◌≡◌, Bool, ◌≢◌, List, [], ◌∷◌, ℕ, suc, ◌≤◌, ◌<◌, length, get_or, ltb, eqb, Some}
 use Rattle.std.proofs.Math.Path.{refl, sym, ap}
 use Rattle.std.proofs.Common.{◌∙◌, subst, arith}
 use Rattle.std.proofs.Math.Bool.{true, false}
@@ -8,7 +8,6 @@ use Rattle.refusal.specs.Answer.{value}
 use Rattle.refusal.specs.Cases.{never, choose, if_less, if_equal, given}
 use Rattle.policy.specs.declared.SchedulingPolicy.{SchedulingPolicy}
 use Rattle.thread.specs.declared.CpuIndex.{CpuIndex}
-use Rattle.thread.specs.declared.IndexFor.TheVariants as index
 use Rattle.thread.specs.declared.QueueMembership.{QueueMembership}
 use Rattle.thread.specs.declared.QueueMembership.TheVariants as membership
 use Rattle.thread.specs.declared.ThreadQueue.{ThreadQueue}
@@ -53,7 +52,7 @@ use Rattle.sound_queue.specs.SoundLaws.{queued_if_listed, few}
 pub judged_passes : {A : Type 0} (t : List ThreadRecord) (q : CpuRunQueue) (i k : ℕ)
     (f : ThreadRecord → ℕ → Out (Step A)) → length t ≤ max_records → q.halted ≡ false → i < length t
     → is_bad_record (record_of t i) ≡ false
-    → index_for (record_of t i).parameters (record_of t i).runtime ≡ index.Index k
+    → index_for (record_of t i).parameters (record_of t i).runtime ≡ Some k
     → judged t q i f ≡ f (record_of t i) k
 unfolding judged if_less choose on_record on_index
 judged_passes t q i k f n h l b e = rw (le-ltb max_records (length t) n, h, record_within t i l, b, e)
@@ -127,7 +126,7 @@ module _ {queued : ℕ → Bool} {q : CpuRunQueue} {t : List ThreadRecord} (S : 
 
   module _ (front : Bool) (J : Joins front t (list_at q row) (S.lists.members row) i (membership_at cpu row)) (k : ℕ)
       (low : k < tree_count)
-      (filed : index_for (record_of t i).parameters (record_of t i).runtime ≡ index.Index k) where
+      (filed : index_for (record_of t i).parameters (record_of t i).runtime ≡ Some k) where
     abbrev listed : List ThreadRecord
     listed = after (push_at front t (list_at q row) i (membership_at cpu row))
 

@@ -1,6 +1,6 @@
 -- A small sound queue, by computation: the premises of the theorems can be met, and a budget thread does stand in a
 -- partner tree.
-use Rattle.std.specs.Prelude.{ℕ, ◌≡◌, refl, true, false, Bool, List, [], ◌∷◌, ◌++◌, length, take}
+use Rattle.std.specs.Prelude.{ℕ, ◌≡◌, refl, true, false, Bool, List, [], ◌∷◌, ◌++◌, length, take, Ok}
 use Rattle.std.proofs.Common.{sym, ◌∙◌, arith}
 use Rattle.refusal.specs.Answer.{value, refused, damaged}
 use Rattle.refusal.specs.Cases.{never, choose, if_less, if_equal, given}
@@ -34,7 +34,6 @@ use Rattle.rotations.specs.Balance.{balance}
 use Rattle.ready_index.specs.Index.{way_at, look_for, contains, on_walk, walk, hung, rebuild_step, rebuild, insert}
 use Rattle.ready_index.specs.Index.{sought_at, on_search, search, on_successor, successor, replace}
 use Rattle.ready_index.specs.Index as index
-use Rattle.ready_index.specs.declared.Contained.TheVariants as contained
 use Rattle.queue_work.specs.Work.{counted_in, counted_out, total_in, total_out, push_at, insert_work, remove_work}
 use Rattle.queue.specs.Queue.{step, new_queue, root_of, list_of, parts_of, with_parts, worked, is_fifo, is_budget}
 use Rattle.queue.specs.Queue.{membership_for, judged, enqueue_call, partner, on_contained, tree_with, remove_ready}
@@ -110,9 +109,9 @@ pub record Computed : Type 0 where
   -- fair thread does not; and the list of priority 5 has none of the two.
   pub at_front_lem : threads_of fronted.table (list_at fronted.queue 0) ≡ 2 ∷ 1 ∷ []
   pub at_back_lem : threads_of backed.table (list_at backed.queue 0) ≡ 1 ∷ 2 ∷ []
-  pub in_tree : (contains backed.table (root_of backed.queue (tree_for (record_of nine 2))) 2 ≡ contained.Yes)
-      × (contains backed.table (root_of backed.queue (tree_for (record_of nine 2))) 1 ≡ contained.No)
-      × (contains backed.table (root_of backed.queue (tree_for (record_of nine 1))) 1 ≡ contained.Yes)
+  pub in_tree : (contains backed.table (root_of backed.queue (tree_for (record_of nine 2))) 2 ≡ (Ok true))
+      × (contains backed.table (root_of backed.queue (tree_for (record_of nine 2))) 1 ≡ (Ok false))
+      × (contains backed.table (root_of backed.queue (tree_for (record_of nine 1))) 1 ≡ (Ok true))
   pub elsewhere : threads_of backed.table (list_at backed.queue 6) ≡ []
   -- The second is a queued budget thread of processor 0, and its record is not bad when its time has run out.
   pub queued : pair 2 ≡ true

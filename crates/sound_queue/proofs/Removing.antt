@@ -1,5 +1,5 @@
 -- A removal on a sound queue.
-use Rattle.std.specs.Prelude.{◌≡◌, Bool, true, false, ◌≢◌, List, length, get_or, ltb}
+use Rattle.std.specs.Prelude.{◌≡◌, Bool, true, false, ◌≢◌, List, length, get_or, ltb, Some, Ok}
 use Rattle.std.proofs.Math.Path.{refl}
 use Rattle.std.proofs.Common.{sym, ap, ◌∙◌, arith}
 use Prim.Native.Nat.{ℕ, zero, suc, ◌<◌}
@@ -8,14 +8,12 @@ use Rattle.refusal.specs.Answer.{value, refused, damaged}
 use Rattle.refusal.specs.Cases.{never, choose, if_equal, given}
 use Rattle.policy.specs.declared.SchedulingPolicy.{SchedulingPolicy}
 use Rattle.thread.specs.declared.CpuIndex.{CpuIndex}
-use Rattle.thread.specs.declared.IndexFor.TheVariants as index
 use Rattle.thread.specs.declared.ThreadRecord.{ThreadRecord}
 use Rattle.thread.specs.Membership.{on_membership}
 use Rattle.thread.specs.Filing.{index_for}
 use Rattle.rows.specs.Table.{out, after, record_of, record_at}
 use Rattle.lists.specs.Lists.{on_answer}
 use Rattle.lists.specs.Lists as lists·
-use Rattle.ready_index.specs.declared.Contained.TheVariants as contained
 use Rattle.ready_index.specs.Index.{contains, remove}
 use Rattle.sound_lists.specs.Members.{without}
 use Rattle.sound_lists.specs.Sound as list
@@ -64,30 +62,30 @@ module _ (t : List ThreadRecord) (q : CpuRunQueue) (i : ℕ) (cpu d : CpuIndex) 
 
 -- The tree with a thread, by where it stands: in the tree of its filing, in a budget's other tree, or in none.
 module _ (t : List ThreadRecord) (q : CpuRunQueue) (i : ℕ) where
-  found_as_filed : (x : Bool) (f : ℕ) → contains t (root_of q f) i ≡ contained.Yes → tree_with t q i x f ≡ value f
+  found_as_filed : (x : Bool) (f : ℕ) → contains t (root_of q f) i ≡ (Ok true) → tree_with t q i x f ≡ value f
   unfolding tree_with on_contained
   found_as_filed x f e = rw e
 
-  found_in_partner : (f : ℕ) → contains t (root_of q f) i ≡ contained.No
-      → contains t (root_of q (partner f)) i ≡ contained.Yes → tree_with t q i true f ≡ value (partner f)
+  found_in_partner : (f : ℕ) → contains t (root_of q f) i ≡ (Ok false)
+      → contains t (root_of q (partner f)) i ≡ (Ok true) → tree_with t q i true f ≡ value (partner f)
   unfolding tree_with on_contained choose
   found_in_partner f e g = rw (e, g)
 
-  found_nowhere : (f : ℕ) → contains t (root_of q f) i ≡ contained.No
-      → contains t (root_of q (partner f)) i ≡ contained.No → tree_with t q i true f ≡ refused damaged
+  found_nowhere : (f : ℕ) → contains t (root_of q f) i ≡ (Ok false)
+      → contains t (root_of q (partner f)) i ≡ (Ok false) → tree_with t q i true f ≡ refused damaged
   unfolding tree_with on_contained choose
   found_nowhere f e g = rw (e, g)
 
-  found_not_as_filed : (f : ℕ) → contains t (root_of q f) i ≡ contained.No → tree_with t q i false f ≡ refused damaged
+  found_not_as_filed : (f : ℕ) → contains t (root_of q f) i ≡ (Ok false) → tree_with t q i false f ≡ refused damaged
   unfolding tree_with on_contained choose
   found_not_as_filed f e = rw e
 
 module _ {queued : ℕ → Bool} {q : CpuRunQueue} {t : List ThreadRecord} (S : Sound queued q t) (i : ℕ) where
-  stands_in : (k : ℕ) → k < tree_count → i < length t → S.place i ≡ k → contains t (root_of q k) i ≡ contained.Yes
+  stands_in : (k : ℕ) → k < tree_count → i < length t → S.place i ≡ k → contains t (root_of q k) i ≡ (Ok true)
   unfolding choose
   stands_in k b l e = contains_placed S.forest i k b l ∙ rw (eq-eqb (S.place i) k e)
 
-  stands_not_in : (k : ℕ) → k < tree_count → i < length t → S.place i ≢ k → contains t (root_of q k) i ≡ contained.No
+  stands_not_in : (k : ℕ) → k < tree_count → i < length t → S.place i ≢ k → contains t (root_of q k) i ≡ (Ok false)
   unfolding choose
   stands_not_in k b l e = contains_placed S.forest i k b l ∙ rw (ne_eqb (S.place i) k e)
 
@@ -108,7 +106,7 @@ module _ {queued : ℕ → Bool} {q : CpuRunQueue} {t : List ThreadRecord} (S : 
     -- The tree of the record's filing, and the tree that holds it.
     pub record Found : Type 0 where
       pub filed : ℕ
-      pub is : index_for (record_of t i).parameters (record_of t i).runtime ≡ index.Index filed
+      pub is : index_for (record_of t i).parameters (record_of t i).runtime ≡ Some filed
       pub tree : tree_with t q i (is_budget (record_of t i).parameters.policy) filed ≡ value (S.place i)
 
     found_by : Filed (record_of t i) (S.place i) → Found
@@ -280,11 +278,11 @@ module _ {queued : ℕ → Bool} {q : CpuRunQueue} {t : List ThreadRecord} (S : 
 
   -- A thread of the table that is not queued is in no tree.
   pub in_no_tree : queued i ≡ false → i < length t → (f : ℕ)
-      → index_for (record_of t i).parameters (record_of t i).runtime ≡ index.Index f → f < tree_count
+      → index_for (record_of t i).parameters (record_of t i).runtime ≡ Some f → f < tree_count
       → tree_with t q i (is_budget (record_of t i).parameters.policy) f ≡ refused damaged
   in_no_tree e l f x b = go (is_budget (record_of t i).parameters.policy) refl
     where
-      absent : (k : ℕ) → k < tree_count → contains t (root_of q k) i ≡ contained.No
+      absent : (k : ℕ) → k < tree_count → contains t (root_of q k) i ≡ (Ok false)
       absent k c = stands_not_in k c l (λ z. let a = not_queued_placed S i e in omega arith)
 
       go : (y : Bool) → is_budget (record_of t i).parameters.policy ≡ y → tree_with t q i y f ≡ refused damaged

@@ -1,16 +1,14 @@
 -- The twelve trees of a queue in one table, and what a call on one of them is to leave.
-use Rattle.std.specs.Prelude.{◌≡◌, ◌≢◌, List, ℕ, ◌≤◌, ◌<◌, length, get_or, set, eqb}
+use Rattle.std.specs.Prelude.{◌≡◌, ◌≢◌, List, ℕ, ◌≤◌, ◌<◌, length, get_or, set, eqb, Option, Result, Ok}
 use Rattle.refusal.specs.Cases.{choose}
 use Rattle.avl.specs.Tree.{Tree, in_order, Balanced}
-use Rattle.thread.specs.declared.Link.{Link}
 use Rattle.thread.specs.declared.ThreadRecord.{ThreadRecord}
 use Rattle.rows.specs.Table.{Out, out, record_at, max_records}
-use Rattle.ready_index.specs.declared.Rooted.{Rooted}
-use Rattle.ready_index.specs.declared.Rooted.TheVariants as rooted
 use Rattle.sound_index.specs.Holds.{root, Holds, has, besides_links}
 use Rattle.queue.specs.declared.Root.{Root}
 use Rattle.queue.specs.Queue.{empty_root}
 use Rattle.queue.specs.RunQueue.{tree_count}
+use Rattle.refusal.specs.declared.Damaged.{Damaged}
 
 -- The table holds twelve balanced trees under these roots. `place` gives the tree in which a thread stands, 12 or more
 -- where it stands in none: each tree has exactly the threads placed in it, so that no two have one in common.
@@ -31,10 +29,10 @@ placed i k place j = choose (eqb j i) k (place j)
 -- the threads. Of every record only the tree links changed, and no record changed at all that is neither i nor in a
 -- tree.
 pub record Replanted (roots : List Root) (t : List ThreadRecord) (k i : ℕ) (place after : ℕ → ℕ)
-    (o : Out Rooted) : Type 0 where
+    (o : Out (Result (Option ℕ) Damaged)) : Type 0 where
   pub table : List ThreadRecord
-  pub link : Link
-  pub is : o ≡ out (rooted.Root link) table
+  pub link : Option ℕ
+  pub is : o ≡ out (Ok link) table
   pub forest : Forest (set roots k (record { root = link })) table after
   pub besides : besides_links table ≡ besides_links t
   pub others : (j : ℕ) → tree_count ≤ place j → j ≢ i → record_at table j ≡ record_at t j

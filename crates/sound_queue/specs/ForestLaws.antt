@@ -1,5 +1,5 @@
 -- A thread put into one of the twelve trees and taken out of it, and what else may change.
-use Rattle.std.specs.Prelude.{◌≡◌, refl, Bool, true, false, ◌≢◌, List, ◌∷◌, ℕ, ◌≤◌, ◌<◌, length, get_or, set, eqb}
+use Rattle.std.specs.Prelude.{◌≡◌, refl, Bool, true, false, ◌≢◌, List, ◌∷◌, ℕ, ◌≤◌, ◌<◌, length, get_or, set, eqb, Ok}
 use Rattle.std.proofs.Common.{sym, ap, ◌∙◌, arith, length-set, get_or-set_same, get_or-set_other, eqb-true, eq-eqb}
 use Rattle.std.proofs.Common.{ne_eqb}
 use Rattle.std.proofs.lemmas.Bool.{eqb-false}
@@ -7,7 +7,6 @@ use Rattle.refusal.specs.Cases.{choose}
 use Rattle.avl.specs.Tree.{Tree, in_order, Balanced}
 use Rattle.thread.specs.declared.ThreadRecord.{ThreadRecord}
 use Rattle.rows.specs.Table.{links_at, key_at, max_records}
-use Rattle.ready_index.specs.declared.Contained.TheVariants as contained
 use Rattle.ready_index.specs.Index.{contains, insert, remove}
 use Rattle.sound_index.specs.Holds.{root, Holds, has}
 use Rattle.sound_index.specs.TableLaws.{besides_length}
@@ -51,10 +50,10 @@ module _ {roots : List Root} {t : List ThreadRecord} {place : ℕ → ℕ} (F : 
 
   -- `contains` tells whether a thread of the table stands in a tree.
   pub contains_placed : (i k : ℕ) → k < tree_count → i < length t
-      → contains t (get_or roots k empty_root).root i ≡ choose (eqb (place i) k) contained.Yes contained.No
+      → contains t (get_or roots k empty_root).root i ≡ choose (eqb (place i) k) (Ok true) (Ok false)
   contains_placed i k b l =
       rw (F.rooted k b) (contains_tells t (F.trees k) i (F.holds k b) (F.balanced k b) F.small l
-      ∙ ap (λ x. choose x contained.Yes contained.No) (F.exact i k b))
+      ∙ ap (λ x. choose x (Ok true) (Ok false)) (F.exact i k b))
 
   module _ (k : ℕ) (b : k < tree_count) where
     -- One tree in the place of another, of whose list l alone the records changed.

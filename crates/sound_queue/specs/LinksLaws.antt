@@ -1,5 +1,6 @@
 -- Two tables alike but for links: what is the same in both.
-use Rattle.std.specs.Prelude.{◌≡◌, refl, List, [], ◌∷◌, map, ℕ, length, get_or}
+use Rattle.std.specs.Prelude.{◌≡◌, refl, List, [], ◌∷◌, map, ℕ, length, get_or, Ok, Err}
+use Rattle.refusal.specs.Answer.{damage}
 use Rattle.std.proofs.Common.{sym, ap, ◌∙◌}
 use Rattle.std.proofs.lemmas.List.{length-map}
 use Rattle.std.proofs.Math.ListN.{get_or-map}
@@ -10,9 +11,6 @@ use Rattle.thread.specs.Records.{with_links, with_queue_links}
 use Rattle.thread.specs.TreeKey.{ready_index_key}
 use Rattle.thread.specs.Judgement.{is_bad_record}
 use Rattle.codec.specs.Codec.{decoded}
-use Rattle.rows.specs.declared.LinksRead.TheVariants as links
-use Rattle.rows.specs.declared.KeyRead.TheVariants as key
-use Rattle.rows.specs.declared.QueueLinksRead.TheVariants as queue_links_read
 use Rattle.rows.specs.Table.{record_of, reading, links_at, key_at, queue_links_at}
 use Rattle.sound_index.specs.Holds.{besides_links}
 use Rattle.sound_lists.specs.Sound.{without_lists}
@@ -46,7 +44,7 @@ pub besides_queue_links : (t s : List ThreadRecord) (j : ℕ) → besides_links 
 unfolding besides_links queue_links_at
 besides_queue_links t s j e =
     alike_reading (with_links empty_links)
-    (λ (r : ThreadRecord). queue_links_read.Got r.queue_links) queue_links_read.Damaged t
+    (λ (r : ThreadRecord). Ok r.queue_links) (Err damage) t
     s j (λ r. refl) e
 
 -- List stores leave tree links and keys.
@@ -54,14 +52,14 @@ pub list_stores_links : (t s : List ThreadRecord) (j : ℕ) → without_lists s 
     → links_at s j ≡ links_at t j
 unfolding without_lists links_at
 list_stores_links t s j e =
-    alike_reading (with_queue_links empty_queue_links) (λ (r : ThreadRecord). links.Got r.ready_tree) links.Damaged t s
+    alike_reading (with_queue_links empty_queue_links) (λ (r : ThreadRecord). Ok r.ready_tree) (Err damage) t s
     j (λ r. refl) e
 
 pub list_stores_key : (t s : List ThreadRecord) (j : ℕ) → without_lists s ≡ without_lists t → key_at s j ≡ key_at t j
 unfolding without_lists key_at ready_index_key
 list_stores_key t s j e =
     alike_reading (with_queue_links empty_queue_links)
-    (λ (r : ThreadRecord). key.Got (ready_index_key r j)) key.Damaged t s j
+    (λ (r : ThreadRecord). Ok (ready_index_key r j)) (Err damage) t s j
     (λ r. refl) e
 
 pub list_stores_length : (t s : List ThreadRecord) → without_lists s ≡ without_lists t → length s ≡ length t

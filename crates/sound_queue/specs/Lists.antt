@@ -1,11 +1,10 @@
 -- The 257 lists of a queue in one table: list 0 is the fair one, list 1 + p that of priority p; how one reads a list,
 -- and what a call makes of it.
-use Rattle.std.specs.Prelude.{◌≡◌, Bool, List, [], ◌∷◌, ◌++◌, ℕ, zero, suc, ◌<◌, length, get_or, eqb}
+use Rattle.std.specs.Prelude.{◌≡◌, Bool, List, [], ◌∷◌, ◌++◌, ℕ, zero, suc, ◌<◌, length, get_or, eqb, Option}
 use Rattle.refusal.specs.Cases.{choose}
 use Rattle.policy.specs.declared.SchedulingPolicy.{SchedulingPolicy}
 use Rattle.policy.specs.PolicyCases.{on_policy}
 use Rattle.thread.specs.declared.CpuIndex.{CpuIndex}
-use Rattle.thread.specs.declared.Link.{Link}
 use Rattle.thread.specs.declared.QueueMembership.{QueueMembership}
 use Rattle.thread.specs.declared.QueueMembership.TheVariants as membership
 use Rattle.thread.specs.declared.ThreadQueue.{ThreadQueue}
@@ -49,7 +48,7 @@ pub record Lists (lists : ℕ → ThreadQueue) (cpus : ℕ → CpuIndex) (t : Li
   pub exact : (j n : ℕ) → n < list_count → has j (members n) ≡ eqb (row j) n
 
 -- Up to n threads as one reads them from a link on, each the next of the one before.
-unfoldable pub threads_from : ℕ → List ThreadRecord → Link → List ℕ
+unfoldable pub threads_from : ℕ → List ThreadRecord → Option ℕ → List ℕ
 threads_from zero t at = []
 threads_from (suc n) t at =
     on_link at [] (λ i. i ∷ on_queue_links (queue_links_at t i) [] (λ links. threads_from n t links.next))

@@ -1,5 +1,6 @@
 -- A thread put into one of the lists and taken out of it, and what else may change.
-use Rattle.std.specs.Prelude.{◌≡◌, refl, Bool, ◌||◌, ◌≢◌, List, [], ◌∷◌, ◌++◌, ℕ, zero, suc, ◌≤◌, ◌<◌, length}
+use Rattle.std.specs.Prelude.{◌≡◌, refl, Bool, ◌||◌, ◌≢◌, List, [], ◌∷◌, ◌++◌, ℕ, zero, suc, ◌≤◌, ◌<◌, length, Option}
+use Rattle.std.specs.Prelude.{Some, None}
 use Rattle.std.proofs.Common.{sym, ap, ◌∙◌, arith}
 use Rattle.std.proofs.Math.Bool.{true, false}
 use Rattle.std.proofs.Math.Dec.{eqb}
@@ -7,8 +8,6 @@ use borrow.Author.Tests.{eqb-true, eqb-false, eq-eqb, ne_eqb}
 use Rattle.refusal.specs.Answer.{Answer}
 use Rattle.refusal.specs.Cases.{choose}
 use Rattle.thread.specs.declared.CpuIndex.{CpuIndex}
-use Rattle.thread.specs.declared.Link.{Link}
-use Rattle.thread.specs.declared.Link.TheVariants as link
 use Rattle.thread.specs.declared.QueueMembership.{QueueMembership}
 use Rattle.thread.specs.declared.ThreadQueue.{ThreadQueue}
 use Rattle.thread.specs.declared.ThreadRecord.{ThreadRecord}
@@ -114,19 +113,19 @@ module _ {lists : ℕ → ThreadQueue} {cpus : ℕ → CpuIndex} {t : List Threa
           (λ j m c d. left_else list_count i n row j m c d o)
 
 -- Threads that are linked are read from the first on.
-read_linked : (n : ℕ) (t : List ThreadRecord) (m : QueueMembership) (p : Link) (l : List ℕ) → length l ≤ n
-    → Linked (queue_links_at t) m p l link.None → threads_from n t (first_or l link.None) ≡ l
+read_linked : (n : ℕ) (t : List ThreadRecord) (m : QueueMembership) (p : Option ℕ) (l : List ℕ) → length l ≤ n
+    → Linked (queue_links_at t) m p l None → threads_from n t (first_or l None) ≡ l
 unfolding threads_from on_link on_queue_links
 read_linked zero t m p [] b h = refl
 read_linked zero t m p (i ∷ l) b h = absurd (omega arith)
 read_linked (suc n) t m p [] b h = refl
 read_linked (suc n) t m p (i ∷ l) b h =
-    rw h.here (ap (λ (s : List ℕ). i ∷ s) (read_linked n t m (link.Some i) l (omega arith) h.rest))
+    rw h.here (ap (λ (s : List ℕ). i ∷ s) (read_linked n t m (Some i) l (omega arith) h.rest))
 
 -- What one reads of a list is what it holds.
 pub list_read : {t : List ThreadRecord} {q : ThreadQueue} {members : List ℕ} {m : QueueMembership}
     → HoldsList t q members m → threads_of t q ≡ members
-list_read {t} {q} {members} {m} H = rw H.head (read_linked (length t) t m link.None members few H.linked)
+list_read {t} {q} {members} {m} H = rw H.head (read_linked (length t) t m None members few H.linked)
   where
     few : length members ≤ length t
     few =

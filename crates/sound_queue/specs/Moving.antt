@@ -1,23 +1,21 @@
 -- A queued budget thread taken out of its tree, given another runtime and put into the other tree of its role: what a
 -- change of period does to each exhausted thread.
-use Rattle.std.specs.Prelude.{◌≡◌, Bool, ◌≢◌, List, ℕ, ◌<◌, length, get_or, set, ltb}
+use Rattle.std.specs.Prelude.{◌≡◌, Bool, ◌≢◌, List, ℕ, ◌<◌, length, get_or, set, ltb, Option, Ok, Err}
+use Rattle.refusal.specs.Answer.{damage}
 use Rattle.std.proofs.Math.Path.{refl, sym, ap}
 use Rattle.std.proofs.Common.{◌∙◌, arith, lt-ltb}
 use Rattle.std.proofs.Math.Bool.{true, false}
 use Rattle.refusal.specs.Cases.{never}
 use Rattle.policy.specs.declared.SchedulingPolicy.TheVariants as policy
 use Rattle.algorithms.specs.declared.PolicyRuntime.{PolicyRuntime}
-use Rattle.thread.specs.declared.Link.{Link}
 use Rattle.thread.specs.declared.ThreadRecord.{ThreadRecord}
 use Rattle.thread.specs.Records.{with_runtime}
 use Rattle.thread.specs.Judgement.{is_bad_record}
 use Rattle.thread.specs.Filing.{role_index}
 use Rattle.thread.specs.FilingLaws.{role_index_le}
-use Rattle.rows.specs.declared.RecordRead.TheVariants as read
 use Rattle.rows.specs.Table.{out, record_of, record_at, changed, queue_links_at}
 use Rattle.rows.specs.TableLaws.{length_changed, record_same, record_other, reading_other, after_set_runtime}
 use Rattle.rows.specs.TableLaws.{links_set_runtime, key_set_runtime_other, queue_links_set_runtime}
-use Rattle.ready_index.specs.declared.Rooted.TheVariants as rooted
 use Rattle.ready_index.specs.Index.{insert, remove}
 use Rattle.sound_index.specs.Holds.{besides_links}
 use Rattle.sound_index.specs.TableLaws.{besides_length}
@@ -52,12 +50,12 @@ with_roots q roots =
 pub record Moved (queued : ℕ → Bool) (q : CpuRunQueue) (t : List ThreadRecord) (place : ℕ → ℕ)
     (i to : ℕ) (x : PolicyRuntime) : Type 0 where
   pub out_of : List ThreadRecord
-  pub rest : Link
-  pub removes : remove t (root_of q (place i)) i ≡ out (rooted.Root rest) out_of
+  pub rest : Option ℕ
+  pub removes : remove t (root_of q (place i)) i ≡ out (Ok rest) out_of
   pub table : List ThreadRecord
-  pub top : Link
+  pub top : Option ℕ
   pub inserts : insert (changed out_of i (with_runtime x))
-      (get_or (set q.indices (place i) (record { root = rest })) to empty_root).root i ≡ out (rooted.Root top) table
+      (get_or (set q.indices (place i) (record { root = rest })) to empty_root).root i ≡ out (Ok top) table
   pub sound : Sound queued (with_roots q
       (set (set q.indices (place i) (record { root = rest })) to (record { root = top }))) table
   pub places : (j : ℕ) → sound.place j ≡ placed i to place j
@@ -184,7 +182,7 @@ module _ {queued : ℕ → Bool} {q : CpuRunQueue} {t : List ThreadRecord} (S : 
       not_queued j h =
           let d : j ≢ i = λ z. let w : true ≡ false = sym e ∙ ap queued (sym z) ∙ h in never cc in
           P.others j (omega (arith, placed_other i tree_count S.place j d, not_queued_placed S j h)) d
-          ∙ reading_other R.table i (with_runtime x) (λ (r : ThreadRecord). read.Got r) read.Damaged j d
+          ∙ reading_other R.table i (with_runtime x) (λ (r : ThreadRecord). Ok r) (Err damage) j d
           ∙ R.others j (not_queued_placed S j h) d
 
       moved_by : Moved queued q t S.place i to x

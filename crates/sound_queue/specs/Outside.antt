@@ -1,5 +1,5 @@
 -- A new queue, and changes to records that are not queued.
-use Rattle.std.specs.Prelude.{◌≡◌, Bool, ◌&&◌, List, [], ℕ, zero, suc, ◌≤◌, ◌<◌}
+use Rattle.std.specs.Prelude.{◌≡◌, Bool, ◌&&◌, List, [], ℕ, zero, suc, ◌≤◌, ◌<◌, Ok}
 use Rattle.std.proofs.Math.Path.{refl}
 use Rattle.std.proofs.Common.{sym, ap, ◌∙◌, subst, arith, lt-ltb, ne_eqb}
 use Rattle.std.proofs.Math.Bool.{true, false}
@@ -9,7 +9,6 @@ use Rattle.refusal.specs.Cases.{never, choose}
 use Rattle.policy.specs.declared.SchedulingPolicy.{SchedulingPolicy}
 use Rattle.thread.specs.declared.ThreadRecord.{ThreadRecord}
 use Rattle.thread.specs.Membership.{empty_queue}
-use Rattle.rows.specs.declared.RecordRead.TheVariants as read
 use Rattle.rows.specs.Table.{record_of, record_at, queue_links_at, max_records}
 use Rattle.rows.specs.TableLaws.{record_within, record_got_within, queue_links_within}
 use Rattle.avl.specs.Tree.{leaf, in_order}
@@ -26,7 +25,6 @@ use Rattle.sound_queue.specs.Lists.{list_at, membership_at, list_for, row_of, li
 use Rattle.sound_queue.specs.ListsLaws.{lists_still, lists_same}
 use Rattle.sound_queue.specs.Sound.{Queued, queued_of, Sound, nobody}
 use Rattle.sound_queue.specs.SoundLaws.{row_not_queued, queued_inside, queued_if_listed}
-use Rattle.rows.specs.declared.QueueLinksRead.TheVariants as queue_links_read
 
 new_list : (n : ℕ) → n < list_count → list_at new_queue n ≡ empty_queue
 unfolding list_at
@@ -68,12 +66,12 @@ module _ (t s : List ThreadRecord) (j : ℕ) (b : j < length t) (e : record_at s
 
   kept_record : record_of s j ≡ record_of t j
   kept_record =
-      let k : read.Got (record_of s j) ≡ read.Got (record_of t j) = sym (record_within s j kept_inside) ∙ e
+      let k : Ok (record_of s j) ≡ Ok (record_of t j) = sym (record_within s j kept_inside) ∙ e
       ∙ record_within t j b in cc
 
   kept_queue_links : queue_links_at s j ≡ queue_links_at t j
   kept_queue_links =
-      queue_links_within s j kept_inside ∙ ap (λ (r : ThreadRecord). queue_links_read.Got r.queue_links) kept_record
+      queue_links_within s j kept_inside ∙ ap (λ (r : ThreadRecord). Ok r.queue_links) kept_record
       ∙ sym (queue_links_within t j b)
 
 module _ {queued : ℕ → Bool} {q : CpuRunQueue} {t : List ThreadRecord} (S : Sound queued q t)

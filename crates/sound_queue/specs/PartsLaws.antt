@@ -1,5 +1,5 @@
 -- The definitions of crate queue, case by case: which list and which tree a call touches, and what its work comes to.
-use Rattle.std.specs.Prelude.{◌≡◌, Bool, true, false, ◌≢◌, List, length, set, ltb}
+use Rattle.std.specs.Prelude.{◌≡◌, Bool, true, false, ◌≢◌, List, length, set, ltb, Option, Some, None, Ok}
 use Rattle.std.proofs.Math.Path.{refl}
 use Rattle.std.proofs.Common.{sym, ap, ◌∙◌, arith, eq-eqb, ne_eqb, lt-ltb, le-ltb, ltb-true, ltb-false}
 use Prim.Native.Nat.{ℕ, zero, suc, ◌+◌, ◌-◌, ◌≤◌, ◌<◌}
@@ -13,8 +13,6 @@ use Rattle.policy.specs.declared.SchedulingPolicy.TheVariants as policy
 use Rattle.policy.specs.PolicyCases.{on_policy}
 use Rattle.algorithms.specs.declared.PolicyRuntime.{PolicyRuntime}
 use Rattle.thread.specs.declared.CpuIndex.{CpuIndex}
-use Rattle.thread.specs.declared.IndexFor.TheVariants as index
-use Rattle.thread.specs.declared.Link.{Link}
 use Rattle.thread.specs.declared.QueueMembership.{QueueMembership}
 use Rattle.thread.specs.declared.ThreadQueue.{ThreadQueue}
 use Rattle.thread.specs.declared.ThreadRecord.{ThreadRecord}
@@ -25,7 +23,6 @@ use Rattle.rows.specs.Table.{out}
 use Rattle.lists.specs.Checks.{max_length, assigned_to}
 use Rattle.lists.specs.Lists.{on_answer, on_out}
 use Rattle.lists.specs.Lists as list
-use Rattle.ready_index.specs.declared.Rooted.TheVariants as rooted
 use Rattle.ready_index.specs.Cases.{on_rooted}
 use Rattle.ready_index.specs.Index as index·
 use Rattle.queue.specs.RunQueue.{CpuRunQueue, tree_count}
@@ -121,11 +118,11 @@ module _ (q : CpuRunQueue) (cpu : CpuIndex) (k : ℕ) (p : Parts) where
 -- The tree of a record's filing, one of the twelve.
 pub record Filing (p : SchedulingParameters) (r : PolicyRuntime) : Type 0 where
   pub tree : ℕ
-  pub is : index_for p r ≡ index.Index tree
+  pub is : index_for p r ≡ Some tree
   pub low : tree < tree_count
 
 budget_filing : (n : ℕ) (x : Bool) → n ≤ 2
-    → (k : ℕ) × (choose x (index.Index (budget_ready + n)) (index.Index (budget_exhausted + n)) ≡ index.Index k) ×
+    → (k : ℕ) × (choose x (Some (budget_ready + n)) (Some (budget_exhausted + n)) ≡ Some k) ×
     (budget_ready ≤ k) × (k < tree_count)
 unfolding choose
 budget_filing n true h = (budget_ready + n, refl, omega arith, omega arith)
@@ -147,13 +144,13 @@ filing p r h = go p.policy refl
     go policy.Idle e = absurd (h e)
 
 -- and Idle is not.
-pub idle_filing : (p : SchedulingParameters) (r : PolicyRuntime) → p.policy ≡ policy.Idle → index_for p r ≡ index.None
+pub idle_filing : (p : SchedulingParameters) (r : PolicyRuntime) → p.policy ≡ policy.Idle → index_for p r ≡ None
 unfolding index_for given on_policy
 idle_filing p r e = rw e
 
 -- A budget is filed in one of the six trees of budgets.
 pub budget_tree : (p : SchedulingParameters) (r : PolicyRuntime) (f : ℕ) → is_budget p.policy ≡ true
-    → index_for p r ≡ index.Index f → (budget_ready ≤ f) × (f < tree_count)
+    → index_for p r ≡ Some f → (budget_ready ≤ f) × (f < tree_count)
 unfolding index_for given on_policy is_budget
 budget_tree p r f b e = go p.policy refl
   where
@@ -163,7 +160,7 @@ budget_tree p r f b e = go p.policy refl
     go policy.Idle z = let w : false ≡ true = rw z at b in never cc
     go policy.Budget z =
         let m = budget_filing (role_index p.role) (budget_available_of r) (role_index_le p.role) in
-        let w : index.Index m.0 ≡ index.Index f = sym m.1 ∙ (rw z at e) in
+        let w : Some m.0 ≡ Some f = sym m.1 ∙ (rw z at e) in
         let v : m.0 ≡ f = cc in
         (omega (arith, m.2), omega (arith, m.3))
 
@@ -212,17 +209,17 @@ counted_out_lem false p b e = ap (λ n. done (with_budget_threads p n)) e
 
 -- The work, where each of its calls is accepted.
 module _ (fifo budgeted : Bool) (t t₁ t₂ : List ThreadRecord) (p done' : Parts) (id : ℕ) (m : QueueMembership) (len : ℕ)
-    (queue : ThreadQueue) (link : Link) where
+    (queue : ThreadQueue) (link : Option ℕ) where
   pub insert_work_lem : (front : Bool) → total_in fifo p.realtime_len ≡ value len
       → push_at front t p.list id m ≡ out (value queue) t₁
-      → index·.insert t₁ p.root id ≡ out (rooted.Root link) t₂
+      → index·.insert t₁ p.root id ≡ out (Ok link) t₂
       → counted_in budgeted (tree_stored p queue len link) ≡ done done'
       → insert_work front fifo budgeted t p id m ≡ out (done done') t₂
   unfolding insert_work on_answer on_out on_rooted
   insert_work_lem front a b c d = rw (a, b, c, d)
 
   pub remove_work_lem : total_out fifo p.realtime_len ≡ value len → list.remove t p.list id m ≡ out (value queue) t₁
-      → index·.remove t₁ p.root id ≡ out (rooted.Root link) t₂
+      → index·.remove t₁ p.root id ≡ out (Ok link) t₂
       → counted_out budgeted (tree_stored p queue len link) ≡ done done'
       → remove_work fifo budgeted t p id m ≡ out (done done') t₂
   unfolding remove_work on_answer on_out on_rooted

@@ -1,5 +1,5 @@
 -- Changes of trees and runtimes while lists, parameters and processors stay: what a selection does to a sound queue.
-use Rattle.std.specs.Prelude.{◌≡◌, Bool, true, false, ◌≢◌, List, ℕ, zero, suc, ◌+◌, ◌≤◌, length, get_or, ltb}
+use Rattle.std.specs.Prelude.{◌≡◌, Bool, true, false, ◌≢◌, List, ℕ, zero, suc, ◌+◌, ◌≤◌, length, get_or, ltb, Some}
 use Rattle.std.proofs.Math.Path.{refl}
 use Rattle.std.proofs.Common.{sym, ap, ◌∙◌, arith, lt-ltb, le-ltb}
 use Rattle.refusal.specs.Cases.{choose, if_less, given}
@@ -7,7 +7,6 @@ use Rattle.policy.specs.declared.SchedulingPolicy.{SchedulingPolicy}
 use Rattle.policy.specs.declared.SchedulingPolicy.TheVariants as policy
 use Rattle.policy.specs.PolicyCases.{on_policy}
 use Rattle.algorithms.specs.declared.PolicyRuntime.{PolicyRuntime}
-use Rattle.thread.specs.declared.IndexFor.TheVariants as index
 use Rattle.thread.specs.declared.ThreadQueue.{ThreadQueue}
 use Rattle.thread.specs.declared.ThreadRecord.{ThreadRecord}
 use Rattle.thread.specs.Membership.{empty_queue}
@@ -81,8 +80,8 @@ pub data BudgetTree (role k : ℕ) : Type 0 where
 
 budget_filed : (r : ThreadRecord) → r.parameters.policy ≡ policy.Budget
     → index_for r.parameters r.runtime
-    ≡ choose (budget_available_of r.runtime) (index.Index (budget_ready + role_index r.parameters.role))
-    (index.Index (budget_exhausted + role_index r.parameters.role))
+    ≡ choose (budget_available_of r.runtime) (Some (budget_ready + role_index r.parameters.role))
+    (Some (budget_exhausted + role_index r.parameters.role))
 unfolding index_for given on_policy
 budget_filed r e = rw e
 
@@ -94,8 +93,8 @@ partner_of_exhausted : (n : ℕ) → partner (budget_exhausted + n) ≡ budget_r
 unfolding partner if_less choose
 partner_of_exhausted n = rw (le-ltb (budget_exhausted + n) budget_exhausted (omega arith)) (omega arith)
 
-tree_by : (n k f : ℕ) → n ≤ 2 → (x : Bool) → choose x (index.Index (budget_ready + n))
-    (index.Index (budget_exhausted + n)) ≡ index.Index f
+tree_by : (n k f : ℕ) → n ≤ 2 → (x : Bool) → choose x (Some (budget_ready + n))
+    (Some (budget_exhausted + n)) ≡ Some f
     → (f ≡ k → BudgetTree n k) × (partner f ≡ k → BudgetTree n k)
 unfolding choose
 tree_by n k f h true z =
@@ -116,14 +115,14 @@ filed_in r k e (in_partner f b x y) =
     (sym (budget_filed r e) ∙ x)).1 y
 
 file_by : (r : ThreadRecord) (k n : ℕ) → n ≤ 2 → is_budget r.parameters.policy ≡ true → (x : Bool)
-    → index_for r.parameters r.runtime ≡ choose x (index.Index (budget_ready + n))
-    (index.Index (budget_exhausted + n)) → BudgetTree n k
+    → index_for r.parameters r.runtime ≡ choose x (Some (budget_ready + n))
+    (Some (budget_exhausted + n)) → BudgetTree n k
     → Filed r k
 unfolding choose
-file_by r k n h b true z (with_time w) = by_filing (z ∙ ap (λ m. index.Index m) (sym w))
+file_by r k n h b true z (with_time w) = by_filing (z ∙ ap (λ m. Some m) (sym w))
 file_by r k n h b true z (exhausted w) = in_partner (budget_ready + n) b z (partner_of_ready n h ∙ sym w)
 file_by r k n h b false z (with_time w) = in_partner (budget_exhausted + n) b z (partner_of_exhausted n ∙ sym w)
-file_by r k n h b false z (exhausted w) = by_filing (z ∙ ap (λ m. index.Index m) (sym w))
+file_by r k n h b false z (exhausted w) = by_filing (z ∙ ap (λ m. Some m) (sym w))
 
 -- and may stand in either.
 pub file_in : (r : ThreadRecord) (k : ℕ) → r.parameters.policy ≡ policy.Budget

@@ -1,13 +1,12 @@
 -- A sound queue, over queue, table and the set of queued threads; and what a call on it is to leave. A thread is queued
 -- from its accepted enqueue to its accepted removal. Of a record that is not queued nothing is asked: neither its links
 -- nor its membership.
-use Rattle.std.specs.Prelude.{◌≡◌, Bool, true, false, ◌&&◌, ◌≢◌, List, ℕ, ◌<◌, length, ltb, eqb}
+use Rattle.std.specs.Prelude.{◌≡◌, Bool, true, false, ◌&&◌, ◌≢◌, List, ℕ, ◌<◌, length, ltb, eqb, Some}
 use Rattle.refusal.specs.Answer.{value, refused}
 use Rattle.refusal.specs.Cases.{choose}
 use Rattle.policy.specs.declared.SchedulingPolicy.{SchedulingPolicy}
 use Rattle.policy.specs.declared.SchedulingPolicy.TheVariants as policy
 use Rattle.thread.specs.declared.CpuIndex.{CpuIndex}
-use Rattle.thread.specs.declared.IndexFor.TheVariants as index
 use Rattle.thread.specs.declared.QueueMembership.TheVariants as membership
 use Rattle.thread.specs.declared.ThreadRecord.{ThreadRecord}
 use Rattle.thread.specs.Judgement.{is_bad_record}
@@ -25,8 +24,8 @@ use Rattle.sound_queue.specs.Count.{count}
 -- The tree in which a record may stand: that of its filing; of a budget also the partner, since its time may have run
 -- out or come back while it was queued.
 pub data Filed (r : ThreadRecord) (k : ℕ) : Type 0 where
-  by_filing : index_for r.parameters r.runtime ≡ index.Index k → Filed r k
-  in_partner : (f : ℕ) → is_budget r.parameters.policy ≡ true → index_for r.parameters r.runtime ≡ index.Index f
+  by_filing : index_for r.parameters r.runtime ≡ Some k → Filed r k
+  in_partner : (f : ℕ) → is_budget r.parameters.policy ≡ true → index_for r.parameters r.runtime ≡ Some f
       → partner f ≡ k → Filed r k
 
 -- What is asked of the record of a queued thread that stands in tree k. Its list is one of the 257: a FIFO priority is

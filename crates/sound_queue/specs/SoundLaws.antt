@@ -1,14 +1,12 @@
 -- What is known of a sound queue's threads, and how a queue is shown to be sound after a call.
-use Rattle.std.specs.Prelude.{◌≡◌, refl, Bool, true, false, ◌≢◌, List, ℕ, suc, ◌≤◌, ◌<◌, length, ltb}
+use Rattle.std.specs.Prelude.{◌≡◌, refl, Bool, true, false, ◌≢◌, List, ℕ, suc, ◌≤◌, ◌<◌, length, ltb, Some, Ok}
 use Rattle.std.proofs.Common.{sym, ap, ◌∙◌, arith, ltb-true, ltb-false, eq-eqb, ne_eqb}
 use Rattle.refusal.specs.Cases.{choose}
 use Rattle.policy.specs.declared.SchedulingPolicy.{SchedulingPolicy}
 use Rattle.thread.specs.declared.CpuIndex.{CpuIndex}
-use Rattle.thread.specs.declared.IndexFor.TheVariants as index
 use Rattle.thread.specs.declared.QueueLinks.{QueueLinks}
 use Rattle.thread.specs.declared.ThreadRecord.{ThreadRecord}
 use Rattle.thread.specs.Filing.{index_for, on_index}
-use Rattle.rows.specs.declared.QueueLinksRead.TheVariants as queue_links_read
 use Rattle.rows.specs.Table.{record_of}
 use Rattle.rows.specs.TableLaws.{queue_links_within}
 use Rattle.lists.specs.Checks.{max_length}
@@ -26,7 +24,7 @@ use Rattle.sound_queue.specs.Sound.{Queued, queued_of, Sound, including, excludi
 use Rattle.sound_queue.specs.LinksLaws.{same_length, same_parameters, same_runtime, same_cpu, queued_still}
 
 -- The tree of a record's filing, by its name.
-pub tree_for_lem : (r : ThreadRecord) (k : ℕ) → index_for r.parameters r.runtime ≡ index.Index k → tree_for r ≡ k
+pub tree_for_lem : (r : ThreadRecord) (k : ℕ) → index_for r.parameters r.runtime ≡ Some k → tree_for r ≡ k
 unfolding tree_for on_index
 tree_for_lem r k e = rw e
 
@@ -164,8 +162,8 @@ module _ {queued : ℕ → Bool} {q : CpuRunQueue} {t : List ThreadRecord} (S : 
       let r = row_queued queued t j e in
       let b = (S.threads j e).listed in
       let m = member_of (S.lists.holds n b) j (S.lists.exact j n b ∙ eq-eqb (row_of queued t j) n r) in
-      let z : queue_links_read.Got (record_of t j).queue_links
-      ≡ queue_links_read.Got (record { previous = m.0; next = m.1; membership = membership_at (S.cpus n) n }) =
+      let z : Ok (record_of t j).queue_links
+      ≡ Ok (record { previous = m.0; next = m.1; membership = membership_at (S.cpus n) n }) =
       sym (queue_links_within t j (queued_inside e)) ∙ m.2 in
       let y : (record_of t j).queue_links
       ≡ record { previous = m.0; next = m.1; membership = membership_at (S.cpus n) n } = cc in

@@ -1,7 +1,7 @@
 -- Why a row that nothing encodes to may change where its record is left, whatever a store were to ask first: an
 -- insertion that leaves record 1, and that has stored another left link there in between. Neither of the two stores
 -- finds what it stores, so no test passes it over; and the second does not know which words the first replaced.
-use Rattle.std.specs.Prelude.{ℕ, ◌≡◌, refl, true, false, List, [], ◌∷◌, map, get_or, set}
+use Rattle.std.specs.Prelude.{ℕ, ◌≡◌, refl, true, false, List, [], ◌∷◌, map, get_or, set, Some, None, Ok}
 use Rattle.std.proofs.Common.{sym, ap, ◌∙◌}
 use Rattle.std.proofs.Math.ListN.{get_or-map}
 use Rattle.refusal.specs.Cases.{never, if_less, if_equal, given}
@@ -11,7 +11,6 @@ use Rattle.policy.specs.Parameters.{of_fifo}
 use Rattle.policy.specs.PolicyCases.{on_policy}
 use Rattle.algorithms.specs.declared.PolicyRuntime.TheVariants as runtime
 use Rattle.policy_words.specs.Encodes.{option_encodes}
-use Rattle.thread.specs.declared.Link.TheVariants as link
 use Rattle.thread.specs.declared.Links.{Links}
 use Rattle.thread.specs.declared.ThreadRecord.{ThreadRecord}
 use Rattle.thread.specs.Membership.{on_link, empty_links, empty_queue_links}
@@ -25,10 +24,8 @@ use Rattle.rows.specs.Table.{set_links}
 use Rattle.rows.specs.TableCases.{on_links, on_key, on_made}
 use Rattle.rows.specs.Frame.{Framed}
 use Rattle.avl.specs.Rotation.{lean_of, on_lean}
-use Rattle.rotations.specs.declared.Turned.TheVariants as turned
 use Rattle.rotations.specs.Cases.{on_height, on_turned}
 use Rattle.rotations.specs.Balance.{height, larger, update, rotate_left, rotate_right, balance_right, balance}
-use Rattle.ready_index.specs.declared.Rooted.TheVariants as rooted
 use Rattle.ready_index.specs.Cases.{on_way}
 use Rattle.ready_index.specs.Index.{way_at, on_walk, walk, hung, rebuild_step, rebuild, insert}
 use Rattle.images.specs.Encoded.{encoded, policy_words_of, role_word, backend_word, budget_words, runtime_words}
@@ -65,7 +62,7 @@ turning n links =
 
 -- A tree of record 0 and, on its right, record 1; record 2 has its turn between theirs.
 abbrev root : ThreadRecord
-root = turning 0 (record { left = link.None; right = link.Some 1; height = 2 })
+root = turning 0 (record { left = None; right = Some 1; height = 2 })
 
 abbrev pub three : List ThreadRecord
 three = root ∷ turning 2 empty_links ∷ turning 1 empty_links ∷ []
@@ -73,26 +70,26 @@ three = root ∷ turning 2 empty_links ∷ turning 1 empty_links ∷ []
 -- The table after the first of the two steps up from record 2, put into the tree: it hangs on the left of record 1.
 abbrev pub between : List ThreadRecord
 between =
-    root ∷ turning 2 (record { left = link.Some 2; right = link.None; height = 2 }) ∷ turning 1 empty_links ∷ []
+    root ∷ turning 2 (record { left = Some 2; right = None; height = 2 }) ∷ turning 1 empty_links ∷ []
 
-pub first_step : rebuild_step three (record { id = 1; right = false }) (link.Some 2) ≡ out (turned.Root 1) between
+pub first_step : rebuild_step three (record { id = 1; right = false }) (Some 2) ≡ out (Ok 1) between
 unfolding inserting
 first_step = refl
 
-pub then_second : insert three (link.Some 0) 2 ≡ rebuild (record { id = 0; right = true } ∷ []) between (link.Some 1)
+pub then_second : insert three (Some 0) 2 ≡ rebuild (record { id = 0; right = true } ∷ []) between (Some 1)
 unfolding inserting
 then_second = refl
 
-pub stored_between : (record_of between 1).ready_tree.left ≡ link.Some 2
+pub stored_between : (record_of between 1).ready_tree.left ≡ Some 2
 unfolding record_of
 stored_between = refl
 
 -- The second step turns the tree, twice: record 2 is its root, and record 1 a leaf as before.
-pub accepted : answer (insert three (link.Some 0) 2) ≡ rooted.Root (link.Some 2)
+pub accepted : answer (insert three (Some 0) 2) ≡ Ok (Some 2)
 unfolding inserting
 accepted = refl
 
-pub left_as_it_was : record_of (after (insert three (link.Some 0) 2)) 1 ≡ record_of three 1
+pub left_as_it_was : record_of (after (insert three (Some 0) 2)) 1 ≡ record_of three 1
 unfolding inserting
 left_as_it_was = refl
 
@@ -124,10 +121,10 @@ another_encodes (stored q) apart = q
 -- Whatever that row was at first: where rows stand for `between`, and what calls leave of them for the insertion's end,
 -- record 1's left link has the words 0, 0.
 pub zeros_in_the_end : (m s : List (List ℕ)) → Framed m s → table m ≡ between
-    → table s ≡ after (insert three (link.Some 0) 2) → left_words (get_or s 1 []) ≡ 0 ∷ 0 ∷ []
+    → table s ≡ after (insert three (Some 0) 2) → left_words (get_or s 1 []) ≡ 0 ∷ 0 ∷ []
 unfolding inserting link_words
 zeros_in_the_end m s f e d =
     let was = left_is m between 1 e in
-    let is = left_is s (after (insert three (link.Some 0) 2)) 1 d in
-    same_words link_words {x = link.None} refl
+    let is = left_is s (after (insert three (Some 0) 2)) 1 d in
+    same_words link_words {x = None} refl
     (link_exact _ _ (another_encodes (f.row 1).left (λ same. never (let p = sym is ∙ same ∙ was in cc)))) is

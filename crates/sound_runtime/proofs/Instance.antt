@@ -1,12 +1,10 @@
 -- A small table on which the premises of the theorems are met, by computation.
-use Rattle.std.specs.Prelude.{◌≡◌, refl, true, false, List, [], ◌∷◌}
+use Rattle.std.specs.Prelude.{◌≡◌, refl, true, false, List, [], ◌∷◌, Some, None}
 use Rattle.std.proofs.Common.{arith}
 use Rattle.refusal.specs.Answer.{refused, turns_spent}
 use Rattle.refusal.specs.Cases.{choose, if_less, if_equal, given, and_then}
-use Rattle.time.specs.declared.Epoch.TheVariants as epoch
 use Rattle.time.specs.Time.{rises, period_start, charge_of}
-use Rattle.order.specs.declared.Ordering.TheVariants.{Less}
-use Rattle.policy.specs.declared.BudgetOption.TheVariants as option
+use Rattle.std.specs.declared.cmp.Ordering.TheVariants.{Less}
 use Rattle.policy.specs.PolicyCases.{on_policy, on_budget, on_role}
 use Rattle.policy.specs.Budget.{sound_budget}
 use Rattle.budget.specs.Runtime as budget
@@ -108,7 +106,7 @@ eight_before_zero = front_key_least eight_at_front zero 0 alike zero_handed
 
 -- An exhausted budget of 2 in 10 is whole again when it is prepared at 15.
 pub whole_again : (record_of (after (prepare_enqueue nine 3 false 15 new_turns)) 3).runtime
-    ≡ runtime.Budget (record { epoch = epoch.Some 1; remaining_ns = 2; burst_remaining_ns = 2 })
+    ≡ runtime.Budget (record { epoch = Some 1; remaining_ns = 2; burst_remaining_ns = 2 })
 unfolding choose if_less if_equal given and_then rises on_policy on_budget sound_budget budget.judged budget.refreshed
     budget.refreshed_judged on_runtime of_budget same_kind epoch_refreshed on_membership is_unqueued has_budget
     is_bad_budget is_bad_record record_of changed reading storing record_at set_runtime set_turn on_record front_turn
@@ -126,7 +124,7 @@ small =
         order = record { priority_rank = 0; budget_rank = 1; fair_rank = 2; borrow_rank = 3 };
         prefer_fair = false;
       };
-      epoch = epoch.None;
+      epoch = None;
       priority_remaining_ns = 2;
       protected_remaining_ns = 3;
     }
@@ -137,7 +135,7 @@ candidate r =
     record { parameters = r.parameters; fair_pass = zero_pass; turn = r.ready_turn; budget_available = true }
 
 plain : ((record_of (after front) 8).parameters.role ≡ zero.parameters.role)
-    × ((record_of (after front) 8).parameters.budget ≡ option.None) × (zero.parameters.budget ≡ option.None)
+    × ((record_of (after front) 8).parameters.budget ≡ None) × (zero.parameters.budget ≡ None)
 unfolding choose if_less if_equal given and_then rises on_policy on_budget sound_budget on_runtime of_budget same_kind
     epoch_refreshed on_membership is_unqueued has_budget is_bad_budget is_bad_record record_of changed reading storing
     record_at set_runtime set_turn on_record front_turn back_turn kept_turn turn_for judged_at judged prepare_record
@@ -155,7 +153,7 @@ window_after (out (with a w) t) = w
 
 -- A protected budget thread accounted from 9 to 11 loses 1 of its budget, 2 of its burst, and 1 of the floor.
 pub one_charged : ((record_of (after (account_current nine 2 small mode.Ordinary 9 11)) 2).runtime
-    ≡ runtime.Budget (record { epoch = epoch.Some 1; remaining_ns = 1; burst_remaining_ns = 0 }))
+    ≡ runtime.Budget (record { epoch = Some 1; remaining_ns = 1; burst_remaining_ns = 0 }))
     × ((window_after (account_current nine 2 small mode.Ordinary 9 11)).protected_remaining_ns ≡ 2)
 unfolding choose if_less if_equal given and_then rises period_start charge_of on_policy on_budget on_role sound_budget
     budget.judged budget.refreshed budget.charged budget.accounted_interval on_runtime of_budget same_kind accounted

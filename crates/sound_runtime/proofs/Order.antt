@@ -1,7 +1,6 @@
 -- Turns handed out from one pair of counters are in order, and never repeat.
-use Rattle.std.specs.Prelude.{ℕ, ◌-◌, ◌<◌, ◌≤◌, ◌≡◌, refl, Bool, true, false, List, [], ◌∷◌, eqb}
+use Rattle.std.specs.Prelude.{ℕ, ◌-◌, ◌<◌, ◌≤◌, ◌≡◌, refl, Bool, true, false, List, [], ◌∷◌, eqb, Option}
 use Rattle.std.proofs.Common.{arith, ne_eqb, eqb-true}
-use Rattle.std.proofs.Math.Option.{Option}
 use Rattle.refusal.specs.Cases.{never, choose}
 use Rattle.decisions.specs.declared.Turns.{Turns}
 use Rattle.sound_runtime.specs.Handed.{Call, made, named, Handed, at_front, at_back, turn_of, handed, joined}

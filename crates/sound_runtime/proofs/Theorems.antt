@@ -1,15 +1,13 @@
 -- The theorems about turns, budgets and windows.
-use Rattle.std.specs.Prelude.{ℕ, ◌-◌, ◌<◌, ◌≤◌, ◌≡◌, Bool, false, List, ltb, length}
+use Rattle.std.specs.Prelude.{ℕ, ◌-◌, ◌<◌, ◌≤◌, ◌≡◌, Bool, false, List, ltb, length, Option, Some, None}
 use Rattle.std.proofs.Common.{arith, ◌∙◌, subst, ltb-true}
 use Rattle.std.proofs.Math.Path.{refl, ap}
 use Rattle.std.proofs.Math.Bool.{true}
 use Rattle.refusal.specs.Answer.{Answer, value, refused, already, no_thread, bad_config, back_in_time, turns_spent}
 use Rattle.refusal.specs.Answer.{bad_table, bad_record}
 use Rattle.refusal.specs.Cases.{choose, if_less, and_then}
-use Rattle.order.specs.declared.Ordering.TheVariants.{Less}
+use Rattle.std.specs.declared.cmp.Ordering.TheVariants.{Less}
 use Rattle.policy.specs.declared.ThreadPriority.{ThreadPriority}
-use Rattle.policy.specs.declared.BudgetOption.{BudgetOption}
-use Rattle.policy.specs.declared.BudgetOption.TheVariants as option
 use Rattle.policy.specs.declared.SchedulingPolicy.{SchedulingPolicy}
 use Rattle.policy.specs.declared.SchedulingPolicy.TheVariants as policy
 use Rattle.policy.specs.PolicyCases.{on_policy}
@@ -44,6 +42,7 @@ use Rattle.sound_runtime.specs.Budgets.{refreshed_within, charged_less, WindowCh
 use Rattle.sound_runtime.specs.Budgets.{window_charged_less}
 use Rattle.runtime.specs.Judged.{fresh_of, charged_of}
 use Rattle.sound_runtime.specs.Calls.{preparation_is, accounting_is}
+use Rattle.policy.specs.declared.BudgetParameters.{BudgetParameters}
 
 -- Of the turns that any list of calls hands out from new counters, back turns rise, front turns fall, and every front
 -- turn is less than every back turn.
@@ -164,31 +163,31 @@ module _ {calls : List Call} {c : Turns} {t : List ThreadRecord} {id : ℕ} {s :
   -- And so is its dispatch key, of the same role, under any window, reading and demand.
   pub front_dispatch_least : (w : CpuWindow) (now : ℕ) (d : Demand) (a b : Candidate)
       → a.turn ≡ (record_of s id).ready_turn → Alike a.parameters b.parameters
-      → a.parameters.role ≡ b.parameters.role → a.parameters.budget ≡ option.None
-      → b.parameters.budget ≡ option.None
+      → a.parameters.role ≡ b.parameters.role → a.parameters.budget ≡ None
+      → b.parameters.budget ≡ None
       → among b.turn (handed_out calls c) ≡ true → Ahead w now d a b
   front_dispatch_least w now d a b e x r m n h =
       let less : (record_of s id).ready_turn < b.turn = front_turn_least b.turn h in
       dispatch_key_less w now d a b x r m n (omega arith)
 
 -- A budget's runtime has no more than its budget; of a runtime without a budget nothing is asked.
-abbrev pub Within : PolicyRuntime → BudgetOption → Type 0
-Within (runtime.Budget b) (option.Some q) = b.remaining_ns ≤ q.budget_ns
-Within (runtime.Budget b) option.None = Unit {0}
+abbrev pub Within : PolicyRuntime → Option BudgetParameters → Type 0
+Within (runtime.Budget b) (Some q) = b.remaining_ns ≤ q.budget_ns
+Within (runtime.Budget b) None = Unit {0}
 Within runtime.Fifo q = Unit {0}
 Within (runtime.Fair f) q = Unit {0}
 Within runtime.Idle q = Unit {0}
 
-fresh_within : (x : PolicyRuntime) (q : BudgetOption) (now : ℕ) → Within (fresh_of x q now) q
-fresh_within (runtime.Budget b) (option.Some q) now = refreshed_within b now q
-fresh_within (runtime.Budget b) option.None now = tt
+fresh_within : (x : PolicyRuntime) (q : Option BudgetParameters) (now : ℕ) → Within (fresh_of x q now) q
+fresh_within (runtime.Budget b) (Some q) now = refreshed_within b now q
+fresh_within (runtime.Budget b) None now = tt
 fresh_within runtime.Fifo q now = tt
 fresh_within (runtime.Fair f) q now = tt
 fresh_within runtime.Idle q now = tt
 
-charged_within : (x : PolicyRuntime) (q : BudgetOption) (start end : ℕ) → Within (charged_of x q start end) q
-charged_within (runtime.Budget b) (option.Some q) start end = (charged_less b start end q).within
-charged_within (runtime.Budget b) option.None start end = tt
+charged_within : (x : PolicyRuntime) (q : Option BudgetParameters) (start end : ℕ) → Within (charged_of x q start end) q
+charged_within (runtime.Budget b) (Some q) start end = (charged_less b start end q).within
+charged_within (runtime.Budget b) None start end = tt
 charged_within runtime.Fifo q start end = tt
 charged_within (runtime.Fair f) q start end = tt
 charged_within runtime.Idle q start end = tt

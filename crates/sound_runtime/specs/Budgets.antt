@@ -1,10 +1,9 @@
 -- Budgets and windows: a refresh gives no more than the budget, and a charge never raises what remains.
-use Rattle.std.specs.Prelude.{ℕ, ◌/◌, ◌≤◌, min, ◌≡◌, Bool}
+use Rattle.std.specs.Prelude.{ℕ, ◌/◌, ◌≤◌, min, ◌≡◌, Bool, Some}
 use Rattle.std.proofs.Common.{arith}
 use Rattle.std.proofs.Math.Path.{refl}
 use Rattle.std.proofs.Math.Bool.{true, false}
 use Rattle.refusal.specs.Cases.{choose, given}
-use Rattle.time.specs.declared.Epoch.TheVariants as epoch
 use Rattle.time.specs.Time.{rises}
 use Rattle.policy.specs.declared.BudgetParameters.{BudgetParameters}
 use Rattle.policy.specs.declared.SchedulingParameters.{SchedulingParameters}
@@ -19,7 +18,7 @@ module _ (r : BudgetRuntime) (now : ℕ) (p : BudgetParameters) where
   abbrev renewed : Bool → BudgetRuntime
   renewed true =
       record {
-        epoch = epoch.Some (now / p.period_ns);
+        epoch = Some (now / p.period_ns);
         remaining_ns = p.budget_ns;
         burst_remaining_ns = r.burst_remaining_ns;
       }

@@ -1,6 +1,6 @@
 -- Preparing and accounting, each refusal in document 01's order and nothing else refused; and a refusal changes
 -- nothing.
-use Rattle.std.specs.Prelude.{ℕ, ◌≡◌, refl, Bool, true, false, List, ltb, length}
+use Rattle.std.specs.Prelude.{ℕ, ◌≡◌, refl, Bool, true, false, List, ltb, length, Option}
 use Rattle.std.proofs.Common.{ltb-true, ltb-false}
 use Rattle.refusal.specs.Answer.{Answer, value, refused, already, no_thread, bad_config, back_in_time, bad_table}
 use Rattle.refusal.specs.Answer.{bad_record}
@@ -23,7 +23,6 @@ use Rattle.runtime.specs.declared.Preparation.{Preparation}
 use Rattle.runtime.specs.declared.Accounting.{Accounting}
 use Rattle.decisions.specs.declared.Contention.{Contention}
 use Rattle.runtime.specs.declared.Due.{Due}
-use Rattle.decisions.specs.declared.ModeOption.{ModeOption}
 use Rattle.decisions.specs.Turns.{turn_for}
 use Rattle.runtime.specs.Judging as judging
 use Rattle.runtime.specs.Prepare.{Counted, counted, prepare_record, preparation, prepared, prepare_enqueue}
@@ -201,7 +200,7 @@ accounting_refused t id w m start end = go (accounting t id w m start end)
     go (value a) = tt
     go (refused n) = record { window = refl; records = refl }
 
-pub deadline_refused : (t : List ThreadRecord) (id now : ℕ) (m : ModeOption) (w : CpuWindow) (x : Contention)
+pub deadline_refused : (t : List ThreadRecord) (id now : ℕ) (m : Option DispatchMode) (w : CpuWindow) (x : Contention)
     → WindowKeeps t w (refresh_deadline t id now m w x)
 unfolding refresh_deadline armed
 deadline_refused t id now m w x = go (due_of t id now m w x)

@@ -1,6 +1,5 @@
 -- The turns that calls of `prepare_enqueue` hand out from one pair of counters, one after another.
-use Rattle.std.specs.Prelude.{ℕ, ◌<◌, ◌≡◌, Bool, true, false, List, [], ◌∷◌, eqb}
-use Rattle.std.proofs.Math.Option.{Option, none, some}
+use Rattle.std.specs.Prelude.{ℕ, ◌<◌, ◌≡◌, Bool, true, false, List, [], ◌∷◌, eqb, Option, Some, None}
 use Rattle.refusal.specs.Cases.{choose, if_equal}
 use Rattle.thread.specs.declared.ThreadRecord.{ThreadRecord}
 use Rattle.rows.specs.Table.{Out, out, after, record_of}
@@ -40,12 +39,12 @@ turn_of (at_back n) = n
 unfoldable pub handed : Out Counted → ℕ → Turns → Option Handed
 handed x id c =
     if_equal (counters_after x).back c.back
-    (if_equal (counters_after x).front c.front none (some (at_front (turn_after x id))))
-    (some (at_back (turn_after x id)))
+    (if_equal (counters_after x).front c.front None (Some (at_front (turn_after x id))))
+    (Some (at_back (turn_after x id)))
 
 unfoldable pub joined : Option Handed → List Handed → List Handed
-joined none l = l
-joined (some x) l = x ∷ l
+joined None l = l
+joined (Some x) l = x ∷ l
 
 -- What the calls hand out, the first first; a refused call hands out nothing and leaves the counters as they were.
 unfoldable pub handed_out : List Call → Turns → List Handed

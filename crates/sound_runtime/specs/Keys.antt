@@ -1,15 +1,14 @@
 -- A FIFO thread with a lesser turn comes before every other of its priority, band and role: by its tree key, and by its
 -- dispatch key under any window and demand.
-use Rattle.std.specs.Prelude.{ℕ, ◌<◌, ◌≡◌, refl, true, false}
+use Rattle.std.specs.Prelude.{ℕ, ◌<◌, ◌≡◌, refl, true, false, Some, None}
 use Rattle.std.proofs.Common.{sym, ◌∙◌}
 use Rattle.refusal.specs.Cases.{choose, given}
-use Rattle.order.specs.declared.Ordering.TheVariants.{Less}
+use Rattle.std.specs.declared.cmp.Ordering.TheVariants.{Less}
 use Rattle.order.specs.Order.{then_by, compare_parts}
 use Rattle.order.specs.StrictOrder.{compare_less, compare_equal}
 use Rattle.policy.specs.declared.ThreadPriority.{ThreadPriority}
 use Rattle.policy.specs.declared.SchedulingParameters.{SchedulingParameters}
 use Rattle.policy.specs.declared.SchedulingPolicy.TheVariants as policy
-use Rattle.policy.specs.declared.BudgetOption.TheVariants as budget
 use Rattle.policy.specs.PolicyCases.{on_policy, on_budget}
 use Rattle.thread.specs.declared.ThreadRecord.{ThreadRecord}
 use Rattle.thread.specs.TreeKey.{algorithm_key, tree_key, ready_index_key, parts, compare_tree_keys}
@@ -19,7 +18,6 @@ use Rattle.arbitration.specs.declared.Demand.{Demand}
 use Rattle.arbitration.specs.declared.Candidate.{Candidate}
 use Rattle.dispatch_keys.specs.declared.DispatchKey.{DispatchKey}
 use Rattle.arbitration.specs.declared.DispatchMode.{DispatchMode}
-use Rattle.arbitration.specs.declared.KeyOption.TheVariants as option
 use Rattle.window_config.specs.Config.{accepts_budget}
 use Rattle.arbitration.specs.Key.{exhausted_of, shut_out, strict_fifo, favoured, algorithm_of, on_algorithm}
 use Rattle.arbitration.specs.Key.{tier_of, key_of, compare_keys}
@@ -66,15 +64,17 @@ fifo_exhausted : (a : Candidate) (x : ThreadPriority) → a.parameters.policy �
 unfolding exhausted_of on_policy
 fifo_exhausted a x e = rw e
 
-accepted : (c : ArbitrationConfig) (p : SchedulingParameters) → p.budget ≡ budget.None → accepts_budget c p ≡ true
+accepted : (c : ArbitrationConfig) (p : SchedulingParameters) → p.budget ≡ None → accepts_budget c p ≡ true
 unfolding accepts_budget on_budget
 accepted c p e = rw e
 
 fifo_key_lem : (w : CpuWindow) (now : ℕ) (d : Demand) (a : Candidate) (x : ThreadPriority)
-    → a.parameters.policy ≡ policy.Fifo x → a.parameters.budget ≡ budget.None
-    → key_of w now a d ≡ option.Some
-    (fifo_key (tier_of w now a.parameters false d).urgency (tier_of w now a.parameters false d).rank a x)
-    (tier_of w now a.parameters false d).mode
+    → a.parameters.policy ≡ policy.Fifo x → a.parameters.budget ≡ None
+    → key_of w now a d ≡ Some (
+      (fifo_key (tier_of w now a.parameters false d).urgency (tier_of w now a.parameters false
+          d).rank a x),
+      (tier_of w now a.parameters false d).mode,
+    )
 unfolding key_of choose given shut_out algorithm_of on_algorithm on_policy
 fifo_key_lem w now d a x e n = rw (accepted w.config a.parameters n, fifo_exhausted a x e, e)
 
@@ -98,8 +98,8 @@ pub record Ahead (w : CpuWindow) (now : ℕ) (d : Demand) (a b : Candidate) : Ty
   pub key : DispatchKey
   pub other : DispatchKey
   pub mode : DispatchMode
-  pub has : key_of w now a d ≡ option.Some key mode
-  pub other_has : key_of w now b d ≡ option.Some other mode
+  pub has : key_of w now a d ≡ Some (key, mode)
+  pub other_has : key_of w now b d ≡ Some (other, mode)
   pub less : compare_keys key other ≡ Less
 
 fifo_less : (urgency rank : ℕ) (a b : Candidate) (x : ThreadPriority) → a.parameters.band.0 ≡ b.parameters.band.0
@@ -118,7 +118,7 @@ fifo_less urgency rank a b x e h =
 
 pub dispatch_key_less : (w : CpuWindow) (now : ℕ) (d : Demand) (a b : Candidate) → Alike a.parameters b.parameters
     → a.parameters.role ≡ b.parameters.role
-    → a.parameters.budget ≡ budget.None → b.parameters.budget ≡ budget.None → a.turn < b.turn → Ahead w now d a b
+    → a.parameters.budget ≡ None → b.parameters.budget ≡ None → a.turn < b.turn → Ahead w now d a b
 dispatch_key_less w now d a b x r m n h =
     record {
       key =

@@ -1,8 +1,8 @@
 -- What one call of `prepare_enqueue` does to the counters: it hands out one turn at one end, or leaves both as they
 -- were.
-use Rattle.std.specs.Prelude.{ℕ, ◌+◌, ◌-◌, ◌<◌, ◌≡◌, refl, Bool, true, false, List, ltb, eqb, length}
+use Rattle.std.specs.Prelude.{ℕ, ◌+◌, ◌-◌, ◌<◌, ◌≡◌, refl, Bool, true, false, List, ltb, eqb, length, Option, Some}
+use Rattle.std.specs.Prelude.{None, Result, Ok, Err}
 use Rattle.std.proofs.Common.{arith, ap, ◌∙◌, ltb-true, eq-eqb, ne_eqb}
-use Rattle.std.proofs.Math.Option.{Option, none, some}
 use Rattle.refusal.specs.Answer.{Answer, value, refused, already, no_thread, turns_spent, bad_table, bad_record}
 use Rattle.refusal.specs.Cases.{choose, if_less, if_equal, given, and_then}
 use Rattle.time.specs.Time.{max_time}
@@ -16,8 +16,6 @@ use Rattle.thread.specs.Membership.{is_unqueued}
 use Rattle.thread.specs.Judgement.{is_bad_record}
 use Rattle.thread.specs.Records.{with_runtime, with_turn}
 use Rattle.rows.specs.Table.{out, after, record_of, record_at, changed, set_runtime}
-use Rattle.rows.specs.declared.RecordRead.{RecordRead}
-use Rattle.rows.specs.declared.RecordRead.TheVariants as read
 use Rattle.rows.specs.TableCases.{on_record}
 use Rattle.rows.specs.TableLaws.{record_within, record_got_within, record_same, length_changed, after_set_runtime}
 use Rattle.rows.specs.TableLaws.{after_set_turn}
@@ -31,6 +29,7 @@ use Rattle.runtime.specs.Prepare.{counted, prepare_record, preparation, stored_p
 use Rattle.runtime.specs.Prepare.{prepare_enqueue}
 use Rattle.sound_runtime.specs.Handed.{Call, prepare, made, named, Handed, at_front, at_back, counters_after}
 use Rattle.sound_runtime.specs.Handed.{handed}
+use Rattle.refusal.specs.declared.Damaged.{Damaged}
 
 -- A turn, and the counters before and after it was taken or kept.
 pub data Taking (c : Turns) : ℕ → Turns → Type 0 where
@@ -112,20 +111,20 @@ pub inside : (t : List ThreadRecord) (id : ℕ) → JudgedIs t id (judged t id)
 unfolding judged judged_at if_less choose on_record
 inside t id = go (ltb max_records (length t)) (record_at t id) refl
   where
-    same : (r : ThreadRecord) → record_at t id ≡ read.Got r → record_of t id ≡ r
-    same r e = let f : record_at t id ≡ read.Got (record_of t id) = record_within t id (record_got_within t id e) in cc
+    same : (r : ThreadRecord) → record_at t id ≡ Ok r → record_of t id ≡ r
+    same r e = let f : record_at t id ≡ Ok (record_of t id) = record_within t id (record_got_within t id e) in cc
 
-    judging : (r : ThreadRecord) → record_at t id ≡ read.Got r → (bad : Bool) → is_bad_record r ≡ bad
+    judging : (r : ThreadRecord) → record_at t id ≡ Ok r → (bad : Bool) → is_bad_record r ≡ bad
         → JudgedIs t id (choose bad (refused bad_record) (value r))
     judging r e true b = tt
     judging r e false b = record { below = record_got_within t id e; is = same r e; good = b }
 
-    go : (large : Bool) (x : RecordRead) → record_at t id ≡ x
+    go : (large : Bool) (x : Result ThreadRecord Damaged) → record_at t id ≡ x
         → JudgedIs t id (choose large (refused bad_table)
         (on_record x (refused no_thread) (λ r. choose (is_bad_record r) (refused bad_record) (value r))))
     go true x e = tt
-    go false read.Damaged e = tt
-    go false (read.Got r) e = judging r e (is_bad_record r) refl
+    go false (Err _) e = tt
+    go false (Ok r) e = judging r e (is_bad_record r) refl
 
 -- The record that preparing stores.
 pub stored_record : (t : List ThreadRecord) (id : ℕ) (p : Preparation) → id < length t
@@ -139,10 +138,10 @@ stored_record t id p h =
 
 -- Counters and turn handed out, by what a call left.
 pub data Outcome (c : Turns) : Turns → Option Handed → Type 0 where
-  hands_nothing : Outcome c c none
-  hands_back : c.back < max_time → Outcome c (record { back = c.back + 1; front = c.front }) (some (at_back c.back))
+  hands_nothing : Outcome c c None
+  hands_back : c.back < max_time → Outcome c (record { back = c.back + 1; front = c.front }) (Some (at_back c.back))
   hands_front : 1 < c.front → Outcome c (record { back = c.back; front = c.front - 1 })
-      (some (at_front (c.front - 1)))
+      (Some (at_front (c.front - 1)))
 
 same_counters : (id : ℕ) (c : Turns) (a : Answer (Unit {0})) (t : List ThreadRecord)
     → Outcome c c (handed (out (counted a c) t) id c)

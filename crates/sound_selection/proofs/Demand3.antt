@@ -1,5 +1,5 @@
 -- Demand 3: one theorem over every list of calls from a fresh queue on any table.
-use Rattle.std.specs.Prelude.{ℕ, ◌≤◌, ◌≡◌, refl, Bool, true, false, List, [], ◌∷◌, ltb, length}
+use Rattle.std.specs.Prelude.{ℕ, ◌≤◌, ◌≡◌, refl, Bool, true, false, List, [], ◌∷◌, ltb, length, Option}
 use Rattle.std.proofs.Common.{sym, ◌∙◌, arith, ltb-true, ltb-false}
 use Rattle.std.proofs.Math.Path.{ap, subst}
 use Rattle.std.proofs.Math.ListN.{get_or-eq_default}
@@ -13,7 +13,6 @@ use Rattle.codec.specs.Codec.{decoded}
 use Rattle.rows.specs.Table.{Out, out, table, record_of, max_records}
 use Rattle.queue.specs.RunQueue.{CpuRunQueue}
 use Rattle.queue.specs.Queue.{Step, step, enqueue_call, remove_call}
-use Rattle.demands.specs.declared.CandidateOption.{CandidateOption}
 use Rattle.selection.specs.Peek.{Peeked, peek_next}
 use Rattle.sound_queue.specs.PlaceLaws.{same_or_not}
 use Rattle.sound_queue.specs.Sound.{Sound, OneProcessor, including, excluding, Effect, enqueuing, removing, Fine}
@@ -31,6 +30,7 @@ use Rattle.sound_selection.specs.Changes as changes
 use Rattle.sound_selection.specs.ChangeLaws.{fresher_parameters, fresher_cpu}
 use Rattle.sound_selection.specs.Selecting.{select_fine}
 use Rattle.sound_selection.proofs.Guarantee.{one_selection}
+use Rattle.arbitration.specs.declared.Candidate.{Candidate}
 
 -- The queue of a state is sound, with its queued threads, which are all of one processor, and its FIFO priorities are
 -- bytes.
@@ -136,7 +136,7 @@ module _ (cpu : CpuIndex) (s : State) where
       unchanged (ap (λ (x : Out (Step (Unit {0}))). left_by x s.queued (excluding i s.queued)) e)
   remove_stands S i (sound.made A) = accepted (A.queue, A.table, A.is)
 
-  select_stands : (now : ℕ) (w : CpuWindow) (current : CandidateOption)
+  select_stands : (now : ℕ) (w : CpuWindow) (current : Option Candidate)
       → FineSelection s.queued s.queue s.table now w (peek_next s.table s.queue cpu now w current)
       → Stands cpu (select_at now w current) s
   unfolding after
@@ -183,7 +183,7 @@ calls_stand cpu t small b calls a = all_stand cpu calls (fresh t) (fresh_sound c
 -- nothing and names, of all queued threads, the one with the least dispatch key.
 pub demand_3 : (cpu : CpuIndex) (t : List ThreadRecord) → length t ≤ max_records → Bytes t → (calls : List Call)
     → AllAllowed cpu calls (fresh t)
-    → (now : ℕ) (w : CpuWindow) (current : CandidateOption) → PremisesIn (after_all cpu calls (fresh t)) now w
+    → (now : ℕ) (w : CpuWindow) (current : Option Candidate) → PremisesIn (after_all cpu calls (fresh t)) now w
     → AnsweredIn cpu (after_all cpu calls (fresh t)) now w current
 demand_3 cpu t small b calls a now w current P =
     let S = calls_sound cpu calls (fresh t) (fresh_sound cpu t small b) a in

@@ -1,5 +1,5 @@
 -- Past the change of period, a queued thread's tree says of which class it is, under the premises on the selection.
-use Rattle.std.specs.Prelude.{ℕ, ◌+◌, ◌≤◌, ◌<◌, ◌≡◌, Bool, not, List, eqb, ltb}
+use Rattle.std.specs.Prelude.{ℕ, ◌+◌, ◌≤◌, ◌<◌, ◌≡◌, Bool, not, List, eqb, ltb, Option, Ok}
 use Rattle.std.proofs.Math.Path.{refl}
 use Rattle.std.proofs.Common.{sym, ap, ◌∙◌, arith, eq-eqb, ne_eqb, lt-ltb, le-ltb}
 use Rattle.std.proofs.Math.Bool.{true, false}
@@ -16,11 +16,9 @@ use Rattle.thread.specs.declared.ThreadRecord.{ThreadRecord}
 use Rattle.thread.specs.Filing.{budget_available_of, role_index, budget_exhausted, budget_ready, fair_index}
 use Rattle.thread.specs.FilingLaws.{role_index_le}
 use Rattle.rows.specs.Table.{record_of}
-use Rattle.ready_index.specs.declared.Contained.TheVariants as contained
 use Rattle.ready_index.specs.Index.{contains}
 use Rattle.queue.specs.RunQueue.{CpuRunQueue, tree_count}
 use Rattle.queue.specs.Queue.{root_of, is_budget, on_contained}
-use Rattle.demands.specs.declared.CandidateOption.{CandidateOption}
 use Rattle.renewal.specs.Renewal.{is_epoch}
 use Rattle.sound_queue.specs.ForestLaws.{contains_placed}
 use Rattle.sound_queue.specs.Sound.{Sound}
@@ -32,6 +30,7 @@ use Rattle.sound_selection.specs.Changes.{bare_at, Standing, in_fifo, in_fair, i
 use Rattle.sound_selection.specs.ChangeLaws.{shift_fresher, fresher_parameters, standing}
 use Rattle.sound_selection.specs.Classes.{Class, fifo_class, fair_class, ready_class, exhausted_class}
 use Rattle.sound_selection.specs.Selecting.{epoch, Turn}
+use Rattle.arbitration.specs.declared.Candidate.{Candidate}
 
 -- Who is admitted has a budget of the window's period, if any, and is of the one backend, if Fair.
 pub admitted_accepts : (c : ArbitrationConfig) (p : SchedulingParameters) (f : FairBackend) → admitted c p f ≡ true
@@ -63,7 +62,7 @@ admitted_backend c p f h e =
     same_backend_lem p.fair_backend f (sym (fair_admitted c p f (admitted_accepts c p f h) e) ∙ h)
 
 module _ {queued : ℕ → Bool} {q : CpuRunQueue} {t : List ThreadRecord} (S : Sound queued q t)
-    (now : ℕ) (w : CpuWindow) (current : CandidateOption)
+    (now : ℕ) (w : CpuWindow) (current : Option Candidate)
     (T : Turn S now w current) where
   -- Parameters are as they were handed in.
   pub parameters_after : (j : ℕ) → (record_of T.table j).parameters ≡ (record_of t j).parameters
@@ -78,7 +77,7 @@ module _ {queued : ℕ → Bool} {q : CpuRunQueue} {t : List ThreadRecord} (S : 
     low = role_index_le (record_of t j).parameters.role
 
     contains_is : contains t (root_of q (budget_ready + its_role)) j
-        ≡ choose (eqb (S.place j) (budget_ready + its_role)) contained.Yes contained.No
+        ≡ choose (eqb (S.place j) (budget_ready + its_role)) (Ok true) (Ok false)
     contains_is = contains_placed S.forest j (budget_ready + its_role) (omega (arith, low)) (queued_inside S j e)
 
     filed_by : (x : Bool) → eqb (S.place j) (budget_ready + its_role) ≡ x

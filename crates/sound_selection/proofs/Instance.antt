@@ -1,10 +1,9 @@
 -- Demand 3 is not empty: a run, by computation, in which the premises hold and two protected threads wait in one tree.
 -- And a queue with threads of two processors, from which a selection is accepted.
-use Rattle.std.specs.Prelude.{ℕ, zero, suc, ◌+◌, ◌/◌, ◌≡◌, refl, Bool, true, false, List, [], ◌∷◌}
+use Rattle.std.specs.Prelude.{ℕ, zero, suc, ◌+◌, ◌/◌, ◌≡◌, refl, Bool, true, false, List, [], ◌∷◌, Some, None, Ok}
 use Rattle.std.proofs.Common.{sym, ◌∙◌, subst, arith}
 use Rattle.refusal.specs.Answer.{value, damaged}
 use Rattle.refusal.specs.Cases.{never}
-use Rattle.time.specs.declared.Epoch.TheVariants as epoch
 use Rattle.policy.specs.declared.FairBackend.{FairBackend}
 use Rattle.policy.specs.declared.FairBackend.TheVariants as backend
 use Rattle.policy.specs.declared.SchedulingRole.TheVariants as role
@@ -12,11 +11,9 @@ use Rattle.policy.specs.Parameters.{of_fifo}
 use Rattle.algorithms.specs.declared.PolicyRuntime.TheVariants as runtime
 use Rattle.window_config.specs.Config.{sound_config, admitted}
 use Rattle.arbitration.specs.declared.CpuWindow.{CpuWindow}
-use Rattle.thread.specs.declared.Link.TheVariants as link
 use Rattle.thread.specs.declared.ThreadRecord.{ThreadRecord}
 use Rattle.thread.specs.Filing.{budget_available_of}
 use Rattle.rows.specs.Table.{record_of, out}
-use Rattle.ready_index.specs.declared.Contained.TheVariants as contained
 use Rattle.ready_index.specs.Index.{contains}
 use Rattle.queue.specs.RunQueue.{CpuRunQueue, tree_count}
 use Rattle.queue.specs.Queue.{step, new_queue, root_of, is_budget, enqueue_call}
@@ -24,7 +21,6 @@ use Rattle.queue.specs.Samples.{cpu, fifo}
 use Rattle.sound_queue.specs.Sound.{Sound, nobody, including, PriorityFits}
 use Rattle.sound_queue.specs.SoundLaws.{included_other}
 use Rattle.sound_queue.specs.PlaceLaws.{same_or_not}
-use Rattle.demands.specs.declared.CandidateOption.TheVariants as candidate
 use Rattle.selection.specs.Peek.{peek_next}
 use Rattle.selection.specs.Samples.{window, thread, budgeted, answer_of, named}
 use Rattle.sound_selection.specs.Claim.{refreshed_to, filed_ready, Premises, Call, enqueue_at, select_at, State}
@@ -82,12 +78,12 @@ three_met {q} {t} {now} {w} {b} m = record {
 -- allowance.
 abbrev crane : List ThreadRecord
 crane =
-    budgeted role.Protected epoch.None 2000000 tree_count ∷ budgeted role.Protected epoch.None 2000000 11
+    budgeted role.Protected None 2000000 tree_count ∷ budgeted role.Protected None 2000000 11
     ∷ thread (of_fifo (record { 0 = 5 }) (record { 0 = 1 }) role.Priority) runtime.Fifo 13 ∷ []
 
 -- All three are enqueued, then a selection a nanosecond before protection is due.
 abbrev calls : List Call
-calls = enqueue_at false 0 ∷ enqueue_at true 1 ∷ enqueue_at false 2 ∷ select_at 6999999 window candidate.None ∷ []
+calls = enqueue_at false 0 ∷ enqueue_at true 1 ∷ enqueue_at false 2 ∷ select_at 6999999 window None ∷ []
 
 abbrev crane_state : State
 crane_state = after_all (cpu 0) calls (fresh crane)
@@ -123,14 +119,14 @@ both_in = after (cpu 1) (enqueue_at false 1) first_in
 -- What computation gives of these runs.
 pub record Computed : Type 0 where
   -- The two wait in one tree, the three are queued, and the premises are met.
-  pub root : root_of crane_state.queue 8 ≡ link.Some 0
-  pub waits : contains crane_state.table (root_of crane_state.queue 8) 1 ≡ contained.Yes
+  pub root : root_of crane_state.queue 8 ≡ Some 0
+  pub waits : contains crane_state.table (root_of crane_state.queue 8) 1 ≡ (Ok true)
   pub queued : crane_state.queued ≡ three
   pub met : Met crane_state.queue crane_state.table 7000000 window backend.Stride
   -- Before protection is due the FIFO thread is named; then the protected one with the lower turn.
   pub undue : named (answer_of (peek_next crane_state.table crane_state.queue
-      (cpu 0) 6999999 window candidate.None)) ≡ 1 + 2
-  pub due : named (answer_of (peek_next crane_state.table crane_state.queue (cpu 0) 7000000 window candidate.None))
+      (cpu 0) 6999999 window None)) ≡ 1 + 2
+  pub due : named (answer_of (peek_next crane_state.table crane_state.queue (cpu 0) 7000000 window None))
       ≡ 1 + 1
   -- Both enqueues are accepted. The more urgent thread is the head of their tree: a selection for its processor names
   -- it, and one for the other processor is refused.
@@ -140,9 +136,9 @@ pub record Computed : Type 0 where
       ≡ out (step (value tt) both_in.queue) both_in.table
   pub fits : PriorityFits (record_of mixed 0).parameters.policy
       × PriorityFits (record_of first_in.table 1).parameters.policy
-  pub selection : Accepted (cpu 0) (select_at 0 window candidate.None) both_in
-  pub its_own : named (answer_of (peek_next both_in.table both_in.queue (cpu 0) 0 window candidate.None)) ≡ 1 + 0
-  pub not_own : named (answer_of (peek_next both_in.table both_in.queue (cpu 1) 0 window candidate.None))
+  pub selection : Accepted (cpu 0) (select_at 0 window None) both_in
+  pub its_own : named (answer_of (peek_next both_in.table both_in.queue (cpu 0) 0 window None)) ≡ 1 + 0
+  pub not_own : named (answer_of (peek_next both_in.table both_in.queue (cpu 1) 0 window None))
       ≡ 100 + damaged
 
 pub crane_computed : Computed
@@ -176,9 +172,9 @@ crane_premises =
     (sym crane_computed.queued) (three_met crane_computed.met)
 
 -- So demand 3 speaks of this run: the thread that is named has the least key of the three.
-pub crane_answered : AnsweredIn (cpu 0) crane_state 7000000 window candidate.None
+pub crane_answered : AnsweredIn (cpu 0) crane_state 7000000 window None
 crane_answered =
-    demand_3 (cpu 0) crane (omega arith) crane_bytes calls crane_allowed 7000000 window candidate.None crane_premises
+    demand_3 (cpu 0) crane (omega arith) crane_bytes calls crane_allowed 7000000 window None crane_premises
 
 -- Accepted calls for two processors lead to the queue that the selection leaves, so that it is sound.
 pub mixed_reached : Reached (including 1 (including 0 nobody)) crane_computed.selection.2
@@ -187,7 +183,7 @@ mixed_reached =
     let c = crane_computed in
     let x = c.selection in
     reached.selected (cpu 0) (including 1 (including 0 nobody)) both_in.queue x.2 both_in.table x.3 0 window
-    x.1 candidate.None x.0
+    x.1 None x.0
     (reached.enqueued (cpu 1) (including 0 nobody) first_in.queue both_in.queue first_in.table both_in.table
     false 1
     (reached.enqueued (cpu 0) nobody new_queue first_in.queue mixed first_in.table false 0

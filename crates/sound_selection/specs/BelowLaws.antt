@@ -1,18 +1,18 @@
 -- What every queued thread asks for: what the current one asks for, what each asks for, and no more.
 use Prim.Native.Nat.{ℕ, zero, suc, ◌<◌}
-use Rattle.std.specs.Prelude.{◌≡◌, refl, Bool, true, false, List}
+use Rattle.std.specs.Prelude.{◌≡◌, refl, Bool, true, false, List, Option}
 use Rattle.std.proofs.Common.{sym, ap, ◌∙◌, subst, arith}
 use Rattle.refusal.specs.Cases.{choose}
 use Rattle.thread.specs.declared.ThreadRecord.{ThreadRecord}
-use Rattle.demands.specs.declared.CandidateOption.{CandidateOption}
 use Rattle.demands.specs.declared.Gathered.{Gathered}
 use Rattle.demands.specs.Demands.{gathered, of_current}
 use Rattle.sound_queue.specs.PlaceLaws.{same_or_not}
 use Rattle.sound_selection.specs.Claim.{candidate_now, gathered_below}
 use Rattle.sound_selection.specs.Within.{Within, alone}
 use Rattle.sound_selection.specs.WithinLaws.{within_refl, within_trans, gathered_old, gathered_new, gathered_most}
+use Rattle.arbitration.specs.declared.Candidate.{Candidate}
 
-module _ (queued : ℕ → Bool) (t : List ThreadRecord) (now : ℕ) (current : CandidateOption) where
+module _ (queued : ℕ → Bool) (t : List ThreadRecord) (now : ℕ) (current : Option Candidate) where
   abbrev below : ℕ → Gathered
   below n = gathered_below n queued t now current
 

@@ -1,16 +1,13 @@
 -- Laws of what a selection may do to a thread, of a tree's head, and of where a queued thread stands.
-use Rattle.std.specs.Prelude.{ℕ, ◌+◌, ◌<◌, ◌≡◌, refl, true, false, ◌||◌, ◌≢◌, List, [], ◌∷◌, eqb}
+use Rattle.std.specs.Prelude.{ℕ, ◌+◌, ◌<◌, ◌≡◌, refl, true, false, ◌||◌, ◌≢◌, List, [], ◌∷◌, eqb, Option, Some, None}
 use Rattle.std.proofs.Common.{sym, ap, ◌∙◌, subst, arith, eq-eqb, ne_eqb, eqb-true}
 use Rattle.std.proofs.lemmas.Bool.{eqb-false}
-use Rattle.refusal.specs.Answer.{value}
+use Rattle.refusal.specs.Answer.{value, or_damaged}
 use Rattle.refusal.specs.Cases.{never, given}
 use Rattle.avl.specs.Tree.{in_order}
 use Rattle.policy.specs.declared.SchedulingPolicy.{SchedulingPolicy}
 use Rattle.policy.specs.declared.SchedulingPolicy.TheVariants as policy
 use Rattle.policy.specs.PolicyCases.{on_policy}
-use Rattle.thread.specs.declared.IndexFor.TheVariants as index
-use Rattle.thread.specs.declared.Link.{Link}
-use Rattle.thread.specs.declared.Link.TheVariants as link
 use Rattle.thread.specs.declared.ThreadRecord.{ThreadRecord}
 use Rattle.thread.specs.Filing.{role_index, index_for, fair_index}
 use Rattle.thread.specs.Judgement.{is_bad_record}
@@ -24,7 +21,6 @@ use Rattle.sound_index.specs.Outcomes.{least_of}
 use Rattle.sound_index.proofs.Demand2.{first_names_least}
 use Rattle.queue.specs.declared.Root.{Root}
 use Rattle.queue.specs.Queue.{is_budget}
-use Rattle.ready_index.specs.Answers.{least_answer}
 use Rattle.renewal.specs.Renewal.{head_of, root_at}
 use Rattle.sound_queue.specs.Forest.{Forest}
 use Rattle.sound_queue.specs.LinksLaws.{alike_record}
@@ -97,11 +93,11 @@ precedes_each t i (k ∷ l) j p e =
 -- The head of a list of threads in key order, whose threads are those of tree k.
 head_by : (t : List ThreadRecord) (place : ℕ → ℕ) (k : ℕ) (l : List ℕ) → Rising t l
     → ((j : ℕ) → has j l ≡ eqb (place j) k)
-    → (x : Link) × (least_answer (least_of l) ≡ value x) × Head t place k x
-unfolding least_answer
-head_by t place k [] p x = (link.None, refl, nobody_there (λ j. eqb-false (place j) k (sym (x j))))
+    → (x : Option ℕ) × (or_damaged (least_of l) ≡ value x) × Head t place k x
+unfolding or_damaged
+head_by t place k [] p x = (None, refl, nobody_there (λ j. eqb-false (place j) k (sym (x j))))
 head_by t place k (i ∷ l) p x = (
-  link.Some i,
+  Some i,
   refl,
   first_of_list i
       (eqb-true (place i) k (sym (x i) ∙ rw (eq-eqb i i refl)))
@@ -114,7 +110,7 @@ head_by t place k (i ∷ l) p x = (
 -- The first of a tree in a forest is its head.
 pub head_is : {roots : List Root} {t : List ThreadRecord} {place : ℕ → ℕ} → Forest roots t place → (k : ℕ)
     → k < tree_count
-    → (x : Link) × (head_of t (root_at roots k) ≡ value x) × Head t place k x
+    → (x : Option ℕ) × (head_of t (root_at roots k) ≡ value x) × Head t place k x
 unfolding head_of
 head_is {roots} {t} {place} F k b =
     let h = head_by t place k (in_order (F.trees k)) (F.holds k b).rising (λ j. F.exact j k b) in (
@@ -131,11 +127,11 @@ standing r k f = go r.parameters.policy refl f
   where
     go : (p : SchedulingPolicy) → r.parameters.policy ≡ p → Filed r k → Standing r k
     go (policy.Fifo p) e (by_filing x) =
-        in_fifo p e (let z : index.Index (role_index r.parameters.role) ≡ index.Index k = rw e at x in cc)
+        in_fifo p e (let z : Some (role_index r.parameters.role) ≡ Some k = rw e at x in cc)
     go (policy.Fifo p) e (in_partner m b x y) = never (let z : false ≡ true = rw e at b in cc)
     go policy.Fair e (by_filing x) =
-        in_fair e (let z : index.Index (fair_index + role_index r.parameters.role) ≡ index.Index k = rw e at x in cc)
+        in_fair e (let z : Some (fair_index + role_index r.parameters.role) ≡ Some k = rw e at x in cc)
     go policy.Fair e (in_partner m b x y) = never (let z : false ≡ true = rw e at b in cc)
     go policy.Budget e f = in_budget e (filed_in r k e f)
-    go policy.Idle e (by_filing x) = never (let z : index.None ≡ index.Index k = rw e at x in cc)
+    go policy.Idle e (by_filing x) = never (let z : None ≡ Some k = rw e at x in cc)
     go policy.Idle e (in_partner m b x y) = never (let z : false ≡ true = rw e at b in cc)

@@ -1,10 +1,8 @@
 -- What a selection may do to a thread, and the head of a tree.
-use Rattle.std.specs.Prelude.{ℕ, ◌+◌, ◌≤◌, ◌<◌, ◌≡◌, Bool, false, ◌≢◌, List, length}
+use Rattle.std.specs.Prelude.{ℕ, ◌+◌, ◌≤◌, ◌<◌, ◌≡◌, Bool, false, ◌≢◌, List, length, Option, Some, None}
 use Rattle.refusal.specs.Answer.{value, refused}
 use Rattle.policy.specs.declared.SchedulingPolicy.TheVariants as policy
 use Rattle.policy.specs.declared.ThreadPriority.{ThreadPriority}
-use Rattle.thread.specs.declared.Link.{Link}
-use Rattle.thread.specs.declared.Link.TheVariants as link
 use Rattle.thread.specs.declared.ThreadRecord.{ThreadRecord}
 use Rattle.thread.specs.Filing.{role_index, fair_index, budget_exhausted}
 use Rattle.thread.specs.Membership.{empty_links}
@@ -35,10 +33,10 @@ pub data Shift (now p : ℕ) (a : ThreadRecord) (p' : ℕ) (b : ThreadRecord) : 
   shifts : budget_exhausted ≤ p → p < tree_count → p' + 3 ≡ p → b ≡ refreshed_to now a → Shift now p a p' b
 
 -- The head of tree k: none, and nobody stands there; or a thread that stands there and precedes every other that does.
-pub data Head (t : List ThreadRecord) (place : ℕ → ℕ) (k : ℕ) : Link → Type 0 where
-  nobody_there : ((j : ℕ) → place j ≢ k) → Head t place k link.None
+pub data Head (t : List ThreadRecord) (place : ℕ → ℕ) (k : ℕ) : Option ℕ → Type 0 where
+  nobody_there : ((j : ℕ) → place j ≢ k) → Head t place k None
   first_of_list : (i : ℕ) → place i ≡ k → ((j : ℕ) → place j ≡ k → j ≢ i → Precedes t i j)
-      → Head t place k (link.Some i)
+      → Head t place k (Some i)
 
 -- What the tree says of a queued record: policy and role, and of a budget one of the two trees of its role.
 pub data Standing (r : ThreadRecord) (k : ℕ) : Type 0 where

@@ -1,8 +1,9 @@
 -- The words of demand 3, after document 01, "Keys and filing".
 use Rattle.std.specs.Prelude.{ℕ, zero, suc, ◌+◌, ◌/◌, ◌≤◌, ◌<◌, ◌≡◌, Bool, true, false, not, ◌≢◌, List, [], ◌∷◌, length}
+use Rattle.std.specs.Prelude.{Option, Some, None}
 use Rattle.refusal.specs.Answer.{value, refused}
 use Rattle.refusal.specs.Cases.{choose}
-use Rattle.order.specs.declared.Ordering.TheVariants.{Less, Equal}
+use Rattle.std.specs.declared.cmp.Ordering.TheVariants.{Less, Equal}
 use Rattle.policy.specs.declared.FairBackend.{FairBackend}
 use Rattle.algorithms.specs.Runtime.{epoch_refreshed}
 use Rattle.arbitration.specs.declared.Candidate.{Candidate}
@@ -10,8 +11,6 @@ use Rattle.arbitration.specs.declared.CpuWindow.{CpuWindow}
 use Rattle.arbitration.specs.declared.Demand.{Demand}
 use Rattle.dispatch_keys.specs.declared.DispatchKey.{DispatchKey}
 use Rattle.arbitration.specs.declared.DispatchMode.{DispatchMode}
-use Rattle.arbitration.specs.declared.KeyOption.{KeyOption}
-use Rattle.arbitration.specs.declared.KeyOption.TheVariants as key
 use Rattle.window_config.specs.Config.{sound_config, admitted}
 use Rattle.arbitration.specs.Window.{refreshed}
 use Rattle.arbitration.specs.Key.{compare_keys, key_of}
@@ -24,15 +23,13 @@ use Rattle.lists.specs.Lists.{on_answer}
 use Rattle.ready_index.specs.Index.{contains}
 use Rattle.queue.specs.RunQueue.{CpuRunQueue}
 use Rattle.queue.specs.Queue.{Step, step, new_queue, root_of, is_budget, on_contained, enqueue_call, remove_call}
-use Rattle.demands.specs.declared.CandidateOption.{CandidateOption}
 use Rattle.demands.specs.declared.Gathered.{Gathered}
-use Rattle.selection.specs.declared.ReadyOption.{ReadyOption}
-use Rattle.selection.specs.declared.ReadyOption.TheVariants as ready
 use Rattle.selection.specs.declared.Selection.{Selection}
 use Rattle.demands.specs.Demands.{candidate_of, gathered, of_current}
 use Rattle.renewal.specs.Renewal.{is_epoch}
 use Rattle.selection.specs.Peek.{Peeked, peeked, peek_next}
 use Rattle.sound_queue.specs.Sound.{nobody, including, excluding, PriorityFits}
+use Rattle.selection.specs.declared.ReadyThread.{ReadyThread}
 
 -- "Refreshed to now": a record put through `refresh` at that reading if it has a budget.
 unfoldable pub refreshed_to : ℕ → ThreadRecord → ThreadRecord
@@ -44,19 +41,19 @@ candidate_now t now j = candidate_of (refreshed_to now (record_of t j))
 
 -- The source's demand, and the lowest fair pass, of the current thread, if given, and of every queued thread below n,
 -- refreshed to now.
-unfoldable pub gathered_below : ℕ → (ℕ → Bool) → List ThreadRecord → ℕ → CandidateOption → Gathered
+unfoldable pub gathered_below : ℕ → (ℕ → Bool) → List ThreadRecord → ℕ → Option Candidate → Gathered
 gathered_below zero queued t now current = of_current current
 gathered_below (suc n) queued t now current =
     choose (queued n) (gathered (gathered_below n queued t now current) (candidate_now t now n))
     (gathered_below n queued t now current)
 
 -- Of every queued thread.
-abbrev pub gathered_now : (ℕ → Bool) → List ThreadRecord → ℕ → CandidateOption → Gathered
+abbrev pub gathered_now : (ℕ → Bool) → List ThreadRecord → ℕ → Option Candidate → Gathered
 gathered_now queued t now current = gathered_below (length t) queued t now current
 
 -- What the source gives the refreshed record under a demand and the window refreshed to now: a key with its mode, or
 -- none.
-unfoldable pub key_now : List ThreadRecord → CpuWindow → ℕ → Demand → ℕ → KeyOption
+unfoldable pub key_now : List ThreadRecord → CpuWindow → ℕ → Demand → ℕ → Option (DispatchKey × DispatchMode)
 key_now t w now d j = key_of (refreshed w now) now (candidate_now t now j) d
 
 -- A queued budget thread is filed as having time left if it stands in such a tree, or in an exhausted one while the
@@ -83,20 +80,20 @@ pub data Later (k : DispatchKey) (i : ℕ) (l : DispatchKey) (j : ℕ) : Type 0 
 
 -- None: no queued thread has a key. A thread: it is queued, has that key, and every other queued thread that has one
 -- comes later.
-abbrev pub Names : (ℕ → Bool) → List ThreadRecord → CpuWindow → ℕ → Demand → ReadyOption → Type 0
-Names queued t w now d ready.None = (j : ℕ) → queued j ≡ true → key_now t w now d j ≡ key.None
-Names queued t w now d (ready.Some r) = record {
+abbrev pub Names : (ℕ → Bool) → List ThreadRecord → CpuWindow → ℕ → Demand → Option ReadyThread → Type 0
+Names queued t w now d None = (j : ℕ) → queued j ≡ true → key_now t w now d j ≡ None
+Names queued t w now d (Some r) = record {
   is_queued : queued r.id.0 ≡ true;
   its_policy : r.policy ≡ (record_of t r.id.0).parameters.policy;
-  its_key : (m : DispatchMode) × (key_now t w now d r.id.0 ≡ key.Some r.key m);
+  its_key : (m : DispatchMode) × (key_now t w now d r.id.0 ≡ Some (r.key, m));
   least : (j : ℕ) (k : DispatchKey) (m : DispatchMode) → queued j ≡ true → j ≢ r.id.0
-      → key_now t w now d j ≡ key.Some k m → Later r.key r.id.0 k j;
+      → key_now t w now d j ≡ Some (k, m) → Later r.key r.id.0 k j;
 }
 
 -- A selection is answered, not refused: with the demand of all queued threads and the current one, their lowest fair
 -- pass, and of all queued threads the one with the least key under that demand. The window is refreshed to now, unless
 -- nobody is queued (SPECIFICATION 13.2).
-pub record Answered (queued : ℕ → Bool) (t : List ThreadRecord) (now : ℕ) (w : CpuWindow) (current : CandidateOption)
+pub record Answered (queued : ℕ → Bool) (t : List ThreadRecord) (now : ℕ) (w : CpuWindow) (current : Option Candidate)
     (o : Out (Peeked CpuRunQueue)) : Type 0 where
   pub selection : Selection
   pub window : CpuWindow
@@ -114,7 +111,7 @@ pub record Answered (queued : ℕ → Bool) (t : List ThreadRecord) (now : ℕ) 
 pub data Call : Type 0 where
   enqueue_at : Bool → ℕ → Call
   remove_at : ℕ → Call
-  select_at : ℕ → CpuWindow → CandidateOption → Call
+  select_at : ℕ → CpuWindow → Option Candidate → Call
   change_to : List ThreadRecord → Call
 
 -- Queue, table, and who is queued: from its accepted enqueue to its accepted removal (SPECIFICATION 12.1).
@@ -192,6 +189,6 @@ fresh t = record { queue = new_queue; table = t; queued = nobody }
 abbrev pub PremisesIn : State → ℕ → CpuWindow → Type 0
 PremisesIn s now w = Premises s.queued s.queue s.table now w
 
-abbrev pub AnsweredIn : CpuIndex → State → ℕ → CpuWindow → CandidateOption → Type 0
+abbrev pub AnsweredIn : CpuIndex → State → ℕ → CpuWindow → Option Candidate → Type 0
 AnsweredIn cpu s now w current =
     Answered s.queued s.table now w current (peek_next s.table s.queue cpu now w current)

@@ -1,11 +1,12 @@
 -- Records of one class ask for the same, have keys of one tier, and the order of their tree keys is that of their
 -- dispatch keys.
-use Rattle.std.specs.Prelude.{ℕ, ◌≤◌, ◌≡◌, Bool, not}
+use Rattle.std.specs.Prelude.{ℕ, ◌≤◌, ◌≡◌, Bool, not, Option, Some, None}
+use Rattle.std.proofs.lemmas.Option.{some_pair_parts}
 use Rattle.std.proofs.Math.Path.{refl, sym, ap, subst}
 use Rattle.std.proofs.Common.{◌∙◌, arith}
 use Rattle.std.proofs.Math.Bool.{true, false}
 use Rattle.refusal.specs.Cases.{never, choose, given}
-use Rattle.order.specs.declared.Ordering.TheVariants.{Less}
+use Rattle.std.specs.declared.cmp.Ordering.TheVariants.{Less}
 use Rattle.policy.specs.declared.FairBackend.{FairBackend}
 use Rattle.policy.specs.declared.FairBackend.TheVariants as backend
 use Rattle.policy.specs.declared.SchedulingParameters.{SchedulingParameters}
@@ -22,8 +23,6 @@ use Rattle.arbitration.specs.declared.CpuWindow.{CpuWindow}
 use Rattle.arbitration.specs.declared.Demand.{Demand}
 use Rattle.dispatch_keys.specs.declared.DispatchKey.{DispatchKey}
 use Rattle.arbitration.specs.declared.DispatchMode.{DispatchMode}
-use Rattle.arbitration.specs.declared.KeyOption.{KeyOption}
-use Rattle.arbitration.specs.declared.KeyOption.TheVariants as key
 use Rattle.window_config.specs.Config.{accepts_budget}
 use Rattle.arbitration.specs.Key.{exhausted_of, shut_out, strict_fifo, favoured, algorithm_of, on_algorithm}
 use Rattle.arbitration.specs.Key.{ordinary_rank}
@@ -33,12 +32,11 @@ use Rattle.thread.specs.Filing.{budget_available_of, role_index}
 use Rattle.thread.specs.FilingLaws.{role_index_le}
 use Rattle.thread.specs.TreeKey.{algorithm_key, tree_key, ready_index_key, parts, compare_tree_keys}
 use Rattle.demands.specs.Demands.{candidate_of, demand_of, either, joined, add_demand, on_pass, lowest_pass, gathered}
-use Rattle.demands.specs.declared.PassOption.{PassOption}
-use Rattle.demands.specs.declared.PassOption.TheVariants as pass
 use Rattle.sound_selection.specs.Within.{AtMost, less, same, pass_parts, PassWithin, Within, alone, pair_parts}
 use Rattle.sound_selection.specs.PairLaws.{first_parts, same_first}
 use Rattle.sound_selection.specs.Classes.{Class, fifo_class, fair_class, ready_class, exhausted_class, Alike}
 use Rattle.sound_selection.specs.Classes.{both_fifo, both_fair, both_budget}
+use Rattle.algorithms.specs.declared.Wide.{Wide}
 
 role_same : (r s : SchedulingRole) → role_index r ≡ role_index s → r ≡ s
 unfolding role_index on_role
@@ -116,11 +114,14 @@ tree_order urgency rank n i j a b h = less (same_first urgency _ _ ∙ same_firs
 module _ (w : CpuWindow) (now : ℕ) (d : Demand) where
   -- The key that a window gives a record: none where it is shut out, else over its tree key's parts. x: it is
   -- exhausted; n: the algorithm's rank.
-  abbrev formed : Bool → ℕ → ThreadRecord → KeyOption
+  abbrev formed : Bool → ℕ → ThreadRecord → Option (DispatchKey × DispatchMode)
   formed x n r =
-      choose (shut_out x d) key.None
-      (key.Some (dispatch (tier_of w now r.parameters x d).urgency (tier_of w now r.parameters x d).rank n r)
-      (tier_of w now r.parameters x d).mode)
+      choose (shut_out x d) None
+      (Some (
+        (dispatch (tier_of w now r.parameters x d).urgency (tier_of w now r.parameters x d).rank n r),
+        (tier_of w
+            now r.parameters x d).mode,
+      ))
 
   module _ (r : ThreadRecord) (acc : accepts_budget w.config r.parameters ≡ true) where
     fifo_key_lem : (p : ThreadPriority) → r.parameters.policy ≡ policy.Fifo p
@@ -153,25 +154,29 @@ module _ (w : CpuWindow) (now : ℕ) (d : Demand) where
   pub record Before (i j : ℕ) (a : ThreadRecord) (k : DispatchKey) : Type 0 where
     pub first : DispatchKey
     pub mode : DispatchMode
-    pub has_key : key_of w now (candidate_of a) d ≡ key.Some first mode
+    pub has_key : key_of w now (candidate_of a) d ≡ Some (first, mode)
     pub at_most : AtMost (pair_parts first i) (pair_parts k j)
 
   before_by : (i j : ℕ) (a b : ThreadRecord) (x : Bool) (n : ℕ) (k : DispatchKey) (m : DispatchMode)
       → compare_tree_keys (ready_index_key a i) (ready_index_key b j) ≡ Less
       → tier_of w now a.parameters x d ≡ tier_of w now b.parameters x d
       → key_of w now (candidate_of a) d ≡ formed x n a → key_of w now (candidate_of b) d ≡ formed x n b
-      → key_of w now (candidate_of b) d ≡ key.Some k m → Before i j a k
+      → key_of w now (candidate_of b) d ≡ Some (k, m) → Before i j a k
   unfolding choose
   before_by i j a b x n k m h t e f g = go (shut_out x d) refl
     where
       go : (y : Bool) → shut_out x d ≡ y → Before i j a k
-      go true z = let q : key.None ≡ key.Some k m = sym (f ∙ rw z) ∙ g in never cc
+      go true z = let q : ◌≡◌ {A = Option (DispatchKey × DispatchMode)} None (Some (k, m)) = sym (f ∙ rw z)
+          ∙ g in never cc
       go false z =
-          let q : key.Some (dispatch (tier_of w now b.parameters x d).urgency
-          (tier_of w now b.parameters x d).rank n b) (tier_of w now b.parameters x d).mode
-          ≡ key.Some k m = sym (f ∙ rw z) ∙ g in
+          let q : ◌≡◌ {A = Option (DispatchKey × DispatchMode)} (Some (
+            (dispatch (tier_of w now b.parameters x d).urgency
+                (tier_of w now b.parameters x d).rank n b),
+            (tier_of w now b.parameters x d).mode,
+          ))
+          (Some (k, m)) = sym (f ∙ rw z) ∙ g in
           let p : dispatch (tier_of w now b.parameters x d).urgency (tier_of w now b.parameters x d).rank n b
-          ≡ k = cc in
+          ≡ k = (some_pair_parts _ _ _ _ q).0 in
           record {
             first = dispatch (tier_of w now b.parameters x d).urgency (tier_of w now b.parameters x d).rank n a;
             mode = (tier_of w now b.parameters x d).mode;
@@ -187,7 +192,7 @@ module _ (w : CpuWindow) (now : ℕ) (d : Demand) where
   pub alike_before : (i j : ℕ) (a b : ThreadRecord) (k : DispatchKey) (m : DispatchMode) → Alike a b
       → accepts_budget w.config a.parameters ≡ true → accepts_budget w.config b.parameters ≡ true
       → compare_tree_keys (ready_index_key a i) (ready_index_key b j) ≡ Less
-      → key_of w now (candidate_of b) d ≡ key.Some k m
+      → key_of w now (candidate_of b) d ≡ Some (k, m)
       → Before i j a k
   alike_before i j a b k m (both_fifo p q e f r) u v h g =
       before_by i j a b false 0 k m h (tier_same a b false (both_fifo p q e f r)) (fifo_key_lem a u p e)
@@ -233,11 +238,11 @@ module _ (i j : ℕ) (a b : ThreadRecord) where
       same (ap pass_parts (round_robin_pass a.runtime a.parameters a.ready_turn e
       ∙ sym (round_robin_pass b.runtime b.parameters b.ready_turn f)))
 
-  abbrev lowest_of : ThreadRecord → PassOption
-  lowest_of r = lowest_pass pass.None (candidate_of r)
+  abbrev lowest_of : ThreadRecord → Option Wide
+  lowest_of r = lowest_pass None (candidate_of r)
 
   no_pass : (r : ThreadRecord) (p : SchedulingPolicy) → r.parameters.policy ≡ p → (p ≡ policy.Fair → ⊥)
-      → lowest_of r ≡ pass.None
+      → lowest_of r ≡ None
   unfolding lowest_pass candidate_of given on_policy
   no_pass r (policy.Fifo q) e n = rw e
   no_pass r policy.Fair e n = absurd (n refl)
@@ -245,7 +250,7 @@ module _ (i j : ℕ) (a b : ThreadRecord) where
   no_pass r policy.Idle e n = rw e
 
   fair_pass_lem : (r : ThreadRecord) → r.parameters.policy ≡ policy.Fair
-      → lowest_of r ≡ pass.Some (candidate_key r.runtime r.parameters r.ready_turn).pass
+      → lowest_of r ≡ Some (candidate_key r.runtime r.parameters r.ready_turn).pass
   unfolding lowest_pass candidate_of given on_policy on_pass
   fair_pass_lem r e = rw e
 
@@ -257,7 +262,7 @@ module _ (i j : ℕ) (a b : ThreadRecord) where
   alike_pass (both_fair e f r) g h =
       let c = g f in
       subst (λ x. PassWithin x (lowest_of a)) (sym (fair_pass_lem b f))
-      (subst (λ x. PassWithin (pass.Some (candidate_key b.runtime b.parameters b.ready_turn).pass) x)
+      (subst (λ x. PassWithin (Some (candidate_key b.runtime b.parameters b.ready_turn).pass) x)
       (sym (fair_pass_lem a e)) (pass_order c.0 e f c.1 c.2 h))
   alike_pass (both_budget e f r l) g h =
       subst (λ x. PassWithin x (lowest_of a)) (sym (no_pass b policy.Budget f (λ z. never cc))) tt

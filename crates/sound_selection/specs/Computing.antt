@@ -1,6 +1,7 @@
 -- The definitions that a list of calls and a selection go through, under one name, so that a file that computes with
 -- them says `unfolding computing` and lists none.
 use Rattle.refusal.specs.Cases.{choose, if_less, if_equal, given}
+use Rattle.refusal.specs.Answer.{or_damaged}
 use Rattle.order.specs.Order.{compare_numbers, then_by, compare_parts, on_ordering}
 use Rattle.time.specs.Time.{rises, period_start, checked_add, period_end, on_deadline}
 use Rattle.policy.specs.PolicyCases.{on_policy, on_role, on_backend, on_budget}
@@ -45,7 +46,6 @@ use Rattle.renewal.specs.Leaves.{on_leaves}
 use Rattle.demands.specs.Demands.{candidate_of, demand_of, either, joined, add_demand, compare_passes, lesser_pass}
 use Rattle.demands.specs.Demands.{on_pass}
 use Rattle.demands.specs.Demands.{lowest_pass, gathered, on_candidate, of_current}
-use Rattle.ready_index.specs.Answers.{least_answer}
 use Rattle.renewal.specs.Renewal.{head_of, refresh_record, refresh_runtime, move_one, move_all, with_trees}
 use Rattle.renewal.specs.Renewal.{renew_roles, is_epoch, is_halt, renew}
 use Rattle.selection.specs.Heads.{head_at, gather_heads, on_ready, on_key_option, comes_before, lesser_ready}
@@ -74,7 +74,7 @@ unfolding choose if_less if_equal given compare_numbers then_by compare_parts on
     is_ready_on sound_config ranks_rise accepts_budget same_backend admitted windows.refreshed is_priority is_protected
     protection_deadline due_at exhausted_of shut_out strict_fifo hurried favoured algorithm_of on_algorithm
     ordinary_rank tier_of key_of compare_keys on_leaves candidate_of demand_of either joined add_demand compare_passes
-    lesser_pass on_pass lowest_pass gathered on_candidate of_current least_answer head_of refresh_record refresh_runtime
+    lesser_pass on_pass lowest_pass gathered on_candidate of_current or_damaged head_of refresh_record refresh_runtime
     move_one move_all with_trees renew_roles is_epoch is_halt renew head_at gather_heads on_ready on_key_option
     comes_before lesser_ready ready_with least_of chosen peek_running peek_parts selection_parts with_selection_parts
     restored peek_next refreshed_to filed_ready after after_all including excluding

@@ -1,7 +1,7 @@
 -- The exhausted tree of one role emptied, on a sound queue: as many moves as there are records are enough, and the
 -- queue is sound after them.
 use Prim.Native.Nat.{ℕ, zero, suc, ◌+◌, ◌≤◌, ◌<◌}
-use Rattle.std.specs.Prelude.{◌≡◌, refl, Bool, true, false, ◌≢◌, length, get_or, ltb}
+use Rattle.std.specs.Prelude.{◌≡◌, refl, Bool, true, false, ◌≢◌, length, get_or, ltb, Option, Some, None}
 use Rattle.std.proofs.Math.Path.{sym, ap}
 use Rattle.std.proofs.Common.{◌∙◌, arith, get_or-set_other, lt-ltb, le-ltb}
 use mathlib.Core.List.{List}
@@ -10,8 +10,6 @@ use Rattle.std.proofs.Math.Seq.{get_or-set_same, set-get_or, set-set}
 use Rattle.std.proofs.lemmas.List.{set_comm}
 use Rattle.refusal.specs.Answer.{value, refused, damaged}
 use Rattle.refusal.specs.Cases.{choose}
-use Rattle.thread.specs.declared.Link.{Link}
-use Rattle.thread.specs.declared.Link.TheVariants as link
 use Rattle.thread.specs.declared.ThreadRecord.{ThreadRecord}
 use Rattle.thread.specs.Membership.{on_link}
 use Rattle.rows.specs.Table.{Out, out}
@@ -197,8 +195,8 @@ module _ (queued : ℕ → Bool) (now role : ℕ) (b : role < 3) where
         goes_on_lem : move_all n M.table M.trees.exhausted M.trees.ready now
             ≡ out (leaves (value tt) D.trees) D.table
         goes_on_lem =
-            ap (λ (x : Link). move_all n M.table x M.trees.ready now) (sym exhausted_root)
-            ∙ ap (λ (x : Link). move_all n M.table (root_of M.queue (budget_exhausted + role)) x now)
+            ap (λ (x : Option ℕ). move_all n M.table x M.trees.ready now) (sym exhausted_root)
+            ∙ ap (λ (x : Option ℕ). move_all n M.table (root_of M.queue (budget_exhausted + role)) x now)
             (sym ready_root) ∙ D.is
 
         drained_then : Drained S now role (on_out (move_one t (own n) i now)
@@ -218,12 +216,12 @@ module _ (queued : ℕ → Bool) (now role : ℕ) (b : role < 3) where
         }
 
     by_head : (moves : ℕ) (rest : ℕ → Out (Leaves (Unit {0}) BudgetTrees)) → count (length t) (spent S.place) ≤ moves
-        → ((i : ℕ) → S.place i ≡ budget_exhausted + role → Drained S now role (rest i)) → (x : Link) → Head t
+        → ((i : ℕ) → S.place i ≡ budget_exhausted + role → Drained S now role (rest i)) → (x : Option ℕ) → Head t
         S.place (budget_exhausted + role) x
         → Drained S now role (on_link x (out (leaves (value tt) (own moves)) t) rest)
     unfolding on_link
-    by_head moves rest c f link.None (nobody_there n) = drained_now moves c n
-    by_head moves rest c f (link.Some i) (first_of_list j e h) = f j e
+    by_head moves rest c f None (nobody_there n) = drained_now moves c n
+    by_head moves rest c f (Some i) (first_of_list j e h) = f j e
 
     -- No moves are left only where no thread is.
     none_spent : count (length t) (spent S.place) ≤ 0 → (i : ℕ) → S.place i ≡ budget_exhausted + role → ⊥

@@ -1,12 +1,11 @@
 -- A head of a sound queue is ready on its own processor, judged, and refreshed, and the queue is sound after that; on
 -- another processor it is refused.
-use Rattle.std.specs.Prelude.{ℕ, zero, suc, ◌≡◌, refl, Bool, ◌≢◌, List, eqb}
+use Rattle.std.specs.Prelude.{ℕ, zero, suc, ◌≡◌, refl, Bool, ◌≢◌, List, eqb, Some, None, Ok, Err}
 use Rattle.std.proofs.Math.Path.{sym, ap}
 use Rattle.std.proofs.Common.{◌∙◌, subst, eq-eqb, ne_eqb}
 use Rattle.std.proofs.Math.Bool.{true, false}
-use Rattle.refusal.specs.Answer.{value, refused, damaged}
+use Rattle.refusal.specs.Answer.{value, refused, damaged, damage}
 use Rattle.refusal.specs.Cases.{never, choose, given, if_equal}
-use Rattle.policy.specs.declared.BudgetOption.TheVariants as option
 use Rattle.policy.specs.declared.BudgetParameters.{BudgetParameters}
 use Rattle.policy.specs.declared.SchedulingPolicy.TheVariants as policy
 use Rattle.budget.specs.Runtime as budget
@@ -19,7 +18,6 @@ use Rattle.thread.specs.declared.ThreadRecord.{ThreadRecord}
 use Rattle.thread.specs.Judgement.{is_bad_record}
 use Rattle.thread.specs.Membership.{on_membership, on_cpu, ready_cpu, is_ready_on, empty_links}
 use Rattle.thread.specs.Records.{with_runtime, with_links}
-use Rattle.rows.specs.declared.RecordRead.TheVariants as read
 use Rattle.rows.specs.Table.{out, record_of, record_at, changed}
 use Rattle.rows.specs.TableCases.{on_record}
 use Rattle.rows.specs.TableLaws.{length_changed, record_same, record_other, record_within, reading_other}
@@ -94,7 +92,7 @@ module _ {queued : ℕ → Bool} {q : CpuRunQueue} {t : List ThreadRecord} (S : 
   bare_refreshed r h = ap (with_links empty_links) (sym h) ∙ sym (refreshed_links now empty_links (record_of t i))
 
   -- No budget: nothing changes.
-  headed_plain : (record_of t i).parameters.budget ≡ option.None → refreshed_to now (record_of t i) ≡ record_of t i
+  headed_plain : (record_of t i).parameters.budget ≡ None → refreshed_to now (record_of t i) ≡ record_of t i
       → Headed S cpu now i
   unfolding bare_at
   headed_plain n h = record {
@@ -114,7 +112,7 @@ module _ {queued : ℕ → Bool} {q : CpuRunQueue} {t : List ThreadRecord} (S : 
 
   -- A budget: its runtime is stored.
   module _ (y : PolicyRuntime) (p : BudgetParameters) (b : (record_of t i).parameters.policy ≡ policy.Budget)
-      (g : (record_of t i).parameters.budget ≡ option.Some p)
+      (g : (record_of t i).parameters.budget ≡ Some p)
       (h : is_bad_record (with_runtime y (record_of t i)) ≡ false)
       (k : epoch_refreshed (record_of t i).runtime now (record_of t i).parameters ≡ value y) where
     abbrev stored : List ThreadRecord
@@ -132,7 +130,7 @@ module _ {queued : ℕ → Bool} {q : CpuRunQueue} {t : List ThreadRecord} (S : 
 
     other_records : (j : ℕ) → queued j ≡ false → record_at stored j ≡ record_at t j
     unfolding record_at
-    other_records j f = reading_other t i (with_runtime y) (λ (r : ThreadRecord). read.Got r) read.Damaged j
+    other_records j f = reading_other t i (with_runtime y) (λ (r : ThreadRecord). Ok r) (Err damage) j
         (λ z. let w : true ≡ false = sym e ∙ ap queued (sym z) ∙ f in never cc)
 
     headed_budget : Headed S cpu now i

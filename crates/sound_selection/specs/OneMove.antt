@@ -1,12 +1,11 @@
 -- One move of a change of period on a sound queue: it is accepted, and the queue is sound after it.
-use Rattle.std.specs.Prelude.{ℕ, ◌+◌, ◌<◌, ◌≡◌, Bool, ◌≢◌, List, length}
+use Rattle.std.specs.Prelude.{ℕ, ◌+◌, ◌<◌, ◌≡◌, Bool, ◌≢◌, List, length, Some, Ok}
 use Rattle.std.proofs.Math.Path.{refl, sym, ap}
 use Rattle.std.proofs.Common.{◌∙◌, subst, arith, get_or-set_other, lt-ltb}
 use Rattle.std.proofs.Math.Bool.{true, false}
 use Rattle.std.proofs.Math.ListN.{set}
 use Rattle.refusal.specs.Cases.{never}
 use Rattle.refusal.specs.Answer.{value}
-use Rattle.policy.specs.declared.BudgetOption.TheVariants as option
 use Rattle.policy.specs.declared.BudgetParameters.{BudgetParameters}
 use Rattle.policy.specs.declared.SchedulingPolicy.TheVariants as policy
 use Rattle.policy.specs.PolicyCases.{on_policy}
@@ -23,7 +22,6 @@ use Rattle.rows.specs.Table.{out, record_of, changed}
 use Rattle.rows.specs.TableCases.{on_record}
 use Rattle.rows.specs.TableLaws.{length_changed, record_same, record_other, record_within}
 use Rattle.lists.specs.Lists.{on_answer, on_out}
-use Rattle.ready_index.specs.declared.Rooted.TheVariants as rooted
 use Rattle.ready_index.specs.Cases.{on_rooted}
 use Rattle.ready_index.specs.Index.{insert, remove}
 use Rattle.sound_index.specs.TableLaws.{besides_length}
@@ -77,7 +75,7 @@ module _ {queued : ℕ → Bool} {q : CpuRunQueue} {t : List ThreadRecord} (S : 
       (standing (record_of t i) (budget_exhausted + role)
       (subst (Filed (record_of t i)) at (S.threads i is_queued).filed))
 
-  module _ (y : PolicyRuntime) (p : BudgetParameters) (g : (record_of t i).parameters.budget ≡ option.Some p)
+  module _ (y : PolicyRuntime) (p : BudgetParameters) (g : (record_of t i).parameters.budget ≡ Some p)
       (k : epoch_refreshed (record_of t i).runtime now (record_of t i).parameters ≡ value y)
       (M : Moved queued q t S.place i (budget_ready + role) y) where
     abbrev between : List ThreadRecord
@@ -109,12 +107,12 @@ module _ {queued : ℕ → Bool} {q : CpuRunQueue} {t : List ThreadRecord} (S : 
         (refresh_budget now (record_of M.out_of i) its_judgement M.out_of i p y (rw its_parameters g)
         (rw (its_parameters, its_runtime) k))
 
-    removes : remove t (root_of q (budget_exhausted + role)) i ≡ out (rooted.Root M.rest) M.out_of
-    removes = subst (λ n. remove t (root_of q n) i ≡ out (rooted.Root M.rest) M.out_of) at M.removes
+    removes : remove t (root_of q (budget_exhausted + role)) i ≡ out (Ok M.rest) M.out_of
+    removes = subst (λ n. remove t (root_of q n) i ≡ out (Ok M.rest) M.out_of) at M.removes
 
-    inserts : insert between (root_of q (budget_ready + role)) i ≡ out (rooted.Root M.top) M.table
+    inserts : insert between (root_of q (budget_ready + role)) i ≡ out (Ok M.top) M.table
     inserts =
-        subst (λ (x : Root). insert between x.root i ≡ out (rooted.Root M.top) M.table)
+        subst (λ (x : Root). insert between x.root i ≡ out (Ok M.top) M.table)
         (get_or-set_other q.indices (S.place i) (budget_ready + role) (record { root = M.rest }) empty_root
         (λ z. omega arith))
         M.inserts

@@ -1,17 +1,15 @@
 -- Laws of keys with numbers: keys first, then numbers, and the lesser of two.
-use Rattle.std.specs.Prelude.{ℕ, ◌≡◌, refl, Bool, true, false, List, [], ◌∷◌, ◌++◌, ltb, length}
+use Rattle.std.specs.Prelude.{ℕ, ◌≡◌, refl, Bool, true, false, List, [], ◌∷◌, ◌++◌, ltb, length, Option, Some, None}
 use Rattle.std.proofs.Common.{sym, ◌∙◌, subst, arith, lt-ltb, le-ltb}
 use Rattle.std.proofs.Math.Path.{ap}
 use Rattle.refusal.specs.Cases.{never, choose, if_less}
-use Rattle.order.specs.declared.Ordering.{Ordering}
-use Rattle.order.specs.declared.Ordering.TheVariants.{Less, Equal, Greater}
+use Rattle.std.specs.declared.cmp.Ordering.{Ordering}
+use Rattle.std.specs.declared.cmp.Ordering.TheVariants.{Less, Equal, Greater}
 use Rattle.order.specs.Order.{compare_numbers, then_by, compare_parts, on_ordering}
 use Rattle.order.specs.StrictOrder.{Says, says, compare_equal, flipped, turned_about}
 use Rattle.thread.specs.TreeKeyLaws.{then_nothing}
 use Rattle.dispatch_keys.specs.declared.DispatchKey.{DispatchKey}
 use Rattle.arbitration.specs.Key.{key_parts, compare_keys}
-use Rattle.selection.specs.declared.ReadyOption.{ReadyOption}
-use Rattle.selection.specs.declared.ReadyOption.TheVariants as ready
 use Rattle.selection.specs.declared.ReadyThread.{ReadyThread}
 use Rattle.selection.specs.Heads.{on_ready, comes_before, lesser_ready}
 use Rattle.sound_selection.specs.Claim.{Later, greater_key, higher_number}
@@ -105,32 +103,33 @@ module _ (r old : ReadyThread) where
       (λ h. less h)
 
 -- The lesser of two: at most either, and one of them.
-pub lesser_old : (best : ReadyOption) (r : ReadyThread) (n : List ℕ) → Under best n → Under (lesser_ready best r) n
+pub lesser_old : (best : Option ReadyThread) (r : ReadyThread) (n : List ℕ) → Under best n
+    → Under (lesser_ready best r) n
 unfolding lesser_ready on_ready choose
-lesser_old ready.None r n u = absurd u
-lesser_old (ready.Some old) r n u = go (comes_before r old) refl
+lesser_old None r n u = absurd u
+lesser_old (Some old) r n u = go (comes_before r old) refl
   where
-    go : (x : Bool) → comes_before r old ≡ x → Under (choose x (ready.Some r) (ready.Some old)) n
+    go : (x : Bool) → comes_before r old ≡ x → Under (choose x (Some r) (Some old)) n
     go true e = at_most_trans (before_yes r old e) u
     go false e = u
 
-pub lesser_new : (best : ReadyOption) (r : ReadyThread) → Under (lesser_ready best r) (pair_parts r.key r.id.0)
+pub lesser_new : (best : Option ReadyThread) (r : ReadyThread) → Under (lesser_ready best r) (pair_parts r.key r.id.0)
 unfolding lesser_ready on_ready choose
-lesser_new ready.None r = same refl
-lesser_new (ready.Some old) r = go (comes_before r old) refl
+lesser_new None r = same refl
+lesser_new (Some old) r = go (comes_before r old) refl
   where
     go : (x : Bool) → comes_before r old ≡ x
-        → Under (choose x (ready.Some r) (ready.Some old)) (pair_parts r.key r.id.0)
+        → Under (choose x (Some r) (Some old)) (pair_parts r.key r.id.0)
     go true e = same refl
     go false e = before_no r old e
 
-pub lesser_every : (P : ReadyThread → Type 0) (best : ReadyOption) (r : ReadyThread) → Every P best → P r
+pub lesser_every : (P : ReadyThread → Type 0) (best : Option ReadyThread) (r : ReadyThread) → Every P best → P r
     → Every P (lesser_ready best r)
 unfolding lesser_ready on_ready choose
-lesser_every P ready.None r h k = k
-lesser_every P (ready.Some old) r h k = go (comes_before r old)
+lesser_every P None r h k = k
+lesser_every P (Some old) r h k = go (comes_before r old)
   where
-    go : (x : Bool) → Every P (choose x (ready.Some r) (ready.Some old))
+    go : (x : Bool) → Every P (choose x (Some r) (Some old))
     go true = k
     go false = h
 

@@ -1,5 +1,5 @@
 -- Document 01's sound queues, by the calls that led to them.
-use Rattle.std.specs.Prelude.{◌≡◌, Bool, true, List, ℕ, ◌≤◌, length}
+use Rattle.std.specs.Prelude.{◌≡◌, Bool, true, List, ℕ, ◌≤◌, length, Option}
 use Rattle.refusal.specs.Answer.{value}
 use Rattle.arbitration.specs.declared.CpuWindow.{CpuWindow}
 use Rattle.thread.specs.declared.CpuIndex.{CpuIndex}
@@ -7,10 +7,10 @@ use Rattle.thread.specs.declared.ThreadRecord.{ThreadRecord}
 use Rattle.rows.specs.Table.{out, record_of, record_at, max_records}
 use Rattle.queue.specs.RunQueue.{CpuRunQueue}
 use Rattle.queue.specs.Queue.{step, new_queue, enqueue_call, remove_call}
-use Rattle.demands.specs.declared.CandidateOption.{CandidateOption}
 use Rattle.selection.specs.declared.Selection.{Selection}
 use Rattle.selection.specs.Peek.{peeked, peek_next}
 use Rattle.sound_queue.specs.Sound.{nobody, including, excluding, PriorityFits}
+use Rattle.arbitration.specs.declared.Candidate.{Candidate}
 
 -- From a new queue over any table of up to 4,096 records: accepted enqueues, removals and selections, each for any
 -- processor, a selection with any reading, window and current thread; between them changes of any kind to records that
@@ -24,7 +24,7 @@ pub data Reached : (ℕ → Bool) → CpuRunQueue → List ThreadRecord → Type
   removed : (cpu : CpuIndex) (queued : ℕ → Bool) (q r : CpuRunQueue) (t s : List ThreadRecord) (i : ℕ)
       → Reached queued q t → remove_call t q i cpu ≡ out (step (value tt) r) s → Reached (excluding i queued) r s
   selected : (cpu : CpuIndex) (queued : ℕ → Bool) (q r : CpuRunQueue) (t s : List ThreadRecord) (now : ℕ)
-      (w v : CpuWindow) (current : CandidateOption) (a : Selection) → Reached queued q t
+      (w v : CpuWindow) (current : Option Candidate) (a : Selection) → Reached queued q t
       → peek_next t q cpu now w current ≡ out (peeked (value a) v r) s → Reached queued r s
   changed : (queued : ℕ → Bool) (q : CpuRunQueue) (t s : List ThreadRecord) → Reached queued q t
       → length s ≤ max_records → ((j : ℕ) → queued j ≡ true → record_at s j ≡ record_at t j) → Reached queued q s

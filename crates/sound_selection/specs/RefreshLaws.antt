@@ -1,14 +1,11 @@
 -- Laws of a record refreshed to now: what stays, that once is enough, and that `refresh_record` stores it.
-use Rattle.std.specs.Prelude.{ℕ, ◌/◌, min, ◌≡◌, Bool, List}
+use Rattle.std.specs.Prelude.{ℕ, ◌/◌, min, ◌≡◌, Bool, List, Option, Some, None}
 use Rattle.std.proofs.Math.Path.{refl, ap}
 use Rattle.std.proofs.Common.{sym, ◌∙◌, subst, arith, le-ltb}
 use Rattle.std.proofs.Math.Bool.{true, false}
 use Rattle.refusal.specs.Answer.{Answer, value, refused, bad_budget}
 use Rattle.refusal.specs.Cases.{never, choose, given}
-use Rattle.time.specs.declared.Epoch.TheVariants as epoch
 use Rattle.time.specs.Time.{rises}
-use Rattle.policy.specs.declared.BudgetOption.{BudgetOption}
-use Rattle.policy.specs.declared.BudgetOption.TheVariants as option
 use Rattle.policy.specs.declared.BudgetParameters.{BudgetParameters}
 use Rattle.policy.specs.declared.SchedulingParameters.{SchedulingParameters}
 use Rattle.policy.specs.declared.SchedulingPolicy.{SchedulingPolicy}
@@ -36,7 +33,7 @@ use Rattle.sound_selection.specs.Claim.{refreshed_to}
 abbrev refilled : BudgetRuntime → ℕ → BudgetParameters → BudgetRuntime
 refilled r now p =
     record {
-      epoch = epoch.Some (now / p.period_ns);
+      epoch = Some (now / p.period_ns);
       remaining_ns = p.budget_ns;
       burst_remaining_ns = r.burst_remaining_ns;
     }
@@ -58,7 +55,7 @@ module _ (r : BudgetRuntime) (now : ℕ) (p : BudgetParameters) where
   unfolding budget.refreshed given choose
   when_stays h = rw h
 
-not_rising : (e : ℕ) → rises (epoch.Some e) e ≡ false
+not_rising : (e : ℕ) → rises (Some e) e ≡ false
 unfolding rises
 not_rising e = le-ltb e e (omega arith)
 
@@ -81,10 +78,10 @@ refreshed_twice r now p = go (rises r.epoch (now / p.period_ns)) refl
 
 -- What a record that is not bad is refreshed to: itself, or with its budget's runtime refreshed.
 pub data Refreshes (now : ℕ) (r : ThreadRecord) : Type 0 where
-  plain : is_budget r.parameters.policy ≡ false → r.parameters.budget ≡ option.None → refreshed_to now r ≡ r
+  plain : is_budget r.parameters.policy ≡ false → r.parameters.budget ≡ None → refreshed_to now r ≡ r
       → Refreshes now r
   budgeted : (x : BudgetRuntime) (q : BudgetParameters) → r.parameters.policy ≡ policy.Budget
-      → r.runtime ≡ runtime.Budget x → r.parameters.budget ≡ option.Some q → sound_budget q ≡ true
+      → r.runtime ≡ runtime.Budget x → r.parameters.budget ≡ Some q → sound_budget q ≡ true
       → epoch_refreshed r.runtime now r.parameters ≡ value (runtime.Budget (budget.refreshed x now q))
       → Refreshes now r
 
@@ -110,14 +107,14 @@ not_refreshed runtime.Idle now p n = refl
 
 budget_refreshed_lem : (x : PolicyRuntime) (b : BudgetRuntime) (now : ℕ) (p : SchedulingParameters)
     (q : BudgetParameters)
-    → x ≡ runtime.Budget b → p.budget ≡ option.Some q → sound_budget q ≡ true
+    → x ≡ runtime.Budget b → p.budget ≡ Some q → sound_budget q ≡ true
     → epoch_refreshed x now p ≡ value (runtime.Budget (budget.refreshed b now q))
 unfolding epoch_refreshed on_runtime on_budget of_budget budget.refreshed_judged budget.judged choose given
 budget_refreshed_lem x b now p q e f g = rw (e, f, g)
 
 module _ (now : ℕ) (r : ThreadRecord) where
   stays : (x : PolicyRuntime) → r.runtime ≡ x → NotBudget x → is_budget r.parameters.policy ≡ false
-      → r.parameters.budget ≡ option.None → Refreshes now r
+      → r.parameters.budget ≡ None → Refreshes now r
   stays x e n p b = plain p b (refreshed_by now r r.runtime
       (subst (λ (y : PolicyRuntime). epoch_refreshed y now r.parameters ≡ value y) (sym e)
       (not_refreshed x now r.parameters n)))
@@ -131,34 +128,35 @@ module _ (now : ℕ) (r : ThreadRecord) where
   sound_by q true e h = e
   sound_by q false e h = bad h
 
-  judged_by : (p : SchedulingPolicy) (x : PolicyRuntime) (b : BudgetOption) → r.parameters.policy ≡ p → r.runtime ≡ x
+  judged_by : (p : SchedulingPolicy) (x : PolicyRuntime) (b : Option BudgetParameters) → r.parameters.policy ≡ p
+      → r.runtime ≡ x
       → r.parameters.budget ≡ b
       → choose (same_kind x p) (on_policy p (λ priority. has_budget b) (has_budget b) (is_bad_budget b)
       (has_budget b)) true
       ≡ false → Refreshes now r
   unfolding choose same_kind on_policy has_budget is_bad_budget on_budget is_budget
-  judged_by (policy.Fifo a) runtime.Fifo option.None e f g h = stays runtime.Fifo f tt (rw e) g
-  judged_by (policy.Fifo a) runtime.Fifo (option.Some q) e f g h = bad h
+  judged_by (policy.Fifo a) runtime.Fifo None e f g h = stays runtime.Fifo f tt (rw e) g
+  judged_by (policy.Fifo a) runtime.Fifo (Some q) e f g h = bad h
   judged_by (policy.Fifo a) (runtime.Fair y) b e f g h = bad h
   judged_by (policy.Fifo a) (runtime.Budget y) b e f g h = bad h
   judged_by (policy.Fifo a) runtime.Idle b e f g h = bad h
   judged_by policy.Fair runtime.Fifo b e f g h = bad h
-  judged_by policy.Fair (runtime.Fair y) option.None e f g h = stays (runtime.Fair y) f tt (rw e) g
-  judged_by policy.Fair (runtime.Fair y) (option.Some q) e f g h = bad h
+  judged_by policy.Fair (runtime.Fair y) None e f g h = stays (runtime.Fair y) f tt (rw e) g
+  judged_by policy.Fair (runtime.Fair y) (Some q) e f g h = bad h
   judged_by policy.Fair (runtime.Budget y) b e f g h = bad h
   judged_by policy.Fair runtime.Idle b e f g h = bad h
   judged_by policy.Budget runtime.Fifo b e f g h = bad h
   judged_by policy.Budget (runtime.Fair y) b e f g h = bad h
-  judged_by policy.Budget (runtime.Budget y) option.None e f g h = bad h
-  judged_by policy.Budget (runtime.Budget y) (option.Some q) e f g h =
+  judged_by policy.Budget (runtime.Budget y) None e f g h = bad h
+  judged_by policy.Budget (runtime.Budget y) (Some q) e f g h =
       let s = sound_by q (sound_budget q) refl h in
       budgeted y q e f g s (budget_refreshed_lem r.runtime y now r.parameters q f g s)
   judged_by policy.Budget runtime.Idle b e f g h = bad h
   judged_by policy.Idle runtime.Fifo b e f g h = bad h
   judged_by policy.Idle (runtime.Fair y) b e f g h = bad h
   judged_by policy.Idle (runtime.Budget y) b e f g h = bad h
-  judged_by policy.Idle runtime.Idle option.None e f g h = stays runtime.Idle f tt (rw e) g
-  judged_by policy.Idle runtime.Idle (option.Some q) e f g h = bad h
+  judged_by policy.Idle runtime.Idle None e f g h = stays runtime.Idle f tt (rw e) g
+  judged_by policy.Idle runtime.Idle (Some q) e f g h = bad h
 
   pub refreshes : is_bad_record r ≡ false → Refreshes now r
   unfolding is_bad_record
@@ -199,13 +197,13 @@ refreshed_links now l r = go (epoch_refreshed r.runtime now r.parameters)
     go (refused n) = refl
 
 not_sound : (x : PolicyRuntime) (b : BudgetRuntime) (now : ℕ) (p : SchedulingParameters) (q : BudgetParameters)
-    → x ≡ runtime.Budget b → p.budget ≡ option.Some q → sound_budget q ≡ false
+    → x ≡ runtime.Budget b → p.budget ≡ Some q → sound_budget q ≡ false
     → epoch_refreshed x now p ≡ refused bad_budget
 unfolding epoch_refreshed on_runtime on_budget of_budget budget.refreshed_judged budget.judged choose
 not_sound x b now p q e f g = rw (e, f, g)
 
 no_budget : (x : PolicyRuntime) (b : BudgetRuntime) (now : ℕ) (p : SchedulingParameters) → x ≡ runtime.Budget b
-    → p.budget ≡ option.None → epoch_refreshed x now p ≡ value (runtime.Budget b)
+    → p.budget ≡ None → epoch_refreshed x now p ≡ value (runtime.Budget b)
 unfolding epoch_refreshed on_runtime on_budget
 no_budget x b now p e f = rw (e, f)
 
@@ -224,7 +222,7 @@ module _ (now : ℕ) (r : ThreadRecord) where
   own x e f = refreshed_by now r x f ∙ ap (λ (y : PolicyRuntime). with_runtime y r) (sym e)
 
   sound_again : (x : BudgetRuntime) (q : BudgetParameters) → r.runtime ≡ runtime.Budget x
-      → r.parameters.budget ≡ option.Some q → sound_budget q ≡ true
+      → r.parameters.budget ≡ Some q → sound_budget q ≡ true
       → refreshed_to now (refreshed_to now r) ≡ refreshed_to now r
   sound_again x q f g h =
       let y = budget.refreshed x now q in
@@ -234,15 +232,15 @@ module _ (now : ℕ) (r : ThreadRecord) where
       (budget_refreshed_lem s.runtime y now s.parameters q refl g h)
       ∙ ap (λ (z : BudgetRuntime). with_runtime (runtime.Budget z) r) (refreshed_twice x now q))
 
-  again_by : (x : PolicyRuntime) (o : BudgetOption) → r.runtime ≡ x → r.parameters.budget ≡ o
+  again_by : (x : PolicyRuntime) (o : Option BudgetParameters) → r.runtime ≡ x → r.parameters.budget ≡ o
       → refreshed_to now (refreshed_to now r) ≡ refreshed_to now r
   again_by runtime.Fifo o e f = once (own runtime.Fifo e (rw e (not_refreshed runtime.Fifo now r.parameters tt)))
   again_by (runtime.Fair y) o e f =
       once (own (runtime.Fair y) e (rw e (not_refreshed (runtime.Fair y) now r.parameters tt)))
   again_by runtime.Idle o e f = once (own runtime.Idle e (rw e (not_refreshed runtime.Idle now r.parameters tt)))
-  again_by (runtime.Budget x) option.None e f =
+  again_by (runtime.Budget x) None e f =
       once (own (runtime.Budget x) e (no_budget r.runtime x now r.parameters e f))
-  again_by (runtime.Budget x) (option.Some q) e f = go (sound_budget q) refl
+  again_by (runtime.Budget x) (Some q) e f = go (sound_budget q) refl
     where
       go : (y : Bool) → sound_budget q ≡ y → refreshed_to now (refreshed_to now r) ≡ refreshed_to now r
       go true h = sound_again x q e f h
@@ -260,7 +258,7 @@ answered g f e = rw e
 -- is refreshed to.
 module _ (now : ℕ) (r : ThreadRecord) (b : is_bad_record r ≡ false) where
   pub budget_judged : (x : BudgetRuntime) (q : BudgetParameters) → r.parameters.policy ≡ policy.Budget
-      → r.parameters.budget ≡ option.Some q → sound_budget q ≡ true
+      → r.parameters.budget ≡ Some q → sound_budget q ≡ true
       → is_bad_record (with_runtime (runtime.Budget x) r) ≡ false
   unfolding is_bad_record same_kind choose on_policy is_bad_budget on_budget
   budget_judged x q e f g = rw (e, f, g)
@@ -285,13 +283,13 @@ module _ (now : ℕ) (r : ThreadRecord) (b : is_bad_record r ≡ false) where
         budget_key_kept r.parameters (runtime.Budget (budget.refreshed x now q)) r.runtime r.ready_turn e,
       )
 
-  pub refresh_plain : (t : List ThreadRecord) (i : ℕ) → r.parameters.budget ≡ option.None
+  pub refresh_plain : (t : List ThreadRecord) (i : ℕ) → r.parameters.budget ≡ None
       → refresh_record t i r now ≡ out (value r) t
   unfolding refresh_record choose on_budget
   refresh_plain t i e = rw (b, e)
 
   pub refresh_budget : (t : List ThreadRecord) (i : ℕ) (q : BudgetParameters) (x : PolicyRuntime)
-      → r.parameters.budget ≡ option.Some q → epoch_refreshed r.runtime now r.parameters ≡ value x
+      → r.parameters.budget ≡ Some q → epoch_refreshed r.runtime now r.parameters ≡ value x
       → refresh_record t i r now ≡ out (value (with_runtime x r)) (changed t i (with_runtime x))
   unfolding refresh_record choose
   refresh_budget t i q x e f =

@@ -1,13 +1,12 @@
 -- The whole change of period on a sound queue: it is never refused, and the queue is sound after it, with no thread
 -- left in an exhausted tree.
-use Rattle.std.specs.Prelude.{ℕ, suc, ◌+◌, ◌-◌, ◌≤◌, ◌<◌, ◌≡◌, Bool, ◌≢◌, length}
+use Rattle.std.specs.Prelude.{ℕ, suc, ◌+◌, ◌-◌, ◌≤◌, ◌<◌, ◌≡◌, Bool, ◌≢◌, length, Some, Result}
 use Rattle.std.proofs.Math.Path.{refl, sym}
 use Rattle.std.proofs.Common.{ap, ◌∙◌, subst, arith}
 use Rattle.std.proofs.Math.Bool.{true, false}
 use mathlib.Core.List.{List}
 use Rattle.refusal.specs.Answer.{value}
 use Rattle.refusal.specs.Cases.{never, choose, given}
-use Rattle.time.specs.declared.Epoch.TheVariants as epoch
 use Rattle.thread.specs.declared.ThreadRecord.{ThreadRecord}
 use Rattle.rows.specs.Table.{Out, out, record_at}
 use Rattle.lists.specs.Lists.{on_out}
@@ -108,7 +107,7 @@ module _ {queued : ℕ → Bool} {q : CpuRunQueue} {t : List ThreadRecord} (S : 
         ≡ out (leaves (value tt) C.trees) C.table) after_second C.is)
 
     abbrev left_parts : SelectionParts
-    left_parts = record { indices = third_roots; budget_epoch = epoch.Some e; halted = q.halted }
+    left_parts = record { indices = third_roots; budget_epoch = Some e; halted = q.halted }
 
     whole_shift : (j : ℕ) → Shift now (S.place j) (bare_at t j) (C.renewed.sound.place j) (bare_at C.table j)
     whole_shift j = shift_trans (A.renewed.shift j) (shift_trans (B.renewed.shift j) (C.renewed.shift j))

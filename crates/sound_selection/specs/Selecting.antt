@@ -1,6 +1,7 @@
 -- Selection on a sound queue: for the processor of all its threads it is refused with nothing changed, or answered with
 -- the queue sound after it; for any processor the queue is sound after it where it is answered.
 use Rattle.std.specs.Prelude.{ℕ, zero, suc, ◌/◌, ◌≤◌, ◌≡◌, refl, Bool, true, false, List, length, get_or, replicate}
+use Rattle.std.specs.Prelude.{Option, None, Result}
 use Rattle.std.proofs.Common.{sym, ◌∙◌, subst, arith, le-ltb}
 use Rattle.std.proofs.Math.Path.{ap}
 use Rattle.refusal.specs.Answer.{Answer, value, refused, bad_config}
@@ -8,13 +9,10 @@ use Rattle.refusal.specs.Cases.{never, choose, given, if_less}
 use Rattle.arbitration.specs.declared.CpuWindow.{CpuWindow}
 use Rattle.window_config.specs.Config.{sound_config}
 use Rattle.thread.specs.declared.CpuIndex.{CpuIndex}
-use Rattle.thread.specs.declared.Link.TheVariants as link
 use Rattle.thread.specs.declared.ThreadRecord.{ThreadRecord}
 use Rattle.rows.specs.Table.{Out, out, record_of, max_records}
 use Rattle.lists.specs.Lists.{on_answer, on_out}
 use Rattle.queue.specs.RunQueue.{CpuRunQueue, tree_count}
-use Rattle.demands.specs.declared.CandidateOption.{CandidateOption}
-use Rattle.selection.specs.declared.ReadyOption.TheVariants as ready
 use Rattle.selection.specs.declared.Selection.{Selection}
 use Rattle.renewal.specs.Parts.{SelectionParts}
 use Rattle.renewal.specs.Leaves.{on_leaves}
@@ -29,8 +27,9 @@ use Rattle.sound_selection.specs.Changes.{bare_at, Left, FineSelection, unchange
 use Rattle.sound_selection.specs.ChangeLaws.{fresher_trans, fresher_cpu, shift_fresher}
 use Rattle.sound_selection.specs.Renewing.{Turned, turned}
 use Rattle.sound_selection.specs.HeadPass.{Gathers, Gathering, through, stopped, Blank, gathers}
+use Rattle.arbitration.specs.declared.Candidate.{Candidate}
 
-get_replicate : (n k : ℕ) → get_or (replicate n link.None) k link.None ≡ link.None
+get_replicate : (n k : ℕ) → get_or {A = Option ℕ} (replicate n None) k None ≡ None
 get_replicate zero k = refl
 get_replicate (suc n) zero = refl
 get_replicate (suc n) (suc k) = get_replicate n k
@@ -41,13 +40,13 @@ all_blank = (refl, λ k m. get_replicate tree_count k)
 
 -- Neither BadTable nor BadConfig nor Halted.
 checks_passed : (t : List ThreadRecord) (p : SelectionParts) (cpu : CpuIndex) (now : ℕ) (w : CpuWindow)
-    (current : CandidateOption) → length t ≤ max_records → sound_config w.config ≡ true → p.halted ≡ false
+    (current : Option Candidate) → length t ≤ max_records → sound_config w.config ≡ true → p.halted ≡ false
     → peek_parts t p cpu now w current ≡ peek_running t p cpu now w current
 unfolding peek_parts if_less choose
 checks_passed t p cpu now w current l e h = rw (le-ltb max_records (length t) l, e, h)
 
 module _ {queued : ℕ → Bool} {q : CpuRunQueue} {t : List ThreadRecord} (S : Sound queued q t)
-    (now : ℕ) (w : CpuWindow) (current : CandidateOption) where
+    (now : ℕ) (w : CpuWindow) (current : Option Candidate) where
   abbrev pub epoch : ℕ
   epoch = now / w.config.period_ns
 
@@ -99,7 +98,7 @@ module _ {queued : ℕ → Bool} {q : CpuRunQueue} {t : List ThreadRecord} (S : 
       module _ (G : Pass) where
         -- The last pass, and what is answered.
         abbrev pub choice : Chosen
-        choice = least_of tree_count G.table G.links now G.found.demand w ready.None
+        choice = least_of tree_count G.table G.links now G.found.demand w None
 
         abbrev pub answer : Selection
         answer =

@@ -1,16 +1,12 @@
 -- Orders: of numbers part by part, and of what candidates ask for together.
-use Rattle.std.specs.Prelude.{ℕ, ◌≡◌, Bool, true, List, [], ◌∷◌, ◌++◌}
-use Rattle.order.specs.declared.Ordering.TheVariants.{Less}
+use Rattle.std.specs.Prelude.{ℕ, ◌≡◌, Bool, true, List, [], ◌∷◌, ◌++◌, Option, Some, None}
+use Rattle.std.specs.declared.cmp.Ordering.TheVariants.{Less}
 use Rattle.order.specs.Order.{compare_parts}
 use Rattle.algorithms.specs.declared.Wide.{Wide}
 use Rattle.arbitration.specs.declared.Candidate.{Candidate}
 use Rattle.dispatch_keys.specs.declared.DispatchKey.{DispatchKey}
 use Rattle.arbitration.specs.Key.{key_parts}
-use Rattle.selection.specs.declared.ReadyOption.{ReadyOption}
-use Rattle.selection.specs.declared.ReadyOption.TheVariants as ready
 use Rattle.selection.specs.declared.ReadyThread.{ReadyThread}
-use Rattle.demands.specs.declared.PassOption.{PassOption}
-use Rattle.demands.specs.declared.PassOption.TheVariants as pass
 use Rattle.demands.specs.declared.Gathered.{Gathered}
 use Rattle.demands.specs.Demands.{gathered, nothing_gathered}
 
@@ -26,10 +22,10 @@ abbrev pub pass_parts : Wide → List ℕ
 pass_parts p = p.high ∷ p.low ∷ []
 
 -- The second pass is as low.
-abbrev pub PassWithin : PassOption → PassOption → Type 0
-PassWithin pass.None y = Unit {0}
-PassWithin (pass.Some a) pass.None = ⊥
-PassWithin (pass.Some a) (pass.Some b) = AtMost (pass_parts b) (pass_parts a)
+abbrev pub PassWithin : Option Wide → Option Wide → Type 0
+PassWithin None y = Unit {0}
+PassWithin (Some a) None = ⊥
+PassWithin (Some a) (Some b) = AtMost (pass_parts b) (pass_parts a)
 
 -- The second asks for all that the first does, and its lowest pass is as low.
 pub record Within (a b : Gathered) : Type 0 where
@@ -49,11 +45,11 @@ abbrev pub pair_parts : DispatchKey → ℕ → List ℕ
 pair_parts k i = key_parts k ++ (i ∷ [])
 
 -- There is one, and it is at most that.
-abbrev pub Under : ReadyOption → List ℕ → Type 0
-Under ready.None n = ⊥
-Under (ready.Some r) n = AtMost (pair_parts r.key r.id.0) n
+abbrev pub Under : Option ReadyThread → List ℕ → Type 0
+Under None n = ⊥
+Under (Some r) n = AtMost (pair_parts r.key r.id.0) n
 
 -- P of the one that there is.
-abbrev pub Every : (ReadyThread → Type 0) → ReadyOption → Type 0
-Every P ready.None = Unit {0}
-Every P (ready.Some r) = P r
+abbrev pub Every : (ReadyThread → Type 0) → Option ReadyThread → Type 0
+Every P None = Unit {0}
+Every P (Some r) = P r

@@ -1,10 +1,10 @@
 -- Laws of these orders: a candidate more asks for what was asked and for what it asks, and for no more.
-use Rattle.std.specs.Prelude.{ℕ, ◌≡◌, Bool, true, false, List}
+use Rattle.std.specs.Prelude.{ℕ, ◌≡◌, Bool, true, false, List, Option, Some, None}
 use Rattle.std.proofs.Math.Path.{refl, ap, subst}
 use Rattle.std.proofs.Common.{sym, ◌∙◌}
 use Rattle.refusal.specs.Cases.{never, choose, given}
-use Rattle.order.specs.declared.Ordering.{Ordering}
-use Rattle.order.specs.declared.Ordering.TheVariants.{Less, Equal, Greater}
+use Rattle.std.specs.declared.cmp.Ordering.{Ordering}
+use Rattle.std.specs.declared.cmp.Ordering.TheVariants.{Less, Equal, Greater}
 use Rattle.order.specs.Order.{compare_parts, on_ordering}
 use Rattle.order.specs.StrictOrder.{flipped, turned_about, equal_only, less_transitive}
 use Rattle.policy.specs.declared.SchedulingPolicy.{SchedulingPolicy}
@@ -12,8 +12,6 @@ use Rattle.policy.specs.declared.SchedulingPolicy.TheVariants as policy
 use Rattle.policy.specs.PolicyCases.{on_policy}
 use Rattle.algorithms.specs.declared.Wide.{Wide}
 use Rattle.arbitration.specs.declared.Candidate.{Candidate}
-use Rattle.demands.specs.declared.PassOption.{PassOption}
-use Rattle.demands.specs.declared.PassOption.TheVariants as pass
 use Rattle.demands.specs.declared.Gathered.{Gathered}
 use Rattle.demands.specs.Demands.{demand_of, either, joined, add_demand, compare_passes, lesser_pass, on_pass}
 use Rattle.demands.specs.Demands.{lowest_pass}
@@ -74,15 +72,15 @@ module _ (old new : Wide) where
       → AtMost (pass_parts b) (pass_parts (lesser_pass old new))
   lesser_most b p q = lesser_by (λ x. AtMost (pass_parts b) (pass_parts x)) (λ h. q) (λ h. p)
 
-pub pass_refl : (x : PassOption) → PassWithin x x
-pass_refl pass.None = tt
-pass_refl (pass.Some a) = same refl
+pub pass_refl : (x : Option Wide) → PassWithin x x
+pass_refl None = tt
+pass_refl (Some a) = same refl
 
-pub pass_trans : (x y z : PassOption) → PassWithin x y → PassWithin y z → PassWithin x z
-pass_trans pass.None y z p q = tt
-pass_trans (pass.Some a) pass.None z p q = absurd p
-pass_trans (pass.Some a) (pass.Some b) pass.None p q = absurd q
-pass_trans (pass.Some a) (pass.Some b) (pass.Some c) p q = at_most_trans q p
+pub pass_trans : (x y z : Option Wide) → PassWithin x y → PassWithin y z → PassWithin x z
+pass_trans None y z p q = tt
+pass_trans (Some a) None z p q = absurd p
+pass_trans (Some a) (Some b) None p q = absurd q
+pass_trans (Some a) (Some b) (Some c) p q = at_most_trans q p
 
 same_pass : (a b : Wide) → pass_parts a ≡ pass_parts b → a ≡ b
 same_pass a b e =
@@ -90,41 +88,41 @@ same_pass a b e =
     let l : a.low ≡ b.low = cc in
     λ i. record { high = h i; low = l i }
 
-pass_both : (x y : PassOption) → PassWithin x y → PassWithin y x → x ≡ y
-pass_both pass.None pass.None p q = refl
-pass_both pass.None (pass.Some b) p q = absurd q
-pass_both (pass.Some a) pass.None p q = absurd p
-pass_both (pass.Some a) (pass.Some b) p q = ap pass.Some (same_pass a b (at_most_both q p))
+pass_both : (x y : Option Wide) → PassWithin x y → PassWithin y x → x ≡ y
+pass_both None None p q = refl
+pass_both None (Some b) p q = absurd q
+pass_both (Some a) None p q = absurd p
+pass_both (Some a) (Some b) p q = ap Some (same_pass a b (at_most_both q p))
 
 -- The lowest pass with one more, by the policy of that one.
 module _ (new : Wide) where
-  abbrev with_one : SchedulingPolicy → PassOption → PassOption
+  abbrev with_one : SchedulingPolicy → Option Wide → Option Wide
   with_one p l = on_policy p (λ priority. l)
-      (on_pass l (pass.Some new) (λ old. given (lesser_pass old new) pass.Some)) l l
+      (on_pass l (Some new) (λ old. given (lesser_pass old new) Some)) l l
 
-  pass_old : (p : SchedulingPolicy) (l : PassOption) → PassWithin l (with_one p l)
+  pass_old : (p : SchedulingPolicy) (l : Option Wide) → PassWithin l (with_one p l)
   unfolding on_policy on_pass given
   pass_old (policy.Fifo a) l = pass_refl l
-  pass_old policy.Fair pass.None = tt
-  pass_old policy.Fair (pass.Some old) = lesser_old old new
+  pass_old policy.Fair None = tt
+  pass_old policy.Fair (Some old) = lesser_old old new
   pass_old policy.Budget l = pass_refl l
   pass_old policy.Idle l = pass_refl l
 
-  pass_new : (p : SchedulingPolicy) (l : PassOption) → PassWithin (with_one p pass.None) (with_one p l)
+  pass_new : (p : SchedulingPolicy) (l : Option Wide) → PassWithin (with_one p None) (with_one p l)
   unfolding on_policy on_pass given
   pass_new (policy.Fifo a) l = tt
-  pass_new policy.Fair pass.None = same refl
-  pass_new policy.Fair (pass.Some old) = lesser_new old new
+  pass_new policy.Fair None = same refl
+  pass_new policy.Fair (Some old) = lesser_new old new
   pass_new policy.Budget l = tt
   pass_new policy.Idle l = tt
 
-  pass_most : (p : SchedulingPolicy) (l z : PassOption) → PassWithin l z → PassWithin (with_one p pass.None) z
+  pass_most : (p : SchedulingPolicy) (l z : Option Wide) → PassWithin l z → PassWithin (with_one p None) z
       → PassWithin (with_one p l) z
   unfolding on_policy on_pass given
   pass_most (policy.Fifo a) l z f g = f
-  pass_most policy.Fair pass.None z f g = g
-  pass_most policy.Fair (pass.Some old) pass.None f g = absurd f
-  pass_most policy.Fair (pass.Some old) (pass.Some b) f g = lesser_most old new b f g
+  pass_most policy.Fair None z f g = g
+  pass_most policy.Fair (Some old) None f g = absurd f
+  pass_most policy.Fair (Some old) (Some b) f g = lesser_most old new b f g
   pass_most policy.Budget l z f g = f
   pass_most policy.Idle l z f g = f
 

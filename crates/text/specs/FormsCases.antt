@@ -1,16 +1,17 @@
 -- Forms, lines and times as they are written, on which the definitions are judged.
 use Prim.Native.String.{String}
-use Rattle.std.specs.Prelude.{◌≡◌, refl, [], ◌∷◌}
+use Rattle.std.specs.Prelude.{◌≡◌, refl, [], ◌∷◌, None, Some, Ok, Err}
 use Rattle.refusal.specs.Cases.{choose, if_less, if_equal, given}
 use Rattle.text.specs.Ascii.{ascii}
-use Rattle.text.specs.Reading.{before, run, same_bytes, most, state_after, state_of, with_byte, denoted, fitting}
+use Rattle.text.specs.Reading.{before, run, same_bytes, most, state_after}
+use Rattle.text.specs.Reading.{with_byte, denoted, fitting}
 use Rattle.text.specs.Reading.{on_decimal, decimal_of, scaled, in_unit, nanoseconds_of}
 use Rattle.text.specs.Lists.{names_of, joined, place_in}
-use Rattle.text.specs.declared.reading.Decimal.TheVariants as decimal
+use Rattle.text.specs.declared.reading.NumberError.TheVariants as error
 use Rattle.text.specs.declared.forms.Cause.TheVariants as cause
 use Rattle.text.specs.Forms.{Fitted, fitted, next_word, behind_word, limit_of, limited, name_of, known_of, is_name}
-use Rattle.text.specs.Forms.{new_name, letter_of, one_of, quantity_of, value_of, asked_of, end_of, step_by, on_step}
-use Rattle.text.specs.Forms.{last_of, fit_from}
+use Rattle.text.specs.Forms.{new_name, letter_of, one_of, quantity_of, value_of, asked_of, end_of, taken, step_by}
+use Rattle.text.specs.Forms.{on_step, last_of, fit_from}
 
 -- With two names of up to three, and room for seven values.
 abbrev reads : String → String → Fitted
@@ -23,14 +24,14 @@ pub forms_judged :
     ∷ reads "add name:= size:#99 ^ fair|turn .. to:@" "add cat 30 X fair"
     ∷ reads "@ for:~" "#7 1_500us"
     ∷ []
-    ≡ fitted cause.Goes 7 1 (0 ∷ 0 ∷ 30 ∷ 88 ∷ 1 ∷ 1 ∷ 1 ∷ [])
-    ∷ fitted cause.Goes 5 0 (0 ∷ 0 ∷ 30 ∷ 88 ∷ 0 ∷ 9 ∷ 9 ∷ [])
-    ∷ fitted cause.Goes 2 0 (7 ∷ 1500000 ∷ 9 ∷ 9 ∷ 9 ∷ 9 ∷ 9 ∷ [])
+    ≡ fitted None 7 1 (0 ∷ 0 ∷ 30 ∷ 88 ∷ 1 ∷ 1 ∷ 1 ∷ [])
+    ∷ fitted None 5 0 (0 ∷ 0 ∷ 30 ∷ 88 ∷ 0 ∷ 9 ∷ 9 ∷ [])
+    ∷ fitted None 2 0 (7 ∷ 1500000 ∷ 9 ∷ 9 ∷ 9 ∷ 9 ∷ 9 ∷ [])
     ∷ []
-unfolding fit_from on_step step_by end_of last_of asked_of on_decimal value_of quantity_of limit_of limited one_of
+unfolding fit_from on_step step_by taken end_of last_of asked_of on_decimal value_of quantity_of limit_of limited one_of
     letter_of new_name is_name known_of name_of next_word behind_word names_of joined place_in before run same_bytes
-    decimal_of state_of state_after denoted with_byte fitting nanoseconds_of in_unit scaled choose if_less if_equal
-    given
+    decimal_of state_after denoted with_byte fitting nanoseconds_of in_unit
+    scaled choose if_less if_equal given
 forms_judged = refl
 
 -- A word too few, one too many, and one that is none of the form's; a name that is taken, none of those that there are,
@@ -49,22 +50,22 @@ pub mistakes_judged :
     ∷ reads "add size:#99 #" "add 100 1"
     ∷ reads "for:~" "18446744074s"
     ∷ []
-    ≡ fitted cause.Missing 1 0 (0 ∷ 9 ∷ 9 ∷ 9 ∷ 9 ∷ 9 ∷ 9 ∷ [])
-    ∷ fitted cause.TooMany 2 4 (0 ∷ 0 ∷ 9 ∷ 9 ∷ 9 ∷ 9 ∷ 9 ∷ [])
-    ∷ fitted cause.OtherWord 0 5 (9 ∷ 9 ∷ 9 ∷ 9 ∷ 9 ∷ 9 ∷ 9 ∷ [])
-    ∷ fitted cause.NameTaken 1 4 (0 ∷ 9 ∷ 9 ∷ 9 ∷ 9 ∷ 9 ∷ 9 ∷ [])
-    ∷ fitted cause.NoSuchName 0 3 (9 ∷ 9 ∷ 9 ∷ 9 ∷ 9 ∷ 9 ∷ 9 ∷ [])
-    ∷ fitted cause.NoName 1 3 (0 ∷ 9 ∷ 9 ∷ 9 ∷ 9 ∷ 9 ∷ 9 ∷ [])
-    ∷ fitted cause.NoNumber 0 2 (9 ∷ 9 ∷ 9 ∷ 9 ∷ 9 ∷ 9 ∷ 9 ∷ [])
-    ∷ fitted cause.NoTime 0 2 (9 ∷ 9 ∷ 9 ∷ 9 ∷ 9 ∷ 9 ∷ 9 ∷ [])
-    ∷ fitted cause.NoLetter 1 3 (0 ∷ 9 ∷ 9 ∷ 9 ∷ 9 ∷ 9 ∷ 9 ∷ [])
-    ∷ fitted cause.AboveLimit 1 6 (0 ∷ 9 ∷ 9 ∷ 9 ∷ 9 ∷ 9 ∷ 9 ∷ [])
-    ∷ fitted cause.AboveLimit 0 12 (9 ∷ 9 ∷ 9 ∷ 9 ∷ 9 ∷ 9 ∷ 9 ∷ [])
+    ≡ fitted (Some cause.Missing) 1 0 (0 ∷ 9 ∷ 9 ∷ 9 ∷ 9 ∷ 9 ∷ 9 ∷ [])
+    ∷ fitted (Some cause.TooMany) 2 4 (0 ∷ 0 ∷ 9 ∷ 9 ∷ 9 ∷ 9 ∷ 9 ∷ [])
+    ∷ fitted (Some cause.OtherWord) 0 5 (9 ∷ 9 ∷ 9 ∷ 9 ∷ 9 ∷ 9 ∷ 9 ∷ [])
+    ∷ fitted (Some cause.NameTaken) 1 4 (0 ∷ 9 ∷ 9 ∷ 9 ∷ 9 ∷ 9 ∷ 9 ∷ [])
+    ∷ fitted (Some cause.NoSuchName) 0 3 (9 ∷ 9 ∷ 9 ∷ 9 ∷ 9 ∷ 9 ∷ 9 ∷ [])
+    ∷ fitted (Some cause.NoName) 1 3 (0 ∷ 9 ∷ 9 ∷ 9 ∷ 9 ∷ 9 ∷ 9 ∷ [])
+    ∷ fitted (Some cause.NoNumber) 0 2 (9 ∷ 9 ∷ 9 ∷ 9 ∷ 9 ∷ 9 ∷ 9 ∷ [])
+    ∷ fitted (Some cause.NoTime) 0 2 (9 ∷ 9 ∷ 9 ∷ 9 ∷ 9 ∷ 9 ∷ 9 ∷ [])
+    ∷ fitted (Some cause.NoLetter) 1 3 (0 ∷ 9 ∷ 9 ∷ 9 ∷ 9 ∷ 9 ∷ 9 ∷ [])
+    ∷ fitted (Some cause.AboveLimit) 1 6 (0 ∷ 9 ∷ 9 ∷ 9 ∷ 9 ∷ 9 ∷ 9 ∷ [])
+    ∷ fitted (Some cause.AboveLimit) 0 12 (9 ∷ 9 ∷ 9 ∷ 9 ∷ 9 ∷ 9 ∷ 9 ∷ [])
     ∷ []
-unfolding fit_from on_step step_by end_of last_of asked_of on_decimal value_of quantity_of limit_of limited one_of
+unfolding fit_from on_step step_by taken end_of last_of asked_of on_decimal value_of quantity_of limit_of limited one_of
     letter_of new_name is_name known_of name_of next_word behind_word names_of joined place_in before run same_bytes
-    decimal_of state_of state_after denoted with_byte fitting nanoseconds_of in_unit scaled choose if_less if_equal
-    given
+    decimal_of state_after denoted with_byte fitting nanoseconds_of in_unit
+    scaled choose if_less if_equal given
 mistakes_judged = refl
 
 -- Times with each unit and without, at the greatest and above it; then what is no time.
@@ -85,22 +86,22 @@ pub times_judged :
     ∷ nanoseconds_of (ascii "1_")
     ∷ nanoseconds_of (ascii "1.5ms")
     ∷ []
-    ≡ decimal.Number 7000000
-    ∷ decimal.Number 40
-    ∷ decimal.Number 500000
-    ∷ decimal.Number 7000000
-    ∷ decimal.Number 2000000000
-    ∷ decimal.Number most
-    ∷ decimal.Above
-    ∷ decimal.Above
-    ∷ decimal.None
-    ∷ decimal.None
-    ∷ decimal.None
-    ∷ decimal.None
-    ∷ decimal.None
-    ∷ decimal.None
-    ∷ decimal.None
+    ≡ Ok 7000000
+    ∷ Ok 40
+    ∷ Ok 500000
+    ∷ Ok 7000000
+    ∷ Ok 2000000000
+    ∷ Ok most
+    ∷ Err error.Above
+    ∷ Err error.Above
+    ∷ Err error.NoNumeral
+    ∷ Err error.NoNumeral
+    ∷ Err error.NoNumeral
+    ∷ Err error.NoNumeral
+    ∷ Err error.NoNumeral
+    ∷ Err error.NoNumeral
+    ∷ Err error.NoNumeral
     ∷ []
-unfolding nanoseconds_of in_unit scaled on_decimal decimal_of state_of state_after denoted with_byte fitting choose
-    if_less if_equal given
+unfolding nanoseconds_of in_unit scaled on_decimal decimal_of state_after denoted
+    with_byte fitting choose if_less if_equal given
 times_judged = refl

@@ -1,48 +1,52 @@
 -- Laws of forms: what a word is found to be, and how the loop goes from word to word.
 use Rattle.std.specs.Prelude.{ℕ, ◌+◌, ◌-◌, ◌<◌, ◌≤◌, ◌≡◌, Bool, true, false, List, [], ◌∷◌, length, take, get_or, set}
+use Rattle.std.specs.Prelude.{Option, None, Some, Ok, Err}
+use denote.Param.Members.{Mut}
+use denote.Ref.{Bor}
+use Rattle.std.specs.declared.slice.Split.{Split}
+use Rattle.std.specs.Slice.Iter as slice
+use Rattle.std.specs.Bool.{MatchBool}
+use Rattle.std.specs.Fn.{ComputesKey, CalledAt}
+use Rattle.std.specs.List.{All, slice_split, IsFirstMatchOrLen}
+use Rattle.std.specs.Prelude.{cond, eqb, ◌++◌}
+use Rattle.std.proofs.lemmas.Fn.{always_returns_same}
+use Rattle.std.proofs.lemmas.Grind.{common_steps}
+use Rattle.std.proofs.lemmas.List.Splits.{slice_split_none, slice_split_at}
+use Rattle.std.proofs.Common.{subst}
+use Rattle.text.specs.ListsLaws.{names_are}
 use Rattle.std.proofs.Common.{arith, ◌∙◌, length-drop, take_all, drop-drop}
 use Rattle.std.proofs.Math.Path.{refl, sym, ap}
 use Rattle.std.proofs.Math.ListN.{drop}
-use Rattle.std.proofs.Math.Seq.{set_out}
-use Rattle.refusal.specs.Cases.{choose, if_equal, given, holds, fails, less, not_less, is}
-use Rattle.text.specs.Reading.{before, run, same_bytes, state_of, decimal_of}
-use Rattle.text.specs.Lists.{part, names_of, names_from, place_in}
-use Rattle.text.specs.ListsLaws.{names_at, all_names, no_names}
-use Rattle.text.specs.declared.reading.Decimal.{Decimal}
-use Rattle.text.specs.declared.reading.Decimal.TheVariants as decimal
+use Rattle.refusal.specs.Cases.{choose, given, holds, fails, less, not_less, is}
+use Rattle.text.specs.Reading.{before, run, same_bytes, Decimal, decimal_of}
+use Rattle.text.specs.Lists.{part, names_of, place_in}
+use Rattle.text.specs.declared.reading.NumberError.TheVariants as error
 use Rattle.text.specs.declared.forms.Cause.{Cause}
 use Rattle.text.specs.declared.forms.Cause.TheVariants as cause
-use Rattle.text.specs.declared.forms.Step.{Step}
-use Rattle.text.specs.declared.forms.Step.TheVariants as step
-use Rattle.text.specs.Forms.{Fitted, fitted, is_empty, next_word, behind_word, limited, one_of, value_of, asked_of}
-use Rattle.text.specs.Forms.{end_of, step_by, on_step, last_of, fit_from}
-
--- An empty word has no byte.
-pub no_byte : (word : List ℕ) (i : ℕ) → length word ≡ 0 → 0 ≡ get_or word i 0
-no_byte [] i h = refl
-no_byte (x ∷ rest) i h = absurd (omega arith)
+use Rattle.text.specs.Forms.{Fitted, fitted, is_empty, next_word, behind_word, one_of, asked_of}
+use Rattle.text.specs.Forms.{Step, step_by, on_step, last_of, fit_from}
 
 -- The word at the place that was found, if it is there.
 module _ (list word : List ℕ) (n start end : ℕ) {r : Bool} (place : n ≡ place_in word (names_of 124 list))
     (found : part start end list ≡ get_or (names_of 124 list) n [])
     (is : r ≡ same_bytes (part start end list) word) where
-  there : one_of list word ≡ choose r (step.Taken n) (step.Over cause.OtherWord)
+  there : one_of list word ≡ choose r (Ok n) (Err cause.OtherWord)
   unfolding one_of given
   there = rw (is, found, place)
 
-  pub one_found : r ≡ true → step.Taken n ≡ one_of list word
+  pub one_found : r ≡ true → Ok n ≡ one_of list word
   unfolding choose
-  one_found t = sym (there ∙ ap (λ b. choose b (step.Taken n) (step.Over cause.OtherWord)) t)
+  one_found t = sym (there ∙ ap (λ b. choose b (Ok n) (Err cause.OtherWord)) t)
 
-  pub none_found : r ≡ false → step.Over cause.OtherWord ≡ one_of list word
+  pub none_found : r ≡ false → Err cause.OtherWord ≡ one_of list word
   unfolding choose
-  none_found t = sym (there ∙ ap (λ b. choose b (step.Taken n) (step.Over cause.OtherWord)) t)
+  none_found t = sym (there ∙ ap (λ b. choose b (Ok n) (Err cause.OtherWord)) t)
 
 pub ruleset findings = (one_found, none_found)
 
 -- The number behind the first byte.
-pub none_behind : (word : List ℕ) → length word ≡ 0 → decimal.None ≡ decimal_of (drop 1 word)
-unfolding decimal_of given state_of if_equal choose
+pub none_behind : (word : List ℕ) → length word ≡ 0 → Err error.NoNumeral ≡ decimal_of (drop 1 word)
+unfolding decimal_of choose
 none_behind [] h = refl
 none_behind (x ∷ rest) h = absurd (omega arith)
 
@@ -51,10 +55,6 @@ module _ (word : List ℕ) where
   all_behind e = e ∙ ap decimal_of (take_all (length word - 1) (drop 1 word) (rw (length-drop 1 word) (omega arith)))
 
 pub ruleset behinds = (none_behind, all_behind)
-
--- Behind the last value nothing is stored.
-pub none_stored : (values : List ℕ) (k n : ℕ) → length values ≤ k → values ≡ set values k n
-none_stored values k n h = sym (set_out values k n h)
 
 -- The next word of a line from a place on, and the line behind it.
 module _ (line : List ℕ) (from start end : ℕ) (starts : start ≡ from + run 32 (drop from line))
@@ -75,11 +75,11 @@ module _ (line : List ℕ) (from start end : ℕ) (starts : start ≡ from + run
 
 -- Of a form that ends, by that word.
 module _ (word : List ℕ) {r : Bool} {next : List ℕ} (is : r ≡ is_empty word) (found : word ≡ next) where
-  pub no_word : r ≡ true → cause.Goes ≡ last_of next
+  pub no_word : r ≡ true → None ≡ last_of next
   unfolding last_of
   no_word t = holds _ _ (is ∙ ap is_empty found) t refl
 
-  pub one_word : r ≡ false → cause.TooMany ≡ last_of next
+  pub one_word : r ≡ false → Some cause.TooMany ≡ last_of next
   unfolding last_of
   one_word t = fails _ _ (is ∙ ap is_empty found) t refl
 
@@ -100,60 +100,67 @@ module _ (form : List ℕ) (n : ℕ) (colon : n ≡ 0 + before 58 (drop 0 form))
 
 pub ruleset askings = (asked_behind, asked_whole)
 
-pub of_asked : (names : List ℕ) (count room : ℕ) (form word : List ℕ) (start : ℕ) {r : Step}
-    → r ≡ value_of names count room (take (length form - start) (drop start form)) word
-    → drop start form ≡ asked_of form → r ≡ value_of names count room (asked_of form) word
-of_asked names count room form word start e f =
-    e
-    ∙ ap (λ l. value_of names count room l word)
-    (take_all (length form - start) (drop start form) (rw (length-drop start form) (omega arith)) ∙ f)
+-- The words of a form that a split has still to give, and how a step takes off the first of them.
+abbrev pub words_left : {F : Type 0} → Split ℕ F → List (List ℕ)
+words_left s = cond (slice.split_done s) [] (names_of 32 (slice.split_rest s))
 
--- Of a line that ends.
-pub over_end : {c : Cause} {rest x : Bool} → c ≡ end_of rest → rest ≡ x → step.Over c ≡ step.Over (end_of x)
-over_end e f = ap step.Over (e ∙ ap end_of f)
+part_first : (p : ℕ → Bool) (xs x rest : List ℕ) (done : Bool)
+    → MatchBool done (xs ≡ x) ((y : ℕ) × (xs ≡ x ++ (y ∷ rest))) → IsFirstMatchOrLen p xs (length x)
+    → slice_split p xs ≡ x ∷ cond done [] (slice_split p rest)
+part_first p xs x rest true e h =
+    ap (slice_split p) e
+    ∙ slice_split_none p x (λ k d l. subst (λ ys. p (get_or ys k d) ≡ false) e (h.0 k d (omega arith) l))
+part_first p xs x rest false e h =
+    let front : All (λ z. p z ≡ false) x =
+    λ k d l. let a = h.0 k d (omega arith) l in let b = e.1 in grind (arith, common_steps) in
+    let hit : p e.0 ≡ true =
+    let b = e.1 in let a = h.1 (grind (arith, common_steps)) e.0 in grind (arith, common_steps) in
+    ap (slice_split p) e.1 ∙ slice_split_at p x e.0 rest front hit
 
--- A number up to the limit that was found.
-pub up_to : (limit : ℕ) (none : Cause) {d x : Decimal} {r : Step} → r ≡ limited limit none d → d ≡ x
-    → r ≡ limited limit none x
-up_to limit none e f = e ∙ ap (limited limit none) f
+pub word_next : {F : Type 0} (g : Mut F (Bor ℕ × Unit {0}) Bool) (s t : Split ℕ F) (x : Bor (List ℕ))
+    → slice.split_steps g s (Some x) t
+    → ((y : ℕ) (b : Bool) (q : F) → CalledAt g (slice.split_callee s) y b q
+    → (q ≡ slice.split_callee s) × (b ≡ eqb y 32))
+    → words_left s ≡ x.now ∷ words_left t
+word_next g s t x k tests =
+    let p : ℕ → Bool = λ y. eqb y 32 in
+    let key : ComputesKey g p (slice.split_callee s) =
+    always_returns_same g (λ a r. r ≡ p a.0.now) (slice.split_callee s)
+    (λ a r q h. let m = tests a.0.now r q (record { shown = a.0; shows = refl; called = h }) in (m.1, m.0)) in
+    ap (λ b. cond b [] (names_of 32 (slice.split_rest s))) k.0
+    ∙ names_are 32 (slice.split_rest s)
+    ∙ part_first p (slice.split_rest s) x.now (slice.split_rest t) (slice.split_done t) k.1 (k.2 p key).1
+    ∙ ap (λ l. x.now ∷ cond (slice.split_done t) [] l) (sym (names_are 32 (slice.split_rest t)))
 
--- From word to word, where so much of the line is left.
-module _ (names : List ℕ) (count room : ℕ) (form : List ℕ) where
-  pub fits_first : (line values : List ℕ) → fit_from names count room (names_from 32 0 form) line 0 values
-      ≡ fit_from names count room (names_of 32 form) line 0 values
-  fits_first line values = rw (all_names 32 form)
-
-  module _ (at k : ℕ) (left values : List ℕ) {w : Fitted}
-      (so_far : fit_from names count room (names_from 32 at form) left k values ≡ w) where
-    module _ {end : ℕ} {word : List ℕ} {r : Step} (inside : at ≤ length form)
-        (ends : end ≡ at + before 32 (drop at form)) (next : word ≡ next_word left)
-        (is : r ≡ step_by names count room (part at end form) word) where
-      stepped : on_step r
-          (λ n. fit_from names count room (names_from 32 (end + 1) form) (behind_word left) (k + 1) (set values k n))
-          (fit_from names count room (names_from 32 (end + 1) form) left (k + 1) (set values k 1))
-          (λ c. fitted c k (length left) values)
-          ≡ w
-      unfolding fit_from
-      stepped = rw (is, next) (rw (names_at 32 at end form inside ends) at so_far)
-
-      pub fits_taken : {behind now : List ℕ} {n : ℕ} → r ≡ step.Taken n → behind ≡ behind_word left
-          → now ≡ set values k n → fit_from names count room (names_from 32 (end + 1) form) behind (k + 1) now ≡ w
-      unfolding on_step
-      fits_taken e b s = rw (b, s) (rw e at stepped)
-
-      pub fits_rest : {now : List ℕ} → r ≡ step.Rest → now ≡ set values k 1
-          → fit_from names count room (names_from 32 (end + 1) form) left (k + 1) now ≡ w
-      unfolding on_step
-      fits_rest e s = rw s (rw e at stepped)
-
-      pub fits_over : {c : Cause} {n : ℕ} → r ≡ step.Over c → n ≡ length left → fitted c k n values ≡ w
-      unfolding on_step
-      fits_over e l = rw l (rw e at stepped)
-
-    pub fits_all : {c : Cause} {n : ℕ} → length form < at → c ≡ last_of (next_word left) → n ≡ length left
-        → fitted c k n values ≡ w
+-- From word to word of the form, where so much of the line is left.
+module _ (names : List ℕ) (count room k : ℕ) (forms : List (List ℕ)) (left values : List ℕ) {w : Fitted}
+    (so_far : fit_from names count room forms left k values ≡ w) where
+  module _ {form word : List ℕ} {more : List (List ℕ)} {r : Step} (first : forms ≡ form ∷ more)
+      (next : word ≡ next_word left) (is : r ≡ step_by names count room form word) where
+    stepped : on_step r (λ n. fit_from names count room more (behind_word left) (k + 1) (set values k n))
+        (fit_from names count room more left (k + 1) (set values k 1)) (λ c. fitted c k (length left) values)
+        ≡ w
     unfolding fit_from
-    fits_all h e l = rw (e, l) (rw (no_names 32 at form h) at so_far)
+    stepped = rw (is, next) (rw first at so_far)
+
+    pub fits_taken : {behind now : List ℕ} {s : Option ℕ} {n : ℕ} → r ≡ Ok s → s ≡ Some n → behind ≡ behind_word left
+        → now ≡ set values k n → fit_from names count room more behind (k + 1) now ≡ w
+    unfolding on_step
+    fits_taken e f b s = rw (b, s) (rw (e, f) at stepped)
+
+    pub fits_rest : {behind now : List ℕ} {s : Option ℕ} → r ≡ Ok s → s ≡ None → behind ≡ left
+        → now ≡ set values k 1 → fit_from names count room more behind (k + 1) now ≡ w
+    unfolding on_step
+    fits_rest e f b s = rw (b, s) (rw (e, f) at stepped)
+
+    pub fits_over : {c : Option Cause} {n : ℕ} → r ≡ Err c → n ≡ length left → fitted c k n values ≡ w
+    unfolding on_step
+    fits_over e l = rw l (rw e at stepped)
+
+  pub fits_all : {c : Option Cause} {n : ℕ} → forms ≡ [] → c ≡ last_of (next_word left) → n ≡ length left
+      → fitted c k n values ≡ w
+  unfolding fit_from
+  fits_all h e l = rw (e, l) (rw h at so_far)
 
 -- How much of a line is left from a place on.
 pub left_over : (from : ℕ) (line : List ℕ) → length line - from ≡ length (drop from line)

@@ -2,14 +2,17 @@
 use Prim.Native.Nat.{ℕ, zero, suc, ◌+◌, ◌-◌, ◌<◌, ◌≤◌}
 use native.Mathlib.Omega.{arith}
 use Rattle.std.proofs.Common.{add-one, ap, ◌∙◌, length-drop, drop-drop, eqb-true, ltb-true, ltb-false}
-use Rattle.std.proofs.Math.Numerals.{unary_clauses}
 use Rattle.std.specs.Prelude.{◌≡◌, refl, Bool, true, false, List, [], ◌∷◌, eqb, ltb, length, get_or}
 use Rattle.std.proofs.Math.Path.{sym}
 use Rattle.std.proofs.Math.ListN.{take, drop}
 use Rattle.std.proofs.Math.Seq.{take_all}
 use Rattle.std.proofs.lemmas.Bool.{eqb-false}
-use Rattle.refusal.specs.Cases.{choose, less, not_less, equal, not_equal}
-use Rattle.text.specs.Reading.{before, same_bytes}
+use Rattle.std.specs.Prelude.{cond, not}
+use Rattle.std.specs.List.{prefix_len, slice_split, onto_first}
+use Rattle.std.specs.Cmp.Lexicographic.{pointwise}
+use Rattle.refusal.specs.Cases.{choose, if_equal, less, not_less, equal, not_equal}
+use Rattle.text.specs.Reading.{before}
+use Rattle.text.specs.ReadingLaws.{before_by, same_pointwise}
 use Rattle.text.specs.Lists.{part, joined, names_of, names_from, place_in}
 
 -- By what the first byte is.
@@ -111,31 +114,29 @@ pub no_names : (b i : ℕ) (l : List ℕ) → length l < i → names_from b i l 
 unfolding names_from
 no_names b i l h = sym (less _ _ (length l) i h refl)
 
--- From name to name until one is the word.
-pub place_first : (b : ℕ) (l word : List ℕ) → 0 + place_in word (names_from b 0 l) ≡ place_in word (names_of b l)
-place_first b l word = rw (all_names b l) (omega arith)
+-- They are what a split gives.
+joined_onto : (x : ℕ) (names : List (List ℕ)) → joined x names ≡ onto_first x names
+unfolding joined
+joined_onto x [] = refl
+joined_onto x (n ∷ names) = refl
 
-module _ (b i count : ℕ) (l word : List ℕ) {w : ℕ} (so_far : count + place_in word (names_from b i l) ≡ w) where
-  module _ {end : ℕ} {r : Bool} (inside : i ≤ length l) (ends : end ≡ i + before b (drop i l))
-      (is : r ≡ same_bytes (part i end l) word) where
-    pub place_here : r ≡ true → count ≡ w
-    unfolding place_in choose
-    place_here t =
-        let none : place_in word (names_from b i l) ≡ 0 = rw (names_at b i end l inside ends, sym is, t) in
-        omega arith
+by_split : (t : Bool) {A : Type 0} (a b : A) → choose t a b ≡ cond t a b
+unfolding choose
+by_split true a b = refl
+by_split false a b = refl
 
-    pub place_next : r ≡ false → count + 1 + place_in word (names_from b (end + 1) l) ≡ w
-    unfolding place_in choose
-    place_next t =
-        let one : place_in word (names_from b i l) ≡ suc (place_in word (names_from b (end + 1) l)) =
-        rw (names_at b i end l inside ends, sym is, t) in
-        omega arith
+pub names_are : (b : ℕ) (l : List ℕ) → names_of b l ≡ slice_split (λ x. eqb x b) l
+unfolding names_of if_equal
+names_are b [] = refl
+names_are b (x ∷ rest) = rw (names_are b rest, joined_onto) (by_split (eqb x b) _ _)
 
-  pub place_none : length l < i → count ≡ w
-  unfolding place_in
-  place_none h =
-      let none : place_in word (names_from b i l) ≡ 0 = rw (no_names b i l h) in
-      omega arith
+-- So many of them from the first on are not the word.
+pub place_is : (word : List ℕ) (names : List (List ℕ))
+    → place_in word names ≡ prefix_len (λ name. not (pointwise eqb name word)) names
+unfolding place_in
+place_is word [] = refl
+place_is word (n ∷ names) =
+    rw (same_pointwise n word, place_is word names) (before_by (pointwise eqb n word) _)
 
 empty_part : (i : ℕ) (l : List ℕ) → part i i l ≡ []
 empty_part i l =
@@ -143,14 +144,13 @@ empty_part i l =
     ap (λ k. take k (drop i l)) none
 
 -- From name to name so many times.
-pub name_first : (b n : ℕ) (l : List ℕ) → get_or (names_from b 0 l) n [] ≡ get_or (names_of b l) n []
-name_first b n l = rw (all_names b l)
+pub name_first : (b n m : ℕ) (l : List ℕ) → m ≡ n → get_or (names_from b 0 l) m [] ≡ get_or (names_of b l) n []
+name_first b n m l e = rw (all_names b l, e)
 
 module _ (b i end : ℕ) (l : List ℕ) {w : List ℕ} (inside : i ≤ length l) (ends : end ≡ i + before b (drop i l)) where
-  pub name_next : (left : ℕ) → get_or (names_from b i l) left [] ≡ w → 0 < left
-      → get_or (names_from b (end + 1) l) (left - 1) [] ≡ w
-  name_next zero so_far h = absurd (omega arith)
-  name_next (suc left) so_far h = simp unary_clauses (rw (names_at b i end l inside ends, add-one) at so_far)
+  pub name_next : (left m : ℕ) → get_or (names_from b i l) left [] ≡ w → left ≡ m + 1
+      → get_or (names_from b (end + 1) l) m [] ≡ w
+  name_next left m so_far h = rw (names_at b i end l inside ends, h, add-one m) at so_far
 
   pub name_here : (left : ℕ) → get_or (names_from b i l) left [] ≡ w → left ≤ 0 → part i end l ≡ w
   name_here zero so_far h = rw (names_at b i end l inside ends) at so_far
@@ -161,21 +161,18 @@ module _ (b i end : ℕ) (l : List ℕ) {w : List ℕ} (inside : i ≤ length l)
   name_none (suc left) so_far g h =
       empty_part end l ∙ (rw (names_at b i end l inside ends, no_names b (end + 1) l (omega arith)) at so_far)
 
--- How many names there are from a place on.
-module _ (b i end : ℕ) (l : List ℕ) (n all : ℕ) (inside : i ≤ length l) (ends : end ≡ i + before b (drop i l)) where
+-- How many names there are from a place on, behind so many.
+module _ (b i end : ℕ) (l : List ℕ) (k all : ℕ) (inside : i ≤ length l) (ends : end ≡ i + before b (drop i l)) where
   one_more : length (names_from b i l) ≡ suc (length (names_from b (end + 1) l))
   one_more = ap length (names_at b i end l inside ends)
 
-  pub count_next : (left : ℕ) → length (names_from b i l) + n ≡ all + left → 0 < left
-      → length (names_from b (end + 1) l) + n ≡ all + (left - 1)
-  count_next left so_far h = omega (arith, one_more)
+  pub count_next : length (names_from b i l) + k ≡ all → length (names_from b (end + 1) l) + (k + 1) ≡ all
+  count_next so_far = omega (arith, one_more)
 
-  pub count_here : (left : ℕ) → length (names_from b i l) + n ≡ all + left → left ≤ 0 → all ≤ n → i ≡ length l
-  count_here left so_far h k = absurd (omega (arith, one_more))
+  pub count_here : (n : ℕ) → length (names_from b i l) + k ≡ all → n ≤ k → all ≤ n → i ≡ length l
+  count_here n so_far h j = absurd (omega (arith, one_more))
 
-pub count_first : (b n : ℕ) (l : List ℕ) → length (names_from b 0 l) + n ≡ length (names_of b l) + n
-count_first b n l = rw (all_names b l)
+pub count_first : (b : ℕ) (l : List ℕ) → length (names_from b 0 l) + 0 ≡ length (names_of b l)
+count_first b l = rw (all_names b l) (omega arith)
 
 pub ruleset countings = (count_first, count_next, count_here)
-
-pub ruleset namings = (name_first, name_next, name_here, name_none)

@@ -1,107 +1,55 @@
 -- Laws of pieces and numbers: how each loop goes from byte to byte, and what it comes to.
-use Prim.Native.Nat.{ℕ, suc, ◌+◌, ◌-◌, ◌*◌, ◌/◌, ◌<◌, ◌≤◌}
+use Prim.Native.Nat.{ℕ, suc, ◌+◌, ◌-◌, ◌*◌, ◌<◌, ◌≤◌}
 use native.Mathlib.Omega.{arith}
 use Rattle.std.proofs.Math.Numerals.{add-one}
-use Rattle.std.proofs.Common.{mul_comm, le-div_iff_mul-le, div-lt_iff_lt-mul, ap, ◌∙◌, ltb-true, eqb-true}
-use Rattle.std.specs.Prelude.{◌≡◌, Bool, true, false, List, [], ◌∷◌, eqb, ltb, length, take, drop, get_or}
+use Rattle.std.proofs.Common.{ap, ◌∙◌, ltb-true, eqb-true}
+use Rattle.std.specs.Prelude.{◌≡◌, Bool, true, false, List, [], ◌∷◌, eqb, ltb, length, drop, get_or}
+use Rattle.std.specs.Prelude.{◌^◌, Option, None, Some, SomeIff, ok_or, Ok, Err}
 use Rattle.std.proofs.Math.Path.{refl, sym}
-use Rattle.std.proofs.Math.ListN.{drop_of_length-le, get_or-eq_default}
+use Rattle.std.proofs.Math.ListN.{drop_of_length-le}
 use Rattle.std.proofs.Math.Seq.{drop-cons}
-use Rattle.refusal.specs.Cases.{choose, if_less, if_equal, never, less, not_less, equal, not_equal, cases}
-use Rattle.text.specs.Reading.{before, run, same_bytes, state_after, state_of, with_byte, denoted, most, fitting}
-use Rattle.text.specs.Reading.{decimal_of, on_decimal, scaled}
-use Rattle.text.specs.declared.reading.Decimal.{Decimal}
-use Rattle.text.specs.declared.reading.Decimal.TheVariants as decimal
+use Rattle.std.specs.List.{prefix_len}
+use Rattle.std.specs.Cmp.Lexicographic.{pointwise}
+use Rattle.std.specs.Prelude.{cond, not, ◌&&◌}
+use Rattle.refusal.specs.Cases.{choose, if_less, if_equal, never, less, not_less, equal, not_equal}
+use Rattle.text.specs.Reading.{before, run, same_bytes, with_byte, denoted, most, fitting}
+use Rattle.text.specs.Reading.{Decimal}
+use Rattle.text.specs.declared.reading.NumberError.TheVariants as error
 
--- Where a piece ends.
-module _ (b : ℕ) (l : List ℕ) (i w : ℕ) (so_far : i + before b (drop i l) ≡ w) where
-  pub ends_here : i < length l → get_or l i 0 ≡ b → i ≡ w
-  unfolding before
-  ends_here h e =
-      let none : before b (drop i l) ≡ 0 = rw (drop-cons l i 0 h) (sym (equal _ _ _ _ e refl)) in
-      omega arith
-
-  pub ends_later : i < length l → (get_or l i 0 ≡ b → ⊥) → i + 1 + before b (drop (i + 1) l) ≡ w
-  unfolding before
-  ends_later h e =
-      let one : before b (drop i l) ≡ suc (before b (drop (i + 1) l)) =
-      rw (drop-cons l i 0 h, add-one) (sym (not_equal _ _ _ _ e refl)) in
-      omega arith
-
-  pub ends_last : length l ≤ i → i ≡ w
-  unfolding before
-  ends_last h =
-      let none : before b (drop i l) ≡ 0 = rw (drop_of_length-le l h) in
-      omega arith
-
-pub ruleset endings = (ends_here, ends_later, ends_last)
-
--- Where the next piece starts.
-module _ (b : ℕ) (l : List ℕ) (i w : ℕ) (so_far : i + run b (drop i l) ≡ w) where
-  pub starts_here : i < length l → (get_or l i 0 ≡ b → ⊥) → i ≡ w
-  unfolding run
-  starts_here h e =
-      let none : run b (drop i l) ≡ 0 = rw (drop-cons l i 0 h) (sym (not_equal _ _ _ _ e refl)) in
-      omega arith
-
-  pub starts_later : i < length l → get_or l i 0 ≡ b → i + 1 + run b (drop (i + 1) l) ≡ w
-  unfolding run
-  starts_later h e =
-      let one : run b (drop i l) ≡ suc (run b (drop (i + 1) l)) =
-      rw (drop-cons l i 0 h, add-one) (sym (equal _ _ _ _ e refl)) in
-      omega arith
-
-  pub starts_last : length l ≤ i → i ≡ w
-  unfolding run
-  starts_last h =
-      let none : run b (drop i l) ≡ 0 = rw (drop_of_length-le l h) in
-      omega arith
-
-pub ruleset startings = (starts_here, starts_later, starts_last)
-
--- Whichever way the test goes.
-by_either : (t : Bool) {r : Bool} → false ≡ r → false ≡ choose t r false
+-- A piece goes as far as its bytes are not its end.
+pub before_by : (t : Bool) (n : ℕ) → choose t 0 (suc n) ≡ cond (not t) (1 + n) 0
 unfolding choose
-by_either true e = e
-by_either false e = refl
+before_by true n = refl
+before_by false n = omega arith
 
--- Texts of different lengths are not the same.
-pub other_length : (a b : List ℕ) → (length a ≡ length b → ⊥) → false ≡ same_bytes a b
+pub before_prefix : (b : ℕ) (l : List ℕ) → before b l ≡ prefix_len (λ x. not (eqb x b)) l
+unfolding before if_equal
+before_prefix b [] = refl
+before_prefix b (x ∷ rest) = rw (before_prefix b rest) (before_by (eqb x b) _)
+
+-- The next one starts behind all that is between pieces.
+run_by : (t : Bool) (n : ℕ) → choose t (suc n) 0 ≡ cond t (1 + n) 0
+unfolding choose
+run_by true n = omega arith
+run_by false n = refl
+
+pub run_prefix : (b : ℕ) (l : List ℕ) → run b l ≡ prefix_len (λ x. eqb x b) l
+unfolding run if_equal
+run_prefix b [] = refl
+run_prefix b (x ∷ rest) = rw (run_prefix b rest) (run_by (eqb x b) _)
+
+-- Texts are the same where each byte of the one equals that of the other.
+same_by : (t r : Bool) → choose t r false ≡ t && r
+unfolding choose
+same_by true r = refl
+same_by false r = refl
+
+pub same_pointwise : (a b : List ℕ) → same_bytes a b ≡ pointwise eqb a b
 unfolding same_bytes if_equal
-other_length [] [] h = absurd (h refl)
-other_length [] (y ∷ ys) h = refl
-other_length (x ∷ xs) [] h = refl
-other_length (x ∷ xs) (y ∷ ys) h = by_either (eqb x y) (other_length xs ys (λ e. h (ap suc e)))
-
-module _ (a b : List ℕ) (i : ℕ) {w : Bool} (so_far : same_bytes (drop i a) (drop i b) ≡ w) where
-  pub differs_here : i < length a → length a ≡ length b → (get_or a i 0 ≡ get_or b i 0 → ⊥) → false ≡ w
-  unfolding same_bytes
-  differs_here h k e =
-      (rw (drop-cons a i 0 h, drop-cons b i 0 (omega arith)) (not_equal _ _ _ _ e refl)) ∙ so_far
-
-  pub same_later : i < length a → length a ≡ length b → get_or a i 0 ≡ get_or b i 0
-      → same_bytes (drop (i + 1) a) (drop (i + 1) b) ≡ w
-  unfolding same_bytes
-  same_later h k e =
-      (rw (drop-cons a i 0 h, drop-cons b i 0 (omega arith), add-one) (equal _ _ _ _ e refl)) ∙ so_far
-
-  pub same_throughout : length a ≤ i → length a ≡ length b → true ≡ w
-  unfolding same_bytes
-  same_throughout h k = (rw (drop_of_length-le a h, drop_of_length-le b {i = i} (omega arith))) ∙ so_far
-
-pub ruleset samenesses = (other_length, differs_here, same_later, same_throughout)
-
--- What a numeral is so far, byte by byte.
-module _ (l : List ℕ) (i n : ℕ) {w : ℕ} (so_far : state_of n (drop i l) ≡ w) where
-  pub states_next : {m : ℕ} → i < length l → m ≡ state_after n (get_or l i 0) → state_of m (drop (i + 1) l) ≡ w
-  unfolding state_of
-  states_next h e = rw (e, add-one) (rw (drop-cons l i 0 h) at so_far)
-
-  pub states_all : length l ≤ i → n ≡ w
-  unfolding state_of
-  states_all h = rw (drop_of_length-le l h) at so_far
-
-pub ruleset states = (states_next, states_all)
+same_pointwise [] [] = refl
+same_pointwise [] (y ∷ ys) = refl
+same_pointwise (x ∷ xs) [] = refl
+same_pointwise (x ∷ xs) (y ∷ ys) = rw (same_pointwise xs ys) (same_by (eqb x y) _)
 
 -- More bytes denote no less.
 more_by : (n m : ℕ) (t : Bool) → n ≤ m → n ≤ choose t n m
@@ -119,36 +67,36 @@ denotes_more n [] = omega arith
 denotes_more n (b ∷ rest) = omega (arith, more_with n b, denotes_more (with_byte n b) rest)
 
 -- Whether a number fits, from the answer.
-fitted_by : (n : ℕ) (t : Bool) {m : ℕ} → choose t decimal.Above (decimal.Number n) ≡ decimal.Number m → m ≡ n
+fitted_by : (n : ℕ) (t : Bool) {m : ℕ} → choose t (Err error.Above) (Ok n) ≡ Ok m → m ≡ n
 unfolding choose
 fitted_by n true e = never (cc)
 fitted_by n false e = cc
 
-fitted : (n : ℕ) {m : ℕ} → fitting n ≡ decimal.Number m → m ≡ n
+fitted : (n : ℕ) {m : ℕ} → fitting n ≡ Ok m → m ≡ n
 unfolding fitting if_less
 fitted n e = fitted_by n (ltb most n) e
 
-over_by : (n : ℕ) (t : Bool) → ltb most n ≡ t → choose t decimal.Above (decimal.Number n) ≡ decimal.Above → most < n
+over_by : (n : ℕ) (t : Bool) → ltb most n ≡ t → choose t (Err error.Above) (Ok n) ≡ Err error.Above → most < n
 unfolding choose
 over_by n true e p = ltb-true most n e
 over_by n false e p = never (cc)
 
-over : (n : ℕ) → fitting n ≡ decimal.Above → most < n
+over : (n : ℕ) → fitting n ≡ Err error.Above → most < n
 unfolding fitting if_less
 over n e = over_by n (ltb most n) refl e
 
-some_by : (n : ℕ) (t : Bool) {A : Type 0} → choose t decimal.Above (decimal.Number n) ≡ decimal.None → A
+some_by : (n : ℕ) (t : Bool) {A : Type 0} → choose t (Err error.Above) (Ok n) ≡ Err error.NoNumeral → A
 unfolding choose
 some_by n true e = never (cc)
 some_by n false e = never (cc)
 
-some : (n : ℕ) {A : Type 0} → fitting n ≡ decimal.None → A
+some : (n : ℕ) {A : Type 0} → fitting n ≡ Err error.NoNumeral → A
 unfolding fitting if_less
 some n e = some_by n (ltb most n) e
 
 -- A number with one byte more: an underline leaves it, and a digit goes behind the others.
 module _ (n b : ℕ) where
-  pub left_alone : b ≡ 95 → n ≤ most → decimal.Number n ≡ fitting (with_byte n b)
+  pub left_alone : b ≡ 95 → n ≤ most → Ok n ≡ fitting (with_byte n b)
   unfolding with_byte fitting
   left_alone e h = rw (sym (equal n (10 * n + (b - 48)) b 95 e refl)) (not_less _ _ _ _ h refl)
 
@@ -163,10 +111,10 @@ module _ (l : List ℕ) (i n : ℕ) {w : ℕ} (so_far : denoted n (drop i l) ≡
   next h = rw add-one (rw (drop-cons l i 0 h) at so_far)
 
   module _ {r : Decimal} (inside : i < length l) (more : r ≡ fitting (with_byte n (get_or l i 0))) where
-    pub denotes_next : {m : ℕ} → r ≡ decimal.Number m → denoted m (drop (i + 1) l) ≡ w
+    pub denotes_next : {m : ℕ} → r ≡ Ok m → denoted m (drop (i + 1) l) ≡ w
     denotes_next e = rw (fitted _ (sym more ∙ e)) (next inside)
 
-    pub denotes_above : r ≡ decimal.Above → decimal.Above ≡ fitting w
+    pub denotes_above : r ≡ Err error.Above → Err error.Above ≡ fitting w
     unfolding fitting
     denotes_above e =
         less _ _ _ _
@@ -174,10 +122,10 @@ module _ (l : List ℕ) (i n : ℕ) {w : ℕ} (so_far : denoted n (drop i l) ≡
         (arith, over _ (sym more ∙ e), denotes_more (with_byte n (get_or l i 0)) (drop (i + 1) l), next inside))
         refl
 
-    pub denotes_some : r ≡ decimal.None → decimal.None ≡ fitting w
+    pub denotes_some : r ≡ Err error.NoNumeral → Err error.NoNumeral ≡ fitting w
     denotes_some e = some _ (sym more ∙ e)
 
-  pub denotes_all : length l ≤ i → n ≤ most → decimal.Number n ≡ fitting w
+  pub denotes_all : length l ≤ i → n ≤ most → Ok n ≡ fitting w
   unfolding denoted fitting
   denotes_all h k =
       let all : n ≡ w = (rw (drop_of_length-le l h) at so_far) in
@@ -185,61 +133,12 @@ module _ (l : List ℕ) (i n : ℕ) {w : ℕ} (so_far : denoted n (drop i l) ≡
 
 pub ruleset denotings = (denotes_next, denotes_above, denotes_some, denotes_all)
 
--- By what a number turned out to be: r is what a call gave, x what its contract says of it.
-module _ {A : Type 0} {y : A} {r x : Decimal} (f : ℕ → A) (a b : A) where
-  pub was_number : {n : ℕ} → r ≡ x → r ≡ decimal.Number n → y ≡ f n → y ≡ on_decimal x f a b
-  unfolding on_decimal
-  was_number e m h = rw (sym e ∙ m) h
-
-  pub was_above : r ≡ x → r ≡ decimal.Above → y ≡ a → y ≡ on_decimal x f a b
-  unfolding on_decimal
-  was_above e m h = rw (sym e ∙ m) h
-
-  pub was_none : r ≡ x → r ≡ decimal.None → y ≡ b → y ≡ on_decimal x f a b
-  unfolding on_decimal
-  was_none e m h = rw (sym e ∙ m) h
-
-pub ruleset decimals = (cases, was_number, was_above, was_none)
-
--- So many units, where the product fits.
-module _ (unit n : ℕ) where
-  pub no_units : unit ≡ 0 → decimal.Number 0 ≡ fitting (unit * n)
-  unfolding fitting
-  no_units e = rw e (not_less _ _ _ _ (omega arith) (ap decimal.Number (omega arith)))
-
-  pub units_within : (unit ≡ 0 → ⊥) → n ≤ most / unit → unit * n ≤ most
-  units_within z h =
-      rw (mul_comm unit n) ((le-div_iff_mul-le {k = unit} {x = n} {y = most} (omega arith)).0 h)
-
-  pub units_fit : (unit ≡ 0 → ⊥) → n ≤ most / unit → decimal.Number (unit * n) ≡ fitting (unit * n)
-  unfolding fitting
-  units_fit z h = not_less _ _ _ _ (units_within z h) refl
-
-  pub units_above : (unit ≡ 0 → ⊥) → most / unit < n → decimal.Above ≡ fitting (unit * n)
-  unfolding fitting
-  units_above z h =
-      less _ _ _ _
-      (rw (mul_comm unit n) ((div-lt_iff_lt-mul {k = unit} {x = most} {y = n} (omega arith)).0 h)) refl
-
-pub ruleset units = (no_units, units_fit, units_above)
-
--- So many units, by the number before the letters.
-pub units_before : (unit letters : ℕ) (word : List ℕ) {d r : Decimal} → r ≡ scaled unit d
-    → d ≡ decimal_of (take (length word - letters - 0) (drop 0 word))
-    → r ≡ scaled unit (decimal_of (take (length word - letters) word))
-units_before unit letters word e f =
-    let all : length word - letters - 0 ≡ length word - letters = omega arith in
-    e ∙ ap (scaled unit) (f ∙ ap (λ n. decimal_of (take n word)) all)
-
--- A byte by its place.
-module _ (l : List ℕ) (i j : ℕ) (place : i ≡ j) where
-  pub byte_there : get_or l i 0 ≡ get_or l j 0
-  byte_there = ap (λ k. get_or l k 0) place
-
-  pub no_byte_there : length l ≤ i → 0 ≡ get_or l j 0
-  no_byte_there h = sym (get_or-eq_default l 0 {n = i} h) ∙ byte_there
-
-pub ruleset places = (byte_there, no_byte_there)
+-- What is computed where it fits is the number, unless that is above the greatest.
+pub computed : (o : Option ℕ) (n : ℕ) {r : Decimal} → SomeIff o (n < 2 ^ 64) n → r ≡ ok_or o error.Above
+    → r ≡ fitting n
+unfolding fitting
+computed None n h e = e ∙ less _ _ _ _ (omega (arith, h)) refl
+computed (Some x) n h e = e ∙ ap Ok h.1 ∙ not_less _ _ _ _ (omega (arith, h.0)) refl
 
 -- Texts are the same just where the lists of their bytes are equal.
 both_same : (x y : ℕ) (t : Bool) {r : Bool} → eqb x y ≡ t → choose t r false ≡ true → (x ≡ y) × (r ≡ true)

@@ -1,6 +1,6 @@
 -- Laws of times as they are written.
-use Rattle.std.specs.Prelude.{ℕ, zero, suc, ◌+◌, ◌-◌, ◌*◌, ◌/◌, ◌%◌, ◌<◌, ◌≤◌, ◌≡◌, refl, List, [], ◌∷◌, length}
-use Rattle.std.proofs.Common.{arith, ap, ◌∙◌}
+use Rattle.std.specs.Prelude.{ℕ, zero, suc, ◌+◌, ◌-◌, ◌*◌, ◌/◌, ◌%◌, ◌<◌, ◌≡◌, refl, List, [], ◌∷◌, length}
+use Rattle.std.proofs.Common.{arith, ap, sym, ◌∙◌}
 use Rattle.std.proofs.Math.Numerals.{unary_clauses}
 use Rattle.refusal.specs.Cases.{equal, not_equal}
 use Rattle.text.specs.Writing.{Page, stored, written, digits_of, right_in}
@@ -21,23 +21,22 @@ unfolding written
 byte_then p b rest e f = f ∙ ap (λ x. written x rest) e
 
 -- Digit by digit: one more, nothing left, and as many as there may be.
-pub fraction_next : (k n b : ℕ) (p : Page) {q w : Page} → written p (fraction_from k n) ≡ w → 0 < k → (n ≡ 0 → ⊥)
-    → b ≡ 48 + n / 100000 % 10 → q ≡ stored p b → written q (fraction_from (k - 1) (n % 100000 * 10)) ≡ w
+pub fraction_at : (k n : ℕ) (p : Page) → 0 < k → (n ≡ 0 → ⊥) → written p (fraction_from k n)
+    ≡ written (stored p (48 + n / 100000 % 10)) (fraction_from (k - 1) (n % 100000 * 10))
 unfolding fraction_from written
-fraction_next zero n b p e h z d f = absurd (omega arith)
-fraction_next (suc k) n b p e h z d f =
-    let there = not_equal [] ((48 + n / 100000 % 10) ∷ fraction_from k (n % 100000 * 10)) n 0 z refl in
-    simp unary_clauses (rw (f, d) (ap (written p) there ∙ e))
+fraction_at zero n p h z = absurd (omega arith)
+fraction_at (suc k) n p h z =
+    simp unary_clauses
+    (ap (written p) (sym (not_equal [] ((48 + n / 100000 % 10) ∷ fraction_from k (n % 100000 * 10)) n 0 z refl)))
 
-pub fraction_none : (k n : ℕ) (p : Page) {w : Page} → written p (fraction_from k n) ≡ w → n ≡ 0 → p ≡ w
+pub fraction_none : (k n : ℕ) (p : Page) → n ≡ 0 → written p (fraction_from k n) ≡ p
 unfolding fraction_from written
-fraction_none zero n p e z = e
-fraction_none (suc k) n p e z =
-    ap (written p) (equal [] ((48 + n / 100000 % 10) ∷ fraction_from k (n % 100000 * 10)) n 0 z refl) ∙ e
+fraction_none zero n p z = refl
+fraction_none (suc k) n p z =
+    ap (written p) (sym (equal [] ((48 + n / 100000 % 10) ∷ fraction_from k (n % 100000 * 10)) n 0 z refl))
 
-pub fraction_all : (k n : ℕ) (p : Page) {w : Page} → written p (fraction_from k n) ≡ w → k ≤ 0 → p ≡ w
+pub fraction_end : (k n : ℕ) (p : Page) → k ≡ 0 → written p (fraction_from k n) ≡ p
 unfolding fraction_from written
-fraction_all zero n p e h = e
-fraction_all (suc k) n p e h = absurd (omega arith)
+fraction_end k n p h = rw h
 
-pub ruleset fractions = (fraction_next, fraction_none, fraction_all)
+pub ruleset fractions = (fraction_at, fraction_none, fraction_end)

@@ -1,6 +1,6 @@
 -- A page, a number's digits, columns and templates.
 use Rattle.std.specs.Prelude.{ℕ, zero, suc, ◌+◌, ◌-◌, ◌*◌, ◌/◌, ◌%◌, List, [], ◌∷◌, ◌++◌, length, get_or, set}
-use Rattle.std.specs.Prelude.{replicate}
+use Rattle.std.specs.Prelude.{replicate, Option, None, Some}
 use Rattle.refusal.specs.Cases.{if_less, if_equal}
 
 -- Bytes, and how many of them are written.
@@ -44,10 +44,10 @@ right_in width word = spaces (width - length word) ++ word
 
 -- In a template `%` starts an escape. Digits in it are a column's width, of two at most; then `@` is the word, at the
 -- left, a small letter the value of its place, at the right, and a capital letter the same with its digits in groups.
--- The state is 0 outside an escape, in one its width so far and 1.
-unfoldable pub after : ℕ → ℕ → ℕ
-after state b =
-    if_equal state 0 (if_equal b 37 1 0) (if_less b 48 0 (if_less 57 b 0 ((state - 1) % 10 * 10 + (b - 48) + 1)))
+-- Of an escape there is its width so far; outside there is none.
+unfoldable pub after : Option ℕ → ℕ → Option ℕ
+after None b = if_equal b 37 (Some 0) None
+after (Some width) b = if_less b 48 None (if_less 57 b None (Some (width % 10 * 10 + (b - 48))))
 
 unfoldable pub item : List ℕ → List ℕ → ℕ → ℕ → List ℕ
 item values word width b =
@@ -55,11 +55,11 @@ item values word width b =
     (if_less b 97 (right_in width (grouped (digits_of (get_or values (b - 65) 0))))
     (right_in width (digits_of (get_or values (b - 97) 0))))
 
-unfoldable pub piece : List ℕ → List ℕ → ℕ → ℕ → List ℕ
-piece values word state b =
-    if_equal state 0 (if_equal b 37 [] (b ∷ []))
-    (if_less b 48 (item values word (state - 1) b) (if_less 57 b (item values word (state - 1) b) []))
+unfoldable pub piece : List ℕ → List ℕ → Option ℕ → ℕ → List ℕ
+piece values word None b = if_equal b 37 [] (b ∷ [])
+piece values word (Some width) b =
+    if_less b 48 (item values word width b) (if_less 57 b (item values word width b) [])
 
-unfoldable pub filled : List ℕ → List ℕ → ℕ → List ℕ → List ℕ
-filled values word state [] = []
-filled values word state (b ∷ rest) = piece values word state b ++ filled values word (after state b) rest
+unfoldable pub filled : List ℕ → List ℕ → Option ℕ → List ℕ → List ℕ
+filled values word escape [] = []
+filled values word escape (b ∷ rest) = piece values word escape b ++ filled values word (after escape b) rest

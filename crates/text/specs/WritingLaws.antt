@@ -1,13 +1,12 @@
 -- Laws of pages, digits and templates, and what a page then has where there is room.
 use Rattle.std.specs.Prelude.{ℕ, zero, suc, ◌+◌, ◌-◌, ◌*◌, ◌/◌, ◌%◌, ◌^◌, ◌<◌, ◌≤◌, ◌≡◌, refl, Bool, true, false, List}
-use Rattle.std.specs.Prelude.{[], ◌∷◌, ◌++◌, leb, eqb, length, take, drop, get_or, set}
+use Rattle.std.specs.Prelude.{Option, [], ◌∷◌, ◌++◌, leb, eqb, length, take, drop, get_or, set}
 use Rattle.std.proofs.Common.{arith, mod-lt, mod-eq_of_lt, pow-suc, le-div_iff_mul-le, div-lt_iff_lt-mul, sub-one, ap}
 use Rattle.std.proofs.Common.{◌∙◌, length-append, length-drop, length-set, drop_of_length-le, drop-cons, lt-ltb}
 use Rattle.std.proofs.Common.{leb-true, leb-false, eqb-true}
 use Rattle.std.proofs.Math.Nat.{one-le-pow, pow-le-pow_right}
 use Rattle.std.proofs.Math.Numerals.{add-one, unary_clauses}
 use Rattle.std.proofs.Math.Path.{sym}
-use Rattle.std.proofs.Math.ListN.{get_or-eq_default}
 use Rattle.std.proofs.lemmas.List.Edits.{sets, sets-eq}
 use Rattle.std.proofs.lemmas.Bool.{eqb-false}
 use Rattle.io.specs.Digits.{last_digits as digits, IsDigitCount}
@@ -27,29 +26,29 @@ pub then_written : (p : Page) {q r : Page} (a b : List ℕ) → q ≡ written p 
 then_written p a b e f = f ∙ ap (λ s. written s b) e ∙ sym (written_append p a b)
 
 -- Byte by byte.
-module _ (bytes : List ℕ) (i : ℕ) (p : Page) {w : Page} (so_far : written p (drop i bytes) ≡ w) where
-  pub written_next : {q : Page} → i < length bytes → q ≡ stored p (get_or bytes i 0)
-      → written q (drop (i + 1) bytes) ≡ w
+module _ (bytes : List ℕ) (i : ℕ) (p : Page) where
+  pub written_at : i < length bytes
+      → written p (drop i bytes) ≡ written (stored p (get_or bytes i 0)) (drop (i + 1) bytes)
   unfolding written
-  written_next h e = rw (e, add-one) (rw (drop-cons bytes i 0 h) at so_far)
+  written_at h = rw (drop-cons bytes i 0 h, add-one)
 
-  pub written_all : length bytes ≤ i → p ≡ w
+  pub written_end : length bytes ≤ i → written p (drop i bytes) ≡ p
   unfolding written
-  written_all h = rw (drop_of_length-le bytes h) at so_far
+  written_end h = rw (drop_of_length-le bytes h)
 
 -- Space by space.
-pub spaced_next : (n : ℕ) (p : Page) {q w : Page} → written p (spaces n) ≡ w → 0 < n
-    → q ≡ stored p 32 → written q (spaces (n - 1)) ≡ w
+pub spaced_at : (n : ℕ) (p : Page) → 0 < n → written p (spaces n) ≡ written (stored p 32) (spaces (n - 1))
 unfolding written
-spaced_next zero p e h f = absurd (omega arith)
-spaced_next (suc n) p e h f = simp unary_clauses (rw f e)
+spaced_at zero p h = absurd (omega arith)
+spaced_at (suc n) p h = simp unary_clauses
 
-pub spaced_all : (n : ℕ) (p : Page) {w : Page} → written p (spaces n) ≡ w → n ≤ 0 → p ≡ w
+pub spaced_end : (n : ℕ) (p : Page) → n ≡ 0 → written p (spaces n) ≡ p
 unfolding written
-spaced_all zero p e h = e
-spaced_all (suc n) p e h = absurd (omega arith)
+spaced_end n p h = rw h
 
-pub ruleset writings = (written_next, written_all, spaced_next, spaced_all)
+pub ruleset spacings = (spaced_at, spaced_end)
+
+pub ruleset writings = (written_at, written_end)
 
 pub length_digits : (k n : ℕ) → length (digits 10 k n) ≡ k
 length_digits zero n = refl
@@ -136,22 +135,21 @@ length_grouped (d ∷ rest) =
     simp (length-append, length_separator, length_grouped rest, unary_clauses) (omega arith)
 
 -- Digit by digit.
-module _ (digits : List ℕ) (i : ℕ) (p : Page) {w : Page} (so_far : written p (grouped (drop i digits)) ≡ w) where
-  pub groups_next : {q r : Page} → i < length digits → q ≡ stored p (get_or digits i 0)
-      → r ≡ written q (separator (length digits - (i + 1))) → written r (grouped (drop (i + 1) digits)) ≡ w
+module _ (digits : List ℕ) (i : ℕ) (p : Page) where
+  pub groups_at : i < length digits → written p (grouped (drop i digits))
+      ≡ written (written (stored p (get_or digits i 0)) (separator (length digits - (i + 1))))
+      (grouped (drop (i + 1) digits))
   unfolding grouped written
-  groups_next h e f =
-      rw (f, e, add-one, sym (length-drop (suc i) digits))
-      (sym
+  groups_at h =
+      rw (drop-cons digits i 0 h, add-one, sym (length-drop (suc i) digits))
       (written_append (stored p (get_or digits i 0)) (separator (length (drop (suc i) digits)))
       (grouped (drop (suc i) digits)))
-      ∙ (rw (drop-cons digits i 0 h) at so_far))
 
-  pub groups_all : length digits ≤ i → p ≡ w
+  pub groups_end : length digits ≤ i → written p (grouped (drop i digits)) ≡ p
   unfolding grouped written
-  groups_all h = rw (drop_of_length-le digits h) at so_far
+  groups_end h = rw (drop_of_length-le digits h)
 
-pub ruleset groupings = (groups_next, groups_all)
+pub ruleset groupings = (groups_at, groups_end)
 
 -- At the right of a column, as spaces and groups of digits.
 pub groups_right : (p : Page) {q r : Page} (width k j room m : ℕ) {own bytes : List ℕ} → bytes ≡ own
@@ -204,27 +202,18 @@ pub ruleset choices = (
 )
 
 -- Byte by byte.
-module _ (values word template : List ℕ) (i state : ℕ) (p : Page) {w : Page}
-    (so_far : written p (filled values word state (drop i template)) ≡ w) where
-  pub filled_next : {q : Page} {next : ℕ} → i < length template
-      → q ≡ written p (piece values word state (get_or template i 0))
-      → next ≡ after state (get_or template i 0) → written q (filled values word next (drop (i + 1) template)) ≡ w
+module _ (values word template : List ℕ) (i : ℕ) (escape : Option ℕ) (p : Page) where
+  pub filled_at : i < length template → written p (filled values word escape (drop i template))
+      ≡ written (written p (piece values word escape (get_or template i 0)))
+      (filled values word (after escape (get_or template i 0)) (drop (i + 1) template))
   unfolding filled
-  filled_next h e f =
-      rw (e, f, add-one) (sym (written_append p _ _) ∙ (rw (drop-cons template i 0 h) at so_far))
+  filled_at h = rw (drop-cons template i 0 h, add-one) (written_append p _ _)
 
-  pub filled_all : length template ≤ i → p ≡ w
+  pub filled_end : length template ≤ i → written p (filled values word escape (drop i template)) ≡ p
   unfolding filled written
-  filled_all h = rw (drop_of_length-le template h) at so_far
+  filled_end h = rw (drop_of_length-le template h)
 
-pub ruleset fillings = (filled_next, filled_all)
-
--- Beyond the last value there is 0.
-pub past_end : (l : List ℕ) (i : ℕ) → length l ≤ i → 0 ≡ get_or l i 0
-past_end l i h = sym (get_or-eq_default l 0 {n = i} h)
-
-pub same_sum : (x y z : ℕ) → y ≡ z → x + y + 1 ≡ x + z + 1
-same_sum x y z e = ap (λ v. x + v + 1) e
+pub ruleset fillings = (filled_at, filled_end)
 
 -- Where there is room, just the bytes are written, from the place on, and the rest of the page stays.
 pub written_sets : (vs l : List ℕ) (i : ℕ) → i + length vs ≤ length l

@@ -5,47 +5,28 @@ ghost use Rattle.text.specs.Escaping.{escaped_byte, escaped};
 
 use crate::writing::{put, put_byte};
 
-const QUOTE: u8 = 34;
-
-const AND: u8 = 38;
-
-const APOSTROPHE: u8 = 39;
-
-const LESS: u8 = 60;
-
-const GREATER: u8 = 62;
-
 #[tactic(auto, using(crate::specs::WritingLaws::choices), unfolding(crate::specs::Escaping::escaped_byte))]
 fn put_escaped(out: &mut [u8], at: usize, byte: u8) -> usize
     ensures { page out.new result ≡ written (page out.old at) (escaped_byte byte) }
 {
-    if byte == AND {
-        return put(out, at, b"&amp;");
+    match byte {
+        b'&' => put(out, at, b"&amp;"),
+        b'<' => put(out, at, b"&lt;"),
+        b'>' => put(out, at, b"&gt;"),
+        b'"' => put(out, at, b"&quot;"),
+        b'\'' => put(out, at, b"&apos;"),
+        _ => put_byte(out, at, byte),
     }
-    if byte == LESS {
-        return put(out, at, b"&lt;");
-    }
-    if byte == GREATER {
-        return put(out, at, b"&gt;");
-    }
-    if byte == QUOTE {
-        return put(out, at, b"&quot;");
-    }
-    if byte == APOSTROPHE {
-        return put(out, at, b"&apos;");
-    }
-    put_byte(out, at, byte)
 }
 
 // A text with the bytes escaped by which XML has marks; how many bytes are then written.
+#[tactic(auto, using(crate::specs::EscapingLaws::escapings))]
 pub fn escape(out: &mut [u8], at: usize, text: &[u8]) -> usize
     ensures { page out.new result ≡ written (page out.old at) (escaped text.now) }
 {
     let mut end = at;
-    let mut i: usize = 0;
-    while i < text.len() {
-        end = put_escaped(out, end, text[i]);
-        i += 1;
+    for byte in text {
+        end = put_escaped(out, end, *byte);
     }
     end
 }

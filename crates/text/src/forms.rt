@@ -8,39 +8,32 @@ ghost use Rattle.text.specs.Forms.{end_of, step_by, last_of, fit_from};
 ghost use Rattle.text.specs.Forms.{first as Forms·first};
 
 use crate::listing::{Span, nth, place_of, word_after};
-use crate::reading::{Decimal, end_of, nanoseconds, number, same, wide};
+use crate::reading::{NumberError, end_of, nanoseconds, number, same};
 
 // The marks of a form. A name's number has the first one before it, too.
-const NUMBER: u8 = 35;
+const NUMBER: u8 = b'#';
 
-const TIME: u8 = 126;
+const TIME: u8 = b'~';
 
-const NAME: u8 = 64;
+const NAME: u8 = b'@';
 
-const NEW_NAME: u8 = 61;
+const NEW_NAME: u8 = b'=';
 
-const LETTER: u8 = 94;
+const LETTER: u8 = b'^';
 
-const BAR: u8 = 124;
+const BAR: u8 = b'|';
 
-const SPACE: u8 = 32;
+const SPACE: u8 = b' ';
 
-const COLON: u8 = 58;
+const COLON: u8 = b':';
 
 const NAME_BYTES: usize = 15;
 
-const BIG_A: u8 = 65;
-
-const BIG_Z: u8 = 90;
-
-const MOST: u64 = 18_446_744_073_709_551_615;
-
-// Why a line goes no further by a form: it goes to its end; it ends too early; its next word is another than the
-// form's; is no number, no time, or above the limit; is none of the names, a name that is there already, no name, or a
-// name more than there may be; is no letter; or is one word too many.
+// Why a line goes no further by a form: it ends too early; its next word is another than the form's; is no number, no
+// time, or above the limit; is none of the names, a name that is there already, no name, or a name more than there may
+// be; is no letter; or is one word too many.
 #[derive(Clone, Copy)]
 pub enum Cause {
-    Goes,
     Missing,
     OtherWord,
     NoNumber,
@@ -54,97 +47,87 @@ pub enum Cause {
     TooMany,
 }
 
-// Where and why a line goes no further: the place of the form's word, and how many bytes of the line are left.
+// Where a line goes no further, and why, if it does not go to its end: the place of the form's word, and how many bytes
+// of the line are left.
 #[derive(Clone, Copy)]
 pub struct Stop {
-    pub cause: Cause,
+    pub cause: Option<Cause>,
     pub place: usize,
     pub left: usize,
 }
 
 // What the next word of a line does by a word of a form: it is taken, with a value; it is the first of the rest, which
-// might have been left out; or the line goes no further.
-#[derive(Clone, Copy)]
-enum Step {
-    Taken(u64),
-    Rest,
-    Over(Cause),
-}
+// might have been left out; or the line goes no further, for a cause or since it may end there.
+type Step = Result<Option<u64>, Option<Cause>>;
 
 fn is_empty(word: &[u8]) -> bool
     ensures { result ≡ is_empty word.now }
 {
-    word.len() == 0
+    word.is_empty()
 }
 
 fn first(word: &[u8]) -> u8
     ensures { result ≡ Forms·first word.now }
 {
-    if word.len() == 0 {
-        return 0;
-    }
-    word[0]
+    word.first().copied().unwrap_or(0)
 }
 
 // The number behind the first byte.
 #[tactic(auto, using(crate::specs::FormsLaws::behinds))]
-fn number_behind(word: &[u8]) -> Decimal
+fn number_behind(word: &[u8]) -> Result<u64, NumberError>
     ensures { result ≡ decimal_of (drop 1 word.now) }
 {
-    if word.len() == 0 {
-        return Decimal::None;
+    if word.is_empty() {
+        return Err(NumberError::NoNumeral);
     }
     number(&word[1..])
 }
 
 // The limit behind the mark of a form's word; the greatest number where there is none.
+#[tactic(auto, unfolding(crate::specs::Forms::limit_of))]
 fn limit(form: &[u8]) -> u64
     ensures { result ≡ limit_of form.now }
 {
-    match number_behind(form) {
-        Decimal::Number(n) => n,
-        Decimal::Above => MOST,
-        Decimal::None => MOST,
-    }
+    number_behind(form).unwrap_or(u64::MAX)
 }
 
 // A number up to a limit; what is none is told by its cause.
 #[tactic(auto,
 // The laws of choosing, and what each case gives.
 using(refusal::specs::Cases::cases), unfolding(crate::specs::Forms::limited, crate::specs::Reading::on_decimal))]
-fn up_to(limit: u64, none: Cause, found: Decimal) -> Step
+fn up_to(limit: u64, none: Cause, found: Result<u64, NumberError>) -> Result<u64, Cause>
     ensures { result ≡ limited limit none found }
 {
     match found {
-        Decimal::Number(n) => {
+        Ok(n) => {
             if limit < n {
-                return Step::Over(Cause::AboveLimit);
+                return Err(Cause::AboveLimit);
             }
-            Step::Taken(n)
+            Ok(n)
         }
-        Decimal::Above => Step::Over(Cause::AboveLimit),
-        Decimal::None => Step::Over(none),
+        Err(NumberError::Above) => Err(Cause::AboveLimit),
+        Err(NumberError::NoNumeral) => Err(none),
     }
 }
 
 #[tactic(auto, using(refusal::specs::Cases::cases), unfolding(crate::specs::Forms::name_of))]
-fn name(names: &[u8], count: u64, word: &[u8]) -> Step
+fn name(names: &[u8], count: u64, word: &[u8]) -> Result<u64, Cause>
     ensures { result ≡ name_of names.now count word.now }
 {
     let n = place_of(names, SPACE, word) as u64;
     if n < count {
-        return Step::Taken(n);
+        return Ok(n);
     }
-    Step::Over(Cause::NoSuchName)
+    Err(Cause::NoSuchName)
 }
 
 #[tactic(auto, using(refusal::specs::Cases::cases), unfolding(crate::specs::Forms::known_of))]
-fn known(names: &[u8], count: u64, word: &[u8]) -> Step
+fn known(names: &[u8], count: u64, word: &[u8]) -> Result<u64, Cause>
     ensures { result ≡ known_of names.now count word.now }
 {
     let mark = first(word);
     if mark == NUMBER {
-        return up_to(MOST, Cause::NoSuchName, number_behind(word));
+        return up_to(u64::MAX, Cause::NoSuchName, number_behind(word));
     }
     name(names, count, word)
 }
@@ -162,64 +145,51 @@ fn is_name(word: &[u8]) -> bool
     if mark == NUMBER {
         return false;
     }
-    match number(word) {
-        Decimal::Number(_) => false,
-        Decimal::Above => false,
-        Decimal::None => true,
-    }
+    matches!(number(word), Err(NumberError::NoNumeral))
 }
 
 #[tactic(auto, using(refusal::specs::Cases::cases), unfolding(crate::specs::Forms::new_name))]
-fn new_name(names: &[u8], count: u64, most: u64, word: &[u8]) -> Step
+fn new_name(names: &[u8], count: u64, most: u64, word: &[u8]) -> Result<u64, Cause>
     ensures { result ≡ new_name names.now count most word.now }
 {
     if most <= count {
-        return Step::Over(Cause::NoRoom);
+        return Err(Cause::NoRoom);
     }
     if !is_name(word) {
-        return Step::Over(Cause::NoName);
+        return Err(Cause::NoName);
     }
     let n = place_of(names, SPACE, word) as u64;
     if n < count {
-        return Step::Over(Cause::NameTaken);
+        return Err(Cause::NameTaken);
     }
-    Step::Taken(0)
+    Ok(0)
 }
 
 #[tactic(auto, using(refusal::specs::Cases::cases), unfolding(crate::specs::Forms::letter_of))]
-fn letter(word: &[u8]) -> Step
+fn letter(word: &[u8]) -> Result<u64, Cause>
     ensures { result ≡ letter_of word.now }
 {
-    if word.len() != 1 {
-        return Step::Over(Cause::NoLetter);
+    match word {
+        [byte @ b'A'..=b'Z'] => Ok(u64::from(*byte)),
+        _ => Err(Cause::NoLetter),
     }
-    let byte = first(word);
-    if byte < BIG_A {
-        return Step::Over(Cause::NoLetter);
-    }
-    if BIG_Z < byte {
-        return Step::Over(Cause::NoLetter);
-    }
-    Step::Taken(wide(byte))
 }
 
 #[tactic(auto, using(crate::specs::FormsLaws::findings))]
-fn one_of(list: &[u8], word: &[u8]) -> Step
+fn one_of(list: &[u8], word: &[u8]) -> Result<u64, Cause>
     ensures { result ≡ one_of list.now word.now }
 {
     let n = place_of(list, BAR, word);
     let found = nth(list, BAR, n);
-    let start = found.start;
-    let end = found.end;
-    if same(&list[start..end], word) {
-        return Step::Taken(n as u64);
+    if same(&list[found.start..found.end], word) {
+        return Ok(n as u64);
     }
-    Step::Over(Cause::OtherWord)
+    Err(Cause::OtherWord)
 }
 
 // A time or a number, up to the form's limit.
 #[tactic(auto, using(refusal::specs::Cases::cases), unfolding(crate::specs::Forms::quantity_of))]
-fn quantity(mark: u8, form: &[u8], word: &[u8]) -> Step
+fn quantity(mark: u8, form: &[u8], word: &[u8]) -> Result<u64, Cause>
     ensures { result ≡ quantity_of mark form.now word.now }
 {
     let most = limit(form);
@@ -230,27 +200,18 @@ fn quantity(mark: u8, form: &[u8], word: &[u8]) -> Step
 }
 
 #[tactic(auto, using(refusal::specs::Cases::cases), unfolding(crate::specs::Forms::value_of))]
-fn value(names: &[u8], count: u64, most: u64, form: &[u8], word: &[u8]) -> Step
+fn value(names: &[u8], count: u64, most: u64, form: &[u8], word: &[u8]) -> Result<u64, Cause>
     ensures { result
         ≡ value_of names.now count most form.now word.now }
 {
     let mark = first(form);
-    if mark == NUMBER {
-        return quantity(mark, form, word);
+    match mark {
+        NUMBER | TIME => quantity(mark, form, word),
+        NAME => known(names, count, word),
+        NEW_NAME => new_name(names, count, most, word),
+        LETTER => letter(word),
+        _ => one_of(form, word),
     }
-    if mark == TIME {
-        return quantity(mark, form, word);
-    }
-    if mark == NAME {
-        return known(names, count, word);
-    }
-    if mark == NEW_NAME {
-        return new_name(names, count, most, word);
-    }
-    if mark == LETTER {
-        return letter(word);
-    }
-    one_of(form, word)
 }
 
 // Where what a form's word asks for starts: behind the field's name and a colon.
@@ -266,7 +227,7 @@ fn asked(form: &[u8]) -> usize
     0
 }
 
-fn asked_value(names: &[u8], count: u64, most: u64, form: &[u8], word: &[u8]) -> Step
+fn asked_value(names: &[u8], count: u64, most: u64, form: &[u8], word: &[u8]) -> Result<u64, Cause>
     ensures { result
         ≡ value_of names.now count most (asked_of form.now) word.now }
 {
@@ -276,28 +237,29 @@ fn asked_value(names: &[u8], count: u64, most: u64, form: &[u8], word: &[u8]) ->
 
 // Of a line that ends: whether the rest may be left out.
 #[tactic(auto, using(refusal::specs::Cases::cases), unfolding(crate::specs::Forms::end_of))]
-fn ending(rest: bool) -> Cause
+fn ending(rest: bool) -> Option<Cause>
     ensures { result ≡ end_of rest }
 {
-    if rest {
-        return Cause::Goes;
-    }
-    Cause::Missing
+    if rest { None } else { Some(Cause::Missing) }
 }
 
-#[tactic(auto, using(refusal::specs::Cases::cases), unfolding(crate::specs::Forms::step_by))]
+#[tactic(auto,
+// The laws of choosing, and what a word that is taken gives.
+using(refusal::specs::Cases::cases), unfolding(crate::specs::Forms::step_by, crate::specs::Forms::taken))]
 fn step_by(names: &[u8], count: u64, most: u64, form: &[u8], word: &[u8]) -> Step
     ensures { result
         ≡ step_by names.now count most form.now word.now }
 {
     let rest = same(form, b"..");
     if is_empty(word) {
-        return Step::Over(ending(rest));
+        return Err(ending(rest));
     }
     if rest {
-        return Step::Rest;
+        return Ok(None);
     }
     asked_value(names, count, most, form, word)
+        .map(Some)
+        .map_err(Some)
 }
 
 // The k-th value; one behind the last is left out.
@@ -323,17 +285,15 @@ fn next_word(line: &[u8], from: usize) -> Span
 
 // Of a form that ends: whether the line has a word from a place on.
 #[tactic(auto, using(crate::specs::FormsLaws::lasts))]
-fn after_last(line: &[u8], from: usize) -> Cause
+fn after_last(line: &[u8], from: usize) -> Option<Cause>
     requires { from ≤ length line.now }
     ensures { result ≡ last_of (next_word (drop from line.now)) }
 {
     let word = next_word(line, from);
-    let start = word.start;
-    let end = word.end;
-    if is_empty(&line[start..end]) {
-        return Cause::Goes;
+    if is_empty(&line[word.start..word.end]) {
+        return None;
     }
-    Cause::TooMany
+    Some(Cause::TooMany)
 }
 
 // How far a line goes by a form, and the value of each word of the form. A word of a form is what it asks for, or the
@@ -353,33 +313,26 @@ pub fn fit(
         ≡ fit_from names.now count most (names_of 32 form.now) line.now 0
         values.old }
 {
-    let mut at: usize = 0;
     let mut from: usize = 0;
     let mut place: usize = 0;
-    while at <= form.len() {
-        let form_end = end_of(form, at, SPACE);
+    for asked in form.split(|byte| *byte == SPACE) {
         let word = next_word(line, from);
-        let start = word.start;
-        let end = word.end;
-        let step = step_by(names, count, most, &form[at..form_end], &line[start..end]);
-        let k = place;
-        let left = line.len() - from;
-        at = form_end + 1;
-        place += 1;
+        let step = match step_by(names, count, most, asked, &line[word.start..word.end]) {
+            Ok(step) => step,
+            Err(cause) => {
+                let left = line.len() - from;
+                return Stop { cause, place, left };
+            }
+        };
         match step {
-            Step::Taken(value) => {
-                store(values, k, value);
-                from = end;
+            Some(value) => {
+                store(values, place, value);
+                from = word.end;
             }
-            Step::Rest => store(values, k, 1),
-            Step::Over(cause) => {
-                return Stop {
-                    cause,
-                    place: k,
-                    left,
-                };
-            }
+            None => store(values, place, 1),
         }
+        // The place behind the last word is told too, so it is counted here and not by `enumerate`.
+        place += 1;
     }
     Stop {
         cause: after_last(line, from),

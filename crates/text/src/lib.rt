@@ -18,7 +18,7 @@ pub use escaping::escape;
 pub use forms::{Cause, Stop, fit};
 pub use listing::{Span, nth, place_of, word_after};
 pub use printing::{print, print_page};
-pub use reading::{Decimal, end_of, number, same, start_of};
+pub use reading::{NumberError, end_of, number, same, start_of};
 pub use svg::{dashes, label, mark, rectangle};
 pub use times::milliseconds;
 pub use writing::fill;

@@ -3,7 +3,7 @@ ghost use Rattle.std.specs.Prelude.{◌≡◌, ◌+◌, ◌-◌, ◌≤◌, [], 
 ghost use Rattle.text.specs.Lists.{part, names_of, place_in};
 ghost use Rattle.text.specs.Reading.{before, run};
 
-use crate::reading::{end_of, same, start_of};
+use crate::reading::{end_of, start_of};
 
 // Where a piece of a text stands.
 #[derive(Clone, Copy)]
@@ -32,17 +32,10 @@ pub fn word_after(text: &[u8], from: usize, between: u8) -> Span
 pub fn place_of(list: &[u8], between: u8, word: &[u8]) -> usize
     ensures { result ≡ place_in word.now (names_of between list.now) }
 {
-    let mut at: usize = 0;
-    let mut count: usize = 0;
-    while at <= list.len() {
-        let end = end_of(list, at, between);
-        if same(&list[at..end], word) {
-            return count;
-        }
-        at = end + 1;
-        count += 1;
-    }
-    count
+    let others = list
+        .split(|byte| *byte == between)
+        .take_while(|name| *name != word);
+    others.count()
 }
 
 // Where the n-th name of a list stands, the first being 0; beyond the last, an empty piece at the end.
@@ -54,14 +47,12 @@ pub fn nth(list: &[u8], between: u8, n: usize) -> Span
 {
     let mut start: usize = 0;
     let mut end = end_of(list, 0, between);
-    let mut left = n;
-    while 0 < left {
+    for _ in 0..n {
         if list.len() <= end {
             return Span { start: end, end };
         }
         start = end + 1;
         end = end_of(list, start, between);
-        left -= 1;
     }
     Span { start, end }
 }

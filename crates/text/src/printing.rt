@@ -9,6 +9,7 @@ use crate::writing::fill;
 const STDOUT: i32 = 1;
 
 // The first n bytes of a page; nothing where it has fewer.
+#[tactic(auto, using(crate::specs::PrintingLaws::printings))]
 pub fn print_page(out: &[u8], n: usize) -> usize
     ensures { result ≡ handed (page out.now n) }
 {
@@ -22,7 +23,7 @@ pub fn print_page(out: &[u8], n: usize) -> usize
 // A template with its values and its word, of up to 512 bytes.
 pub fn print(template: &[u8], values: &[u64], word: &[u8]) -> usize
     ensures { result
-        ≡ handed (written blank (filled values.now word.now 0 template.now)) }
+        ≡ handed (written blank (filled values.now word.now None template.now)) }
 {
     let mut out = [0u8; 512];
     let n = fill(&mut out, 0, template, values, word);

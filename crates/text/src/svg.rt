@@ -9,7 +9,7 @@ use crate::writing::fill;
 pub fn rectangle(out: &mut [u8], at: usize, place: &[u64; 4], paint: &[u8]) -> usize
     ensures { page out.new result
         ≡ written (page out.old at)
-        (filled place.now paint.now 0 rectangle_text) }
+        (filled place.now paint.now None rectangle_text) }
 {
     fill(
         out,
@@ -24,7 +24,7 @@ pub fn rectangle(out: &mut [u8], at: usize, place: &[u64; 4], paint: &[u8]) -> u
 pub fn label(out: &mut [u8], at: usize, place: &[u64; 2], words: &[u8]) -> usize
     ensures { page out.new result
         ≡ written (page out.old at)
-        (filled place.now words.now 0 label_text) }
+        (filled place.now words.now None label_text) }
 {
     fill(out, at, b"<text x='%a' y='%b'>%@</text>\n", place, words)
 }
@@ -33,7 +33,7 @@ pub fn label(out: &mut [u8], at: usize, place: &[u64; 2], words: &[u8]) -> usize
 pub fn mark(out: &mut [u8], at: usize, place: &[u64; 2]) -> usize
     ensures { page out.new result
         ≡ written (page out.old at)
-        (filled place.now [] 0 mark_text) }
+        (filled place.now [] None mark_text) }
 {
     fill(out, at, b"<path d='M%a %b l-40 -70 h80 z'/>\n", place, b"")
 }
@@ -42,7 +42,7 @@ pub fn mark(out: &mut [u8], at: usize, place: &[u64; 2]) -> usize
 pub fn dashes(out: &mut [u8], at: usize, place: &[u64; 3]) -> usize
     ensures { page out.new result
         ≡ written (page out.old at)
-        (filled place.now [] 0 dashes_text) }
+        (filled place.now [] None dashes_text) }
 {
     fill(
         out,

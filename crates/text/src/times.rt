@@ -11,31 +11,28 @@ const TENTH: u64 = 100_000;
 
 const FRACTION_DIGITS: u64 = 6;
 
-const ZERO: u8 = 48;
-
-const POINT: u8 = 46;
+const POINT: u8 = b'.';
 
 // The first digit behind the point.
 fn tenths(rest: u64) -> u8
     ensures { result ≡ 48 + rest / 100000 % 10 }
 {
-    ZERO + (rest / TENTH % 10) as u8
+    b'0' + (rest / TENTH % 10) as u8
 }
 
 // The digits behind the point, until nothing is left.
+#[tactic(auto, using(crate::specs::TimesLaws::fractions))]
 fn put_fraction(out: &mut [u8], at: usize, fraction: u64) -> usize
     ensures { page out.new result ≡ written (page out.old at) (fraction_from 6 fraction) }
 {
     let mut end = at;
     let mut rest = fraction;
-    let mut left: u64 = FRACTION_DIGITS;
-    while 0 < left {
+    for _ in 0..FRACTION_DIGITS {
         if rest == 0 {
             return end;
         }
         end = put_byte(out, end, tenths(rest));
         rest = rest % TENTH * 10;
-        left -= 1;
     }
     end
 }

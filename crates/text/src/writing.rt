@@ -5,23 +5,9 @@ ghost use Rattle.io.specs.Counts.{IsPrefixLen};
 ghost use Rattle.text.specs.Writing.{page, stored, written, digits_of, separator, grouped, spaces, left_in};
 ghost use Rattle.text.specs.Writing.{right_in, item, piece, after, filled};
 
-use crate::counting::minus;
+const SPACE: u8 = b' ';
 
-const SPACE: u8 = 32;
-
-const PERCENT: u8 = 37;
-
-const AT: u8 = 64;
-
-const ZERO: u8 = 48;
-
-const NINE: u8 = 57;
-
-const SMALL_A: u8 = 97;
-
-const BIG_A: u8 = 65;
-
-const UNDERLINE: u8 = 95;
+const UNDERLINE: u8 = b'_';
 
 // As many digits stand together.
 const GROUP: usize = 3;
@@ -38,26 +24,24 @@ pub fn put_byte(out: &mut [u8], at: usize, byte: u8) -> usize
 }
 
 // Bytes, where the page has room; how many are then written.
+#[tactic(auto, using(crate::specs::WritingLaws::writings))]
 pub fn put(out: &mut [u8], at: usize, bytes: &[u8]) -> usize
     ensures { page out.new result ≡ written (page out.old at) bytes.now }
 {
     let mut end = at;
-    let mut i: usize = 0;
-    while i < bytes.len() {
-        end = put_byte(out, end, bytes[i]);
-        i += 1;
+    for byte in bytes {
+        end = put_byte(out, end, *byte);
     }
     end
 }
 
+#[tactic(auto, using(crate::specs::WritingLaws::spacings))]
 fn put_spaces(out: &mut [u8], at: usize, count: usize) -> usize
     ensures { page out.new result ≡ written (page out.old at) (spaces count) }
 {
     let mut end = at;
-    let mut left = count;
-    while 0 < left {
+    for _ in 0..count {
         end = put_byte(out, end, SPACE);
-        left -= 1;
     }
     end
 }
@@ -69,10 +53,11 @@ fn put_left(out: &mut [u8], at: usize, word: &[u8], width: usize) -> usize
         ≡ written (page out.old at) (left_in width word.now) }
 {
     let end = put(out, at, word);
-    put_spaces(out, end, minus(width, word.len()))
+    put_spaces(out, end, width.saturating_sub(word.len()))
 }
 
 // A number's digits, at the start; how many there are.
+#[tactic(auto, using(crate::specs::WritingLaws::own_digits))]
 fn spell(n: u64, digits: &mut [u8; 20]) -> usize
     ensures prefix_len { IsPrefixLen result digits.new }
     ensures digits_after { take result digits.new ≡ digits_of n }
@@ -88,7 +73,7 @@ pub fn put_right(out: &mut [u8], at: usize, n: u64, width: usize) -> usize
 {
     let mut digits = [0u8; 20];
     let k = spell(n, &mut digits);
-    let end = put_spaces(out, at, minus(width, k));
+    let end = put_spaces(out, at, width.saturating_sub(k));
     put(out, end, &digits[..k])
 }
 
@@ -107,15 +92,14 @@ fn put_separator(out: &mut [u8], at: usize, left: usize) -> usize
 }
 
 // Digits in groups.
+#[tactic(auto, using(crate::specs::WritingLaws::groupings))]
 fn put_grouped(out: &mut [u8], at: usize, digits: &[u8]) -> usize
     ensures { page out.new result ≡ written (page out.old at) (grouped digits.now) }
 {
     let mut end = at;
-    let mut i: usize = 0;
-    while i < digits.len() {
-        end = put_byte(out, end, digits[i]);
-        i += 1;
-        end = put_separator(out, end, digits.len() - i);
+    for (i, digit) in digits.iter().enumerate() {
+        end = put_byte(out, end, *digit);
+        end = put_separator(out, end, digits.len() - (i + 1));
     }
     end
 }
@@ -128,28 +112,16 @@ fn put_groups(out: &mut [u8], at: usize, n: u64, width: usize) -> usize
 {
     let mut digits = [0u8; 20];
     let k = spell(n, &mut digits);
-    let separators = minus(k, 1) / GROUP;
-    let end = put_spaces(out, at, minus(minus(width, k), separators));
+    let separators = k.saturating_sub(1) / GROUP;
+    let room = width.saturating_sub(k).saturating_sub(separators);
+    let end = put_spaces(out, at, room);
     put_grouped(out, end, &digits[..k])
-}
-
-// How far a byte is above another.
-fn above(byte: u8, other: u8) -> usize
-    ensures { result ≡ byte - other }
-{
-    if byte < other {
-        return 0;
-    }
-    (byte - other) as usize
 }
 
 fn value_at(values: &[u64], i: usize) -> u64
     ensures { result ≡ get_or values.now i 0 }
 {
-    if i < values.len() {
-        return values[i];
-    }
-    0
+    values.get(i).copied().unwrap_or(0)
 }
 
 #[tactic(auto, using(crate::specs::WritingLaws::choices), unfolding(crate::specs::Writing::item))]
@@ -157,13 +129,15 @@ fn put_item(out: &mut [u8], at: usize, values: &[u64], word: &[u8], width: usize
     ensures { page out.new result
         ≡ written (page out.old at) (item values.now word.now width byte) }
 {
-    if byte == AT {
+    if byte == b'@' {
         return put_left(out, at, word, width);
     }
-    if byte < SMALL_A {
-        return put_groups(out, at, value_at(values, above(byte, BIG_A)), width);
+    if byte < b'a' {
+        let n = value_at(values, usize::from(byte.saturating_sub(b'A')));
+        return put_groups(out, at, n, width);
     }
-    put_right(out, at, value_at(values, above(byte, SMALL_A)), width)
+    let n = value_at(values, usize::from(byte - b'a'));
+    put_right(out, at, n, width)
 }
 
 #[tactic(auto, using(crate::specs::WritingLaws::choices))]
@@ -171,7 +145,7 @@ fn put_plain(out: &mut [u8], at: usize, byte: u8) -> usize
     ensures { page out.new result
         ≡ written (page out.old at) (if_equal byte 37 [] (byte ∷ [])) }
 {
-    if byte == PERCENT {
+    if byte == b'%' {
         return at;
     }
     put_byte(out, at, byte)
@@ -183,56 +157,42 @@ fn put_piece(
     at: usize,
     values: &[u64],
     word: &[u8],
-    state: usize,
+    escape: Option<usize>,
     byte: u8,
 ) -> usize
     ensures { page out.new result
-        ≡ written (page out.old at) (piece values.now word.now state byte) }
+        ≡ written (page out.old at) (piece values.now word.now escape byte) }
 {
-    if state == 0 {
-        return put_plain(out, at, byte);
+    match (escape, byte) {
+        (None, _) => put_plain(out, at, byte),
+        (Some(_), b'0'..=b'9') => at,
+        (Some(width), _) => put_item(out, at, values, word, width, byte),
     }
-    if byte < ZERO {
-        return put_item(out, at, values, word, state - 1, byte);
-    }
-    if NINE < byte {
-        return put_item(out, at, values, word, state - 1, byte);
-    }
-    at
 }
 
 #[tactic(auto, using(refusal::specs::Cases::cases), unfolding(crate::specs::Writing::after))]
-fn next_state(state: usize, byte: u8) -> usize
-    ensures { result ≡ after state byte }
+fn next_escape(escape: Option<usize>, byte: u8) -> Option<usize>
+    ensures { result ≡ after escape byte }
 {
-    if state == 0 {
-        if byte == PERCENT {
-            return 1;
-        }
-        return 0;
+    match (escape, byte) {
+        (None, b'%') => Some(0),
+        (Some(width), b'0'..=b'9') => Some(width % 10 * 10 + usize::from(byte - b'0')),
+        _ => None,
     }
-    if byte < ZERO {
-        return 0;
-    }
-    if NINE < byte {
-        return 0;
-    }
-    (state - 1) % 10 * 10 + above(byte, ZERO) + 1
 }
 
 // A template with its values and its word; how many bytes are then written.
+#[tactic(auto, using(crate::specs::WritingLaws::fillings))]
 pub fn fill(out: &mut [u8], at: usize, template: &[u8], values: &[u64], word: &[u8]) -> usize
     ensures { page out.new result
         ≡ written (page out.old at)
-        (filled values.now word.now 0 template.now) }
+        (filled values.now word.now None template.now) }
 {
     let mut end = at;
-    let mut state: usize = 0;
-    let mut i: usize = 0;
-    while i < template.len() {
-        end = put_piece(out, end, values, word, state, template[i]);
-        state = next_state(state, template[i]);
-        i += 1;
+    let mut escape = None;
+    for byte in template {
+        end = put_piece(out, end, values, word, escape, *byte);
+        escape = next_escape(escape, *byte);
     }
     end
 }

@@ -1,12 +1,8 @@
 -- Links and memberships: empty ones, choosing by them, and which are the same. After task/thread.rs, task/wait.rs and
 -- scheduler/queue.rs.
-use Rattle.std.specs.Prelude.{ℕ, Bool, true, false}
+use Rattle.std.specs.Prelude.{ℕ, Bool, true, false, Option, Some, None}
 use Rattle.refusal.specs.Cases.{if_equal}
 use Rattle.thread.specs.declared.CpuIndex.{CpuIndex}
-use Rattle.thread.specs.declared.CpuOption.{CpuOption}
-use Rattle.thread.specs.declared.CpuOption.TheVariants as cpu
-use Rattle.thread.specs.declared.Link.{Link}
-use Rattle.thread.specs.declared.Link.TheVariants as link
 use Rattle.thread.specs.declared.Links.{Links}
 use Rattle.thread.specs.declared.QueueMembership.{QueueMembership}
 use Rattle.thread.specs.declared.QueueMembership.TheVariants as membership
@@ -15,20 +11,20 @@ use Rattle.thread.specs.declared.ThreadQueue.{ThreadQueue}
 
 -- `ReadyTreeLinks::EMPTY`: a tree of one.
 abbrev pub empty_links : Links
-empty_links = record { left = link.None; right = link.None; height = 1 }
+empty_links = record { left = None; right = None; height = 1 }
 
 -- `QueueLinks::EMPTY`: in no list.
 abbrev pub empty_queue_links : QueueLinks
-empty_queue_links = record { previous = link.None; next = link.None; membership = membership.None }
+empty_queue_links = record { previous = None; next = None; membership = membership.None }
 
 -- `ThreadQueue::new`.
 abbrev pub empty_queue : ThreadQueue
-empty_queue = record { head = link.None; tail = link.None; len = 0 }
+empty_queue = record { head = None; tail = None; len = 0 }
 
 -- None first.
-unfoldable pub on_link : {A : Type 0} → Link → A → (ℕ → A) → A
-on_link link.None a f = a
-on_link (link.Some n) a f = f n
+unfoldable pub on_link : {A : Type 0} → Option ℕ → A → (ℕ → A) → A
+on_link None a f = a
+on_link (Some n) a f = f n
 
 -- None, ReadyRealTime, ReadyFair, Waiting, Terminated.
 unfoldable pub on_membership : {A : Type 0} → QueueMembership → A → (CpuIndex → ℕ → A) → (CpuIndex → A) → (ℕ → A) → A
@@ -40,16 +36,16 @@ on_membership (membership.Waiting q) none real_time fair waiting terminated = wa
 on_membership membership.Terminated none real_time fair waiting terminated = terminated
 
 -- No processor first.
-unfoldable pub on_cpu : {A : Type 0} → CpuOption → A → (CpuIndex → A) → A
-on_cpu cpu.None a f = a
-on_cpu (cpu.Some c) a f = f c
+unfoldable pub on_cpu : {A : Type 0} → Option CpuIndex → A → (CpuIndex → A) → A
+on_cpu None a f = a
+on_cpu (Some c) a f = f c
 
 -- `link == None`.
-unfoldable pub is_none : Link → Bool
+unfoldable pub is_none : Option ℕ → Bool
 is_none l = on_link l true (λ n. false)
 
 -- `link == Some(id)`.
-unfoldable pub points_to : Link → ℕ → Bool
+unfoldable pub points_to : Option ℕ → ℕ → Bool
 points_to l id = on_link l false (λ n. if_equal n id true false)
 
 -- `membership == None`.
@@ -76,8 +72,8 @@ same_membership m other =
     (is_terminated other)
 
 -- The processor of a ready membership, or none.
-unfoldable pub ready_cpu : QueueMembership → CpuOption
-ready_cpu m = on_membership m cpu.None (λ c p. cpu.Some c) (λ c. cpu.Some c) (λ q. cpu.None) cpu.None
+unfoldable pub ready_cpu : QueueMembership → Option CpuIndex
+ready_cpu m = on_membership m None (λ c p. Some c) (λ c. Some c) (λ q. None) None
 
 -- `ready_cpu(membership) == Some(cpu)`.
 unfoldable pub is_ready_on : QueueMembership → CpuIndex → Bool

@@ -1,23 +1,19 @@
 -- Laws of links and memberships: going by which it is, and what a test that holds says.
-use Rattle.std.specs.Prelude.{ℕ, ◌≡◌, refl, Bool, true, false, eqb}
+use Rattle.std.specs.Prelude.{ℕ, ◌≡◌, refl, Bool, true, false, not, eqb, Option, Some, None, is_some}
 use Rattle.std.proofs.Common.{sym, ap, ◌∙◌, eq-eqb, eqb-true}
 use Rattle.refusal.specs.Cases.{never, choose, if_equal}
 use Rattle.thread.specs.declared.CpuIndex.{CpuIndex}
-use Rattle.thread.specs.declared.CpuOption.{CpuOption}
-use Rattle.thread.specs.declared.CpuOption.TheVariants as cpu
-use Rattle.thread.specs.declared.Link.{Link}
-use Rattle.thread.specs.declared.Link.TheVariants as link
 use Rattle.thread.specs.declared.QueueMembership.{QueueMembership}
 use Rattle.thread.specs.declared.QueueMembership.TheVariants as membership
 use Rattle.thread.specs.Membership.{on_link, on_membership, on_cpu, is_none, points_to, is_unqueued, is_ready_real_time}
 use Rattle.thread.specs.Membership.{is_ready_fair, is_waiting, is_terminated, same_membership}
 
-module _ {A : Type 0} {y : A} {x : Link} (a : A) (f : ℕ → A) where
-  pub no_link : x ≡ link.None → y ≡ a → y ≡ on_link x a f
+module _ {A : Type 0} {y : A} {x : Option ℕ} (a : A) (f : ℕ → A) where
+  pub no_link : x ≡ None → y ≡ a → y ≡ on_link x a f
   unfolding on_link
   no_link e h = rw e h
 
-  pub some_link : {n : ℕ} → x ≡ link.Some n → y ≡ f n → y ≡ on_link x a f
+  pub some_link : {n : ℕ} → x ≡ Some n → y ≡ f n → y ≡ on_link x a f
   unfolding on_link
   some_link e h = rw e h
 
@@ -44,17 +40,25 @@ module _ {A : Type 0} {y : A} {x : QueueMembership} (a : A) (f : CpuIndex → �
   unfolding on_membership
   in_terminated e h = rw e h
 
-module _ {A : Type 0} {y : A} {r x : CpuOption} (a : A) (f : CpuIndex → A) where
-  pub no_cpu : r ≡ x → r ≡ cpu.None → y ≡ a → y ≡ on_cpu x a f
+module _ {A : Type 0} {y : A} {r x : Option CpuIndex} (a : A) (f : CpuIndex → A) where
+  pub no_cpu : r ≡ x → r ≡ None → y ≡ a → y ≡ on_cpu x a f
   unfolding on_cpu
   no_cpu e m h = rw (sym e ∙ m) h
 
-  pub some_cpu : {c : CpuIndex} → r ≡ x → r ≡ cpu.Some c → y ≡ f c → y ≡ on_cpu x a f
+  pub some_cpu : {c : CpuIndex} → r ≡ x → r ≡ Some c → y ≡ f c → y ≡ on_cpu x a f
   unfolding on_cpu
   some_cpu e m h = rw (sym e ∙ m) h
 
 pub ruleset memberships =
     (no_link, some_link, in_none_lem, in_real_time, in_fair, in_waiting, in_terminated, no_cpu, some_cpu)
+
+-- `Option::is_none` of a link, as std says it.
+pub none_told : (x : Option ℕ) (r : Bool) → is_some x ≡ not r → r ≡ is_none x
+unfolding is_none on_link
+none_told None true e = refl
+none_told None false e = never cc
+none_told (Some n) true e = never cc
+none_told (Some n) false e = refl
 
 -- A test of two numbers that gives true says that they are equal.
 equal_true : (n m : ℕ) (a : Bool) → if_equal n m a false ≡ true → (n ≡ m) × (a ≡ true)
@@ -69,17 +73,17 @@ equal_self : {A : Type 0} (n : ℕ) (a b : A) → if_equal n n a b ≡ a
 unfolding if_equal choose
 equal_self n a b = rw (eq-eqb n n refl)
 
-pub is_none_true : (l : Link) → is_none l ≡ true → l ≡ link.None
+pub is_none_true : (l : Option ℕ) → is_none l ≡ true → l ≡ None
 unfolding is_none on_link
-is_none_true link.None h = refl
-is_none_true (link.Some n) h = never cc
+is_none_true None h = refl
+is_none_true (Some n) h = never cc
 
-pub points_to_true : (l : Link) (id : ℕ) → points_to l id ≡ true → l ≡ link.Some id
+pub points_to_true : (l : Option ℕ) (id : ℕ) → points_to l id ≡ true → l ≡ Some id
 unfolding points_to on_link
-points_to_true link.None id h = never cc
-points_to_true (link.Some n) id h = ap link.Some (equal_true n id true h).0
+points_to_true None id h = never cc
+points_to_true (Some n) id h = ap Some (equal_true n id true h).0
 
-pub points_to_self : (id : ℕ) → points_to (link.Some id) id ≡ true
+pub points_to_self : (id : ℕ) → points_to (Some id) id ≡ true
 unfolding points_to on_link
 points_to_self id = equal_self id true false
 

@@ -1,9 +1,8 @@
 -- A record with one of its parts changed and every other as it was.
-use Rattle.std.specs.Prelude.{ℕ}
+use Rattle.std.specs.Prelude.{ℕ, Option}
 use Rattle.policy.specs.declared.SchedulingParameters.{SchedulingParameters}
 use Rattle.algorithms.specs.declared.PolicyRuntime.{PolicyRuntime}
 use Rattle.thread.specs.declared.CpuIndex.{CpuIndex}
-use Rattle.thread.specs.declared.Link.{Link}
 use Rattle.thread.specs.declared.Links.{Links}
 use Rattle.thread.specs.declared.QueueLinks.{QueueLinks}
 use Rattle.thread.specs.declared.ThreadRecord.{ThreadRecord}
@@ -53,10 +52,10 @@ with_links l r =
     }
 
 -- One of the tree links, or the height of the tree links.
-abbrev pub with_left : Link → ThreadRecord → ThreadRecord
+abbrev pub with_left : Option ℕ → ThreadRecord → ThreadRecord
 with_left l r = with_links (record { left = l; right = r.ready_tree.right; height = r.ready_tree.height }) r
 
-abbrev pub with_right : Link → ThreadRecord → ThreadRecord
+abbrev pub with_right : Option ℕ → ThreadRecord → ThreadRecord
 with_right l r = with_links (record { left = r.ready_tree.left; right = l; height = r.ready_tree.height }) r
 
 abbrev pub with_height : ℕ → ThreadRecord → ThreadRecord

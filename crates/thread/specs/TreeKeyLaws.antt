@@ -1,8 +1,8 @@
 -- Laws of tree keys: the comparison part by part, and that equal keys have equal parts.
 use Rattle.std.specs.Prelude.{ℕ, ◌<◌, ◌≤◌, ◌≡◌, refl}
 use Rattle.std.proofs.Common.{arith}
-use Rattle.order.specs.declared.Ordering.{Ordering}
-use Rattle.order.specs.declared.Ordering.TheVariants.{Less, Equal, Greater}
+use Rattle.std.specs.declared.cmp.Ordering.{Ordering}
+use Rattle.std.specs.declared.cmp.Ordering.TheVariants.{Less, Equal, Greater}
 use Rattle.order.specs.Order.{compare_numbers, then_by, compare_parts}
 use Rattle.order.specs.StrictOrder.{compare_less, compare_greater, compare_equal}
 use Rattle.thread.specs.declared.TreeKey.{TreeKey}

@@ -3,11 +3,11 @@
 #![tactic(auto)]
 
 ghost use Rattle.std.specs.Prelude.{◌≡◌};
+ghost use Rattle.refusal.specs.Answer.{by_number};
 ghost use Rattle.window_config.specs.Config.{ranks_rise, same_backend, sound_config, new_config, preferring};
 ghost use Rattle.window_config.specs.Config.{accepts_budget, admitted};
-ghost use Rattle.window_config.specs.Made.{config_made};
 
-use policy::{BudgetOption, BudgetParameters, FairBackend, SchedulingParameters, SchedulingPolicy};
+use policy::{BudgetParameters, FairBackend, SchedulingParameters, SchedulingPolicy};
 use refusal::Refusal;
 
 // The ranks of the algorithms within one urgency.
@@ -37,20 +37,14 @@ pub struct ArbitrationConfig {
     pub prefer_fair: bool,
 }
 
-#[derive(Clone, Copy)]
-pub enum ConfigMade {
-    Made(ArbitrationConfig),
-    Refused(Refusal),
-}
-
 impl ArbitrationConfig {
     pub fn new(
         period_ns: u64,
         priority_allowance_ns: u64,
         protected_floor_ns: u64,
         order: ArbitrationOrder,
-    ) -> ConfigMade
-        ensures { config_made result ≡ new_config period_ns priority_allowance_ns protected_floor_ns order }
+    ) -> Result<ArbitrationConfig, Refusal>
+        ensures { by_number result ≡ new_config period_ns priority_allowance_ns protected_floor_ns order }
     {
         let config = Self {
             period_ns,
@@ -60,9 +54,9 @@ impl ArbitrationConfig {
             prefer_fair: false,
         };
         if config.is_sound() {
-            ConfigMade::Made(config)
+            Ok(config)
         } else {
-            ConfigMade::Refused(Refusal::BadConfig)
+            Err(Refusal::BadConfig)
         }
     }
 
@@ -108,8 +102,8 @@ impl ArbitrationConfig {
     {
         let budget = parameters.budget;
         match budget {
-            BudgetOption::None => true,
-            BudgetOption::Some(b) => b.period_ns == self.period_ns,
+            None => true,
+            Some(b) => b.period_ns == self.period_ns,
         }
     }
 

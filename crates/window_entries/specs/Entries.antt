@@ -2,8 +2,8 @@
 -- stand for, and the window. A refusal leaves the answer's words standing for what they stood for.
 use Rattle.std.specs.Prelude.{ℕ}
 use Rattle.refusal.specs.Answer.{Answer, value, refused}
-use Rattle.order.specs.declared.Ordering.{Ordering}
-use Rattle.order.specs.declared.Ordering.TheVariants as ordering
+use Rattle.std.specs.declared.cmp.Ordering.{Ordering}
+use Rattle.std.specs.declared.cmp.Ordering.TheVariants as ordering
 use Rattle.window_config.specs.declared.ArbitrationConfig.{ArbitrationConfig}
 use Rattle.arbitration.specs.declared.CpuWindow.{CpuWindow}
 use Rattle.window_config.specs.Config.{new_config}

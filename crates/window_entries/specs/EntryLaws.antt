@@ -1,30 +1,20 @@
 -- The laws by which the entries meet their contracts. An accepted call keeps its window's configuration and a refused
 -- one keeps the whole window, so that storing the epoch and what remains of an accepted one stores all.
-use Rattle.std.specs.Prelude.{ℕ, ◌/◌, ◌≡◌, Bool, true, false, List}
+use Rattle.std.specs.Prelude.{ℕ, ◌/◌, ◌≡◌, Bool, true, false, List, Option, None, Result, Ok, Err}
 use Rattle.std.proofs.Math.Path.{refl, sym}
 use Rattle.std.proofs.Common.{◌∙◌, subst}
 use Rattle.refusal.specs.declared.Refusal.{Refusal}
-use Rattle.refusal.specs.Answer.{Answer, value, refused, number_of, bad_config}
+use Rattle.refusal.specs.Answer.{Answer, value, refused, number_of, bad_config, by_number}
 use Rattle.refusal.specs.Cases.{choose, given}
-use Rattle.time.specs.declared.Deadline.{Deadline}
-use Rattle.time.specs.declared.Deadline.TheVariants as deadlines
 use Rattle.time.specs.Time.{rises, period_end}
-use Rattle.order.specs.declared.Ordering.{Ordering}
+use Rattle.std.specs.declared.cmp.Ordering.{Ordering}
 use Rattle.policy.specs.declared.FairBackend.{FairBackend}
 use Rattle.policy.specs.declared.SchedulingParameters.{SchedulingParameters}
-use Rattle.budget.specs.declared.DeadlineAnswer.{DeadlineAnswer}
-use Rattle.budget.specs.declared.DeadlineAnswer.TheVariants as deadline
-use Rattle.budget.specs.Answers.{deadline_answer}
 use Rattle.window_config.specs.declared.ArbitrationConfig.{ArbitrationConfig}
 use Rattle.window_config.specs.declared.ArbitrationOrder.{ArbitrationOrder}
-use Rattle.window_config.specs.declared.ConfigMade.{ConfigMade}
-use Rattle.window_config.specs.declared.ConfigMade.TheVariants as config
 use Rattle.arbitration.specs.declared.CpuWindow.{CpuWindow}
 use Rattle.arbitration.specs.declared.Demand.{Demand}
 use Rattle.arbitration.specs.declared.DispatchMode.{DispatchMode}
-use Rattle.arbitration.specs.declared.WindowMade.{WindowMade}
-use Rattle.arbitration.specs.declared.WindowMade.TheVariants as window
-use Rattle.arbitration.specs.Answers.{config_made, window_made}
 use Rattle.window_config.specs.Config.{sound_config, preferring, accepts_budget, admitted}
 use Rattle.arbitration.specs.Window.{new_window, refreshed, protection_deadline, next_deadline}
 use Rattle.arbitration.specs.Key.{compare_keys}
@@ -76,7 +66,7 @@ unfolding next_deadline_call given
 next_keeps now m competition d w =
     judged_keeps w _
     (choose_keeps w competition (with (value (next_deadline (refreshed w now) now m d)) (refreshed w now))
-    (with (value deadlines.None) (refreshed w now)) (refreshed_keeps w now) (refreshed_keeps w now))
+    (with (value None) (refreshed w now)) (refreshed_keeps w now) (refreshed_keeps w now))
 
 same_window : (w v : CpuWindow) → v.config ≡ w.config
     → progressed w v.epoch v.priority_remaining_ns v.protected_remaining_ns ≡ v
@@ -101,7 +91,7 @@ kept before w call keeps {a} {v} made k =
     let same : Keeps (window_of w) (with a v) = subst (λ x. Keeps (window_of w) x) (sym made) (keeps (window_of w)) in
     k ∙ stored_whole before (window_of w) a v same ∙ (λ i. left_of before (made i))
 
-module _ (before : Deadline) (w : List ℕ) {b v : CpuWindow} {a : Answer Deadline} {y : Left Deadline} where
+module _ (before : Option ℕ) (w : List ℕ) {b v : CpuWindow} {a : Answer (Option ℕ)} {y : Left (Option ℕ)} where
   pub period_left : (now : ℕ) → b ≡ window_of w → with a v ≡ period_deadline_call b now
       → y ≡ stored_over before (window_of w) a v → y ≡ left_of before (period_deadline_call (window_of w) now)
   period_left now e h k =
@@ -125,40 +115,40 @@ module _ (before : Deadline) (w : List ℕ) {b v : CpuWindow} {a : Answer Deadli
       (next_keeps now (mode_from tag) competition (demand_of flags)) made k
 
 -- An accepted step's window and answer were stored, a refusal's number is told.
-module _ (before : Deadline) (w v : CpuWindow) {u : CpuWindow} {x : DeadlineAnswer} where
-  pub deadline_stored : {d after : Deadline} → x ≡ deadline.Deadline d → after ≡ d
+module _ (before : Option ℕ) (w v : CpuWindow) {u : CpuWindow} {x : Result (Option ℕ) Refusal} where
+  pub deadline_stored : {d after : Option ℕ} → x ≡ Ok d → after ≡ d
       → u ≡ progressed w v.epoch v.priority_remaining_ns v.protected_remaining_ns
-      → left 0 after u ≡ stored_over before w (deadline_answer x) v
+      → left 0 after u ≡ stored_over before w (by_number x) v
   unfolding stored_over
   deadline_stored e f h = rw (e, f, h) refl
 
 module _ (w v : CpuWindow) {r : Refusal} (n : ℕ) where
-  pub deadline_refused : (before : Deadline) {x : DeadlineAnswer} → x ≡ deadline.Refused r → n ≡ number_of r
-      → left n before w ≡ stored_over before w (deadline_answer x) v
+  pub deadline_refused : (before : Option ℕ) {x : Result (Option ℕ) Refusal} → x ≡ Err r → n ≡ number_of r
+      → left n before w ≡ stored_over before w (by_number x) v
   unfolding stored_over
   deadline_refused before e f = rw (e, f) refl
 
 -- The configuration, or the window, that was made was stored.
-module _ (w : List ℕ) (g : ArbitrationConfig) {x : ConfigMade} where
-  pub config_made_lem : {c : ArbitrationConfig} {v : CpuWindow} → g ≡ config_of w → config_made x ≡ new_config_of g
-      → x ≡ config.Made c → v ≡ configured (window_of w) c
+module _ (w : List ℕ) (g : ArbitrationConfig) {x : Result ArbitrationConfig Refusal} where
+  pub config_made_lem : {c : ArbitrationConfig} {v : CpuWindow} → g ≡ config_of w → by_number x ≡ new_config_of g
+      → x ≡ Ok c → v ≡ configured (window_of w) c
       → left 0 tt v ≡ config_left (window_of w) (new_config_of (config_of w))
   unfolding config_left
   config_made_lem e h m f = rw (sym e, sym h, m, f) refl
 
-  pub config_refused : {r : Refusal} (n : ℕ) → g ≡ config_of w → config_made x ≡ new_config_of g → x ≡ config.Refused r
+  pub config_refused : {r : Refusal} (n : ℕ) → g ≡ config_of w → by_number x ≡ new_config_of g → x ≡ Err r
       → n ≡ number_of r
       → left n tt (window_of w) ≡ config_left (window_of w) (new_config_of (config_of w))
   unfolding config_left
   config_refused n e h m f = rw (sym e, sym h, m, f) refl
 
-module _ (w : List ℕ) (g : ArbitrationConfig) {x : WindowMade} where
-  pub window_made_lem : {u v : CpuWindow} → g ≡ config_of w → window_made x ≡ new_window g → x ≡ window.Made u → v ≡ u
+module _ (w : List ℕ) (g : ArbitrationConfig) {x : Result CpuWindow Refusal} where
+  pub window_made_lem : {u v : CpuWindow} → g ≡ config_of w → by_number x ≡ new_window g → x ≡ Ok u → v ≡ u
       → left 0 tt v ≡ window_left (window_of w) (new_window (config_of w))
   unfolding window_left
   window_made_lem e h m f = rw (sym e, sym h, m, f) refl
 
-  pub window_refused : {r : Refusal} (n : ℕ) → g ≡ config_of w → window_made x ≡ new_window g → x ≡ window.Refused r
+  pub window_refused : {r : Refusal} (n : ℕ) → g ≡ config_of w → by_number x ≡ new_window g → x ≡ Err r
       → n ≡ number_of r
       → left n tt (window_of w) ≡ window_left (window_of w) (new_window (config_of w))
   unfolding window_left

@@ -1,12 +1,10 @@
 -- Laws of a window's refresh and charge by its words, and of what the two calls leave.
-use Rattle.std.specs.Prelude.{ℕ, ◌-◌, ◌/◌, ◌<◌, ◌≤◌, ◌≡◌, Bool, not, List, eqb}
+use Rattle.std.specs.Prelude.{ℕ, ◌-◌, ◌/◌, ◌<◌, ◌≤◌, ◌≡◌, Bool, not, List, eqb, Option, Some}
 use Rattle.std.proofs.Math.Path.{refl}
 use Rattle.std.proofs.Common.{sym, ap, ◌∙◌}
 use Rattle.std.proofs.Math.Bool.{true, false}
 use borrow.Author.Tests.{lt-ltb, le-ltb, eq-eqb, ne_eqb, not-true, not-false}
 use Rattle.refusal.specs.Cases.{choose, given, if_less, if_equal}
-use Rattle.time.specs.declared.Epoch.{Epoch}
-use Rattle.time.specs.declared.Epoch.TheVariants as epochs
 use Rattle.time.specs.Time.{rises, charge_of}
 use Rattle.policy.specs.declared.SchedulingRole.TheVariants as role
 use Rattle.policy.specs.PolicyCases.{on_role}
@@ -18,7 +16,6 @@ use Rattle.window_config.specs.Config.{sound_config}
 use Rattle.arbitration.specs.Window.{refreshed, charged, on_mode, uses_allowance, is_priority, is_protected}
 use Rattle.arbitration.specs.declared.Candidate.{Candidate}
 use Rattle.arbitration.specs.declared.Demand.{Demand}
-use Rattle.arbitration.specs.declared.KeyOption.{KeyOption}
 use Rattle.window_config.specs.declared.ArbitrationConfig.{ArbitrationConfig}
 use Rattle.arbitration.specs.ArbitrationLaws.{refreshed_config}
 use Rattle.arbitration.specs.Key.{key_of}
@@ -27,6 +24,7 @@ use Rattle.window_words.specs.WindowWords.{window_period, window_allowance, wind
 use Rattle.window_words.specs.WindowWords.{epoch_tag, epoch_word, allowance_left, floor_left}
 use Rattle.window_words.specs.WindowWords.{mode_from, config_of, window_of, progressed, candidate_of, demand_of}
 use Rattle.window_entries.specs.Entries.{left, left_of}
+use Rattle.dispatch_keys.specs.declared.DispatchKey.{DispatchKey}
 
 -- A window's words refreshed: within its epoch, or into a later one.
 module _ (w : List ℕ) (now : ℕ) {n : ℕ} {later : Bool} where
@@ -41,7 +39,7 @@ module _ (w : List ℕ) (now : ℕ) {n : ℕ} {later : Bool} where
 
   pub words_later : {v : CpuWindow} → n ≡ now / word w window_period
       → later ≡ rises (epoch_from (word w epoch_tag) (word w epoch_word)) n → not later ≡ false
-      → v ≡ progressed (window_of w) (epochs.Some n) (word w window_allowance) (word w window_floor)
+      → v ≡ progressed (window_of w) (Some n) (word w window_allowance) (word w window_floor)
       → v ≡ refreshed (window_of w) now
   unfolding choose refreshed given window_of config_of
   words_later d r t k =
@@ -107,7 +105,8 @@ module _ (r : ℕ) where
   unfolding is_protected on_role role_from if_equal choose
   protected_tag_lem h k = rw (ne_eqb r 0 h, ne_eqb r 1 k) refl
 
-pub words_charged : (w fresh row : List ℕ) (start end tag : ℕ) {a b : Bool} {charge allowance floor p q : ℕ} {x : Epoch}
+pub words_charged : (w fresh row : List ℕ) (start end tag : ℕ) {a b : Bool} {charge allowance floor p q : ℕ} {x :
+    Option ℕ}
     {v : CpuWindow}
     → window_of fresh ≡ refreshed (window_of w) end
     → charge ≡ charge_of start end (word fresh window_period)
@@ -165,12 +164,13 @@ refreshed_whole w now =
     })
     (sym (refreshed_config w now))
 
-module _ (before : KeyOption) (w : CpuWindow) (now : ℕ) (c : Candidate) (d : Demand) where
+module _ (before : Option (DispatchKey × DispatchMode)) (w : CpuWindow) (now : ℕ) (c : Candidate) (d : Demand) where
   no_key_made : sound_config w.config ≡ false → left 5 before w ≡ left_of before (key_call w now c d)
   unfolding left_of key_call judged choose
   no_key_made h = rw h
 
-  key_made : {k : KeyOption} {u : CpuWindow} → sound_config w.config ≡ true → k ≡ key_of (refreshed w now) now c d
+  key_made : {k : Option (DispatchKey × DispatchMode)} {u : CpuWindow} → sound_config w.config ≡ true
+      → k ≡ key_of (refreshed w now) now c d
       → u ≡ refreshed w now → left 0 k u ≡ left_of before (key_call w now c d)
   unfolding left_of key_call judged choose given
   key_made h e f = rw (h, e, f)
@@ -179,7 +179,7 @@ config_word : (w : List ℕ) → (window_of w).config ≡ config_of w
 unfolding window_of
 config_word w = refl
 
-module _ (before : KeyOption) (w row flags : List ℕ) (now : ℕ) {sound : Bool} where
+module _ (before : Option (DispatchKey × DispatchMode)) (w row flags : List ℕ) (now : ℕ) {sound : Bool} where
   pub key_refused : sound ≡ sound_config (config_of w) → not sound ≡ true
       → left 5 before (window_of w) ≡ left_of before (key_call (window_of w) now (candidate_of row) (demand_of flags))
   key_refused h n =
@@ -187,7 +187,7 @@ module _ (before : KeyOption) (w row flags : List ℕ) (now : ℕ) {sound : Bool
       (ap sound_config (config_word w) ∙ sym h ∙ not-true sound n)
 
   -- What the goal does not show becomes known premise by premise, so that a search by this law alone comes to its end.
-  pub key_done : {b fresh u : CpuWindow} {c : Candidate} {d : Demand} {k x : KeyOption}
+  pub key_done : {b fresh u : CpuWindow} {c : Candidate} {d : Demand} {k x : Option (DispatchKey × DispatchMode)}
       → x ≡ k
       → k ≡ key_of fresh now c d
       → c ≡ candidate_of row

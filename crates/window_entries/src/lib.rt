@@ -4,13 +4,12 @@
 #![tactic(auto)]
 
 ghost use Rattle.std.specs.Prelude.{◌≡◌, ◌≢◌};
+ghost use Rattle.refusal.specs.Answer.{by_number};
 ghost use Rattle.refusal.specs.Cases.{choose};
 ghost use Rattle.time.specs.Time.{rises};
 ghost use Rattle.policy_words.specs.PolicyWords.{word, parameters_of, role_from, backend_from, epoch_from, deadline_of};
-ghost use Rattle.budget.specs.Answers.{deadline_answer};
 ghost use Rattle.window_config.specs.Config.{sound_config, preferring, accepts_budget, admitted};
 ghost use Rattle.arbitration.specs.Key.{compare_keys};
-ghost use Rattle.arbitration.specs.Answers.{config_made, window_made};
 ghost use Rattle.arbitration.specs.Window.{new_window, refreshed, uses_allowance, is_protected, charged};
 ghost use Rattle.arbitration.specs.Calls.{refresh_call, account_call, period_deadline_call, protection_call, key_call};
 ghost use Rattle.arbitration.specs.Calls.{next_deadline_call};
@@ -19,16 +18,15 @@ ghost use Rattle.window_words.specs.WindowWords.{demand_of, candidate_of, dispat
 ghost use Rattle.window_entries.specs.Entries.{left, left_of, stored_over, new_config_of, config_left, window_left};
 ghost use Rattle.window_entries.specs.Entries.{ordering_number};
 
-use arbitration::{CpuWindow, WindowDeadline, WindowMade};
-use budget::DeadlineAnswer;
+use arbitration::{CpuWindow, WindowDeadline};
 use dispatch_keys::compare_keys;
-use order::Ordering;
 use policy::BudgetParameters;
 use policy_words::{
     DeadlineWords, ROLE_TAG, Row, backend_from, epoch_from, parameters_of, words_of_deadline,
 };
-use time::{Epoch, charge_of, epoch_of, epoch_rises, saturating_sub};
-use window_config::{ArbitrationConfig, ConfigMade};
+use std::cmp::Ordering;
+use time::{charge_of, epoch_of, epoch_rises};
+use window_config::ArbitrationConfig;
 use window_words::{
     ALLOWANCE_LEFT, BORROW_RANK, BUDGET_RANK, DemandWords, EPOCH, EPOCH_TAG, FAIR_RANK, FLOOR_LEFT,
     KeyWords, PRIORITY_RANK, WINDOW_ALLOWANCE, WINDOW_FLOOR, WINDOW_PERIOD, WindowWords,
@@ -53,11 +51,11 @@ pub extern "C" fn config_new(window: &mut WindowWords) -> u64
         order,
     );
     match made {
-        ConfigMade::Made(config) => {
+        Ok(config) => {
             *window = with_config(words, config);
             0
         }
-        ConfigMade::Refused(refusal) => refusal.number(),
+        Err(refusal) => refusal.number(),
     }
 }
 
@@ -101,11 +99,11 @@ pub extern "C" fn window_new(window: &mut WindowWords) -> u64
     let words = *window;
     let made = CpuWindow::new(config_of(words));
     match made {
-        WindowMade::Made(fresh) => {
+        Ok(fresh) => {
             *window = with_window(words, fresh);
             0
         }
-        WindowMade::Refused(refusal) => refusal.number(),
+        Err(refusal) => refusal.number(),
     }
 }
 
@@ -171,7 +169,7 @@ pub extern "C" fn window_refresh(window: &mut WindowWords, now_ns: u64) -> u64
     }
     *window = with_progress(
         words,
-        Epoch::Some(epoch),
+        Some(epoch),
         words[WINDOW_ALLOWANCE],
         words[WINDOW_FLOOR],
     );
@@ -186,7 +184,7 @@ fn refreshed_words(w: WindowWords, now_ns: u64) -> WindowWords
     if !is_later(w, epoch) {
         return w;
     }
-    with_progress(w, Epoch::Some(epoch), w[WINDOW_ALLOWANCE], w[WINDOW_FLOOR])
+    with_progress(w, Some(epoch), w[WINDOW_ALLOWANCE], w[WINDOW_FLOOR])
 }
 
 // Whether the allowance carries an interval, by the tags of its mode and of the thread's role.
@@ -236,8 +234,8 @@ fn charged_words(w: WindowWords, start: u64, end: u64, row: Row, mode: u64) -> W
     with_progress(
         fresh,
         epoch,
-        saturating_sub(fresh[ALLOWANCE_LEFT], allowance),
-        saturating_sub(fresh[FLOOR_LEFT], floor),
+        fresh[ALLOWANCE_LEFT].saturating_sub(allowance),
+        fresh[FLOOR_LEFT].saturating_sub(floor),
     )
 }
 
@@ -269,7 +267,7 @@ pub extern "C" fn window_account_dispatch(
 // The window and the deadline of an accepted step stored.
 fn store_deadline(window: &mut WindowWords, answer: &mut DeadlineWords, step: WindowDeadline) -> u64
     ensures window_after { left result (deadline_of answer.new) (window_of window.new)
-        ≡ stored_over (deadline_of answer.old) (window_of window.old) (deadline_answer step.answer)
+        ≡ stored_over (deadline_of answer.old) (window_of window.old) (by_number step.answer)
         step.window }
     ensures window_unchanged { result ≢ 0 → window.new ≡ window.old }
     ensures answer_unchanged { result ≢ 0 → answer.new ≡ answer.old }
@@ -277,12 +275,12 @@ fn store_deadline(window: &mut WindowWords, answer: &mut DeadlineWords, step: Wi
     let given = step.answer;
     let after = step.window;
     match given {
-        DeadlineAnswer::Deadline(deadline) => {
+        Ok(deadline) => {
             store_progress(window, after);
             *answer = words_of_deadline(deadline);
             0
         }
-        DeadlineAnswer::Refused(refusal) => refusal.number(),
+        Err(refusal) => refusal.number(),
     }
 }
 

@@ -1,8 +1,7 @@
 -- What the words of a CPU window, and of what its calls are handed and answer, stand for. A flag is set where its word
 -- is not 0, a byte is its word's remainder by 256, a tag beyond the last variant's is the last variant's.
-use Rattle.std.specs.Prelude.{ℕ, ◌%◌, Bool, true, false, List}
+use Rattle.std.specs.Prelude.{ℕ, ◌%◌, Bool, true, false, List, Option, Some, None}
 use Rattle.refusal.specs.Cases.{if_equal}
-use Rattle.time.specs.declared.Epoch.{Epoch}
 use Rattle.window_config.specs.declared.ArbitrationOrder.{ArbitrationOrder}
 use Rattle.window_config.specs.declared.ArbitrationConfig.{ArbitrationConfig}
 use Rattle.arbitration.specs.declared.CpuWindow.{CpuWindow}
@@ -11,8 +10,6 @@ use Rattle.arbitration.specs.declared.Candidate.{Candidate}
 use Rattle.dispatch_keys.specs.declared.DispatchKey.{DispatchKey}
 use Rattle.arbitration.specs.declared.DispatchMode.{DispatchMode}
 use Rattle.arbitration.specs.declared.DispatchMode.TheVariants as mode
-use Rattle.arbitration.specs.declared.KeyOption.{KeyOption}
-use Rattle.arbitration.specs.declared.KeyOption.TheVariants as key
 use Rattle.policy_words.specs.PolicyWords.{word, epoch_from, parameters_of}
 
 -- Where a window's words stand, and how many they are.
@@ -166,7 +163,7 @@ configured w c =
     }
 
 -- The window with this epoch, and this much left of allowance and floor: all that time changes.
-abbrev pub progressed : CpuWindow → Epoch → ℕ → ℕ → CpuWindow
+abbrev pub progressed : CpuWindow → Option ℕ → ℕ → ℕ → CpuWindow
 progressed w e allowance floor =
     record { config = w.config; epoch = e; priority_remaining_ns = allowance; protected_remaining_ns = floor }
 
@@ -205,5 +202,5 @@ dispatch_key_of w =
     }
 
 -- A key of nine words: 0 none, else the key with its mode.
-unfoldable pub key_option_of : List ℕ → KeyOption
-key_option_of w = if_equal (word w key_tag) 0 key.None (key.Some (dispatch_key_of w) (mode_from (word w key_mode)))
+unfoldable pub key_option_of : List ℕ → Option (DispatchKey × DispatchMode)
+key_option_of w = if_equal (word w key_tag) 0 None (Some ((dispatch_key_of w), (mode_from (word w key_mode))))

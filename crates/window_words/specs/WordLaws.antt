@@ -1,9 +1,8 @@
 -- Laws of a window's words and of its calls': what was stored is what they stand for.
-use Rattle.std.specs.Prelude.{ℕ, ◌%◌, ◌≡◌, refl, Bool, true, false, List, [], ◌∷◌, length, set}
+use Rattle.std.specs.Prelude.{ℕ, ◌%◌, ◌≡◌, refl, Bool, true, false, List, [], ◌∷◌, length, set, Option, Some, None}
 use Rattle.std.proofs.Math.Path.{sym}
 use Rattle.std.proofs.Common.{◌∙◌}
 use Rattle.refusal.specs.Cases.{choose, if_equal}
-use Rattle.time.specs.declared.Epoch.{Epoch}
 use Rattle.policy.specs.declared.SchedulingParameters.{SchedulingParameters}
 use Rattle.window_config.specs.declared.ArbitrationConfig.{ArbitrationConfig}
 use Rattle.window_config.specs.declared.ArbitrationOrder.{ArbitrationOrder}
@@ -11,8 +10,6 @@ use Rattle.arbitration.specs.declared.CpuWindow.{CpuWindow}
 use Rattle.dispatch_keys.specs.declared.DispatchKey.{DispatchKey}
 use Rattle.arbitration.specs.declared.DispatchMode.{DispatchMode}
 use Rattle.arbitration.specs.declared.DispatchMode.TheVariants as mode
-use Rattle.arbitration.specs.declared.KeyOption.{KeyOption}
-use Rattle.arbitration.specs.declared.KeyOption.TheVariants as key
 use Rattle.policy_words.specs.PolicyWords.{word, epoch_from, parameters_of}
 use Rattle.policy_words.specs.ByWords.{by_words}
 use Rattle.window_words.specs.WindowWords.{window_word_count, window_period, window_allowance, window_floor}
@@ -57,12 +54,12 @@ module _ {m : DispatchMode} where
   unfolding mode_from if_equal choose
   borrow_word h = sym h
 
-module _ {k : KeyOption} where
-  pub no_key_words : k ≡ key.None → key_option_of (0 ∷ 0 ∷ 0 ∷ 0 ∷ 0 ∷ 0 ∷ 0 ∷ 0 ∷ 0 ∷ []) ≡ k
+module _ {k : Option (DispatchKey × DispatchMode)} where
+  pub no_key_words : k ≡ None → key_option_of (0 ∷ 0 ∷ 0 ∷ 0 ∷ 0 ∷ 0 ∷ 0 ∷ 0 ∷ 0 ∷ []) ≡ k
   unfolding key_option_of if_equal choose
   no_key_words h = sym h
 
-  pub key_words : {x : DispatchKey} {m : DispatchMode} (w : List ℕ) → k ≡ key.Some x m → key_option_of w ≡ key.Some x m
+  pub key_words : {x : DispatchKey} {m : DispatchMode} (w : List ℕ) → k ≡ Some (x, m) → key_option_of w ≡ Some (x, m)
       → key_option_of w ≡ k
   key_words w h e = e ∙ sym h
 
@@ -104,7 +101,7 @@ module _ (w : List ℕ) where
   unfolding config_of
   config_read e f = rw (e, f)
 
-  pub window_read : {config : ArbitrationConfig} {epoch : Epoch}
+  pub window_read : {config : ArbitrationConfig} {epoch : Option ℕ}
       → config ≡ config_of w
       → epoch ≡ epoch_from (word w epoch_tag) (word w epoch_word)
       → record {
@@ -201,7 +198,7 @@ config_stored r c priority budget fair borrow prefer size e₁ e₂ e₃ e₄ e�
     (λ x0 x1 x2 x3 x4 x5 x6 x7 x8 x9 x10 x11. rw (e₁, e₂, e₃, e₄, e₅))
     r size
 
-pub progress_stored : (r : List ℕ) (e : Epoch) (a : List ℕ) (allowance floor : ℕ)
+pub progress_stored : (r : List ℕ) (e : Option ℕ) (a : List ℕ) (allowance floor : ℕ)
     → length r ≡ window_word_count
     → epoch_from (word a 0) (word a 1) ≡ e
     → window_of (with_progress r a allowance floor) ≡ progressed (window_of r) e allowance floor
@@ -226,6 +223,6 @@ pub key_stored : (k : DispatchKey) (m : DispatchMode) (mode urgency rank algorit
     → algorithm % 256 ≡ k.algorithm_rank
     → band % 256 ≡ k.band
     → key_option_of (1 ∷ mode ∷ urgency ∷ rank ∷ algorithm ∷ k.algorithm.high ∷ k.algorithm.low ∷ band ∷ k.turn ∷ [])
-    ≡ key.Some k m
+    ≡ Some (k, m)
 unfolding key_option_of dispatch_key_of if_equal choose
 key_stored k m mode urgency rank algorithm band e₁ e₂ e₃ e₄ e₅ = rw (e₁, e₂, e₃, e₄, e₅)

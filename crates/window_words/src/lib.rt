@@ -2,16 +2,15 @@
 // every row stands for some value.
 #![tactic(auto)]
 
-ghost use Rattle.std.specs.Prelude.{◌≡◌};
+ghost use Rattle.std.specs.Prelude.{◌≡◌, Some};
 ghost use Rattle.window_words.specs.WindowWords.{flag_from, mode_from, order_of, config_of, window_of};
 ghost use Rattle.window_words.specs.WindowWords.{configured, progressed, demand_of, candidate_of};
 ghost use Rattle.window_words.specs.WindowWords.{dispatch_key_of, key_option_of};
 
 use algorithms::Wide;
-use arbitration::{Candidate, CpuWindow, Demand, DispatchMode, KeyOption};
+use arbitration::{Candidate, CpuWindow, Demand, DispatchMode};
 use dispatch_keys::DispatchKey;
 use policy_words::{Row, byte_from, epoch_from, parameters_of, word_of_byte, words_of_epoch};
-use time::Epoch;
 use window_config::{ArbitrationConfig, ArbitrationOrder};
 
 // A CPU window: its configuration, its epoch, and what remains of allowance and floor.
@@ -197,7 +196,7 @@ pub fn with_config(w: WindowWords, config: ArbitrationConfig) -> WindowWords
 // What time changes in a window: its epoch, and what remains of allowance and floor.
 pub fn with_progress(
     w: WindowWords,
-    epoch: Epoch,
+    epoch: Option<u64>,
     priority_remaining_ns: u64,
     protected_remaining_ns: u64,
 ) -> WindowWords
@@ -307,7 +306,7 @@ fn word_of_mode(mode: DispatchMode) -> u64
 }
 
 fn words_of_key(key: DispatchKey, mode: DispatchMode) -> KeyWords
-    ensures { key_option_of result ≡ KeyOption.Some key mode }
+    ensures { key_option_of result ≡ Some (key, mode) }
 {
     let algorithm = key.algorithm;
     let its_mode = word_of_mode(mode);
@@ -329,14 +328,15 @@ fn words_of_key(key: DispatchKey, mode: DispatchMode) -> KeyWords
 }
 
 // A key stored, in a branch of its own for either kind, so that the compiler does not gather nine words first.
-pub fn store_key(answer: &mut KeyWords, key: KeyOption)
+#[tactic(auto, using(crate::specs::WordLaws::word_laws))]
+pub fn store_key(answer: &mut KeyWords, key: Option<(DispatchKey, DispatchMode)>)
     ensures { key_option_of answer.new ≡ key }
 {
     match key {
-        KeyOption::None => {
+        None => {
             *answer = [0, 0, 0, 0, 0, 0, 0, 0, 0];
         }
-        KeyOption::Some(its, mode) => {
+        Some((its, mode)) => {
             *answer = words_of_key(its, mode);
         }
     }

@@ -1,9 +1,6 @@
 -- The ● cases of document 01 about budgets and windows.
-use Rattle.std.specs.Prelude.{ℕ, true, false, List, [], ◌∷◌}
+use Rattle.std.specs.Prelude.{ℕ, true, false, List, [], ◌∷◌, Option, Some, None}
 use Rattle.refusal.specs.Answer.{Answer, value, refused}
-use Rattle.time.specs.declared.Epoch.TheVariants as epoch
-use Rattle.time.specs.declared.Deadline.{Deadline}
-use Rattle.time.specs.declared.Deadline.TheVariants as deadline
 use Rattle.policy.specs.declared.BudgetParameters.{BudgetParameters}
 use Rattle.policy.specs.declared.SchedulingRole.{SchedulingRole}
 use Rattle.policy.specs.declared.SchedulingRole.TheVariants as role
@@ -16,13 +13,13 @@ use Rattle.arbitration.specs.declared.CpuWindow.{CpuWindow}
 use Rattle.arbitration.specs.declared.Demand.{Demand}
 use Rattle.arbitration.specs.declared.Candidate.{Candidate}
 use Rattle.arbitration.specs.declared.DispatchMode.TheVariants as mode
-use Rattle.arbitration.specs.declared.KeyOption.{KeyOption}
-use Rattle.arbitration.specs.declared.KeyOption.TheVariants as key
 use Rattle.window_config.specs.Config.{new_config}
 use Rattle.arbitration.specs.Window.{refreshed, protection_deadline, due_at}
 use Rattle.arbitration.specs.Key.{key_of}
 use Rattle.arbitration.specs.Calls as call
 use Rattle.worked_cases.specs.Rows.{Row, row, bit, numbered}
+use Rattle.dispatch_keys.specs.declared.DispatchKey.{DispatchKey}
+use Rattle.arbitration.specs.declared.DispatchMode.{DispatchMode}
 
 abbrev remaining : Answer BudgetRuntime → List ℕ
 remaining (value r) = 0 ∷ r.remaining_ns ∷ []
@@ -32,20 +29,20 @@ abbrev floor_left : {A : Type 0} → call.With A → List ℕ
 floor_left (call.with a w) = numbered a ∷ w.protected_remaining_ns ∷ []
 
 -- 1 and the time, or 0 where there is none.
-abbrev timed : Deadline → List ℕ
-timed deadline.None = 0 ∷ []
-timed (deadline.Some t) = 1 ∷ t ∷ []
+abbrev timed : Option ℕ → List ℕ
+timed None = 0 ∷ []
+timed (Some t) = 1 ∷ t ∷ []
 
-abbrev has_key : KeyOption → ℕ
-has_key key.None = 0
-has_key (key.Some k m) = 1
+abbrev has_key : Option (DispatchKey × DispatchMode) → ℕ
+has_key None = 0
+has_key (Some (k, m)) = 1
 
 -- ---- The values that the cases speak of.
 abbrev share : BudgetParameters
 share = record { budget_ns = 2000000; period_ns = 10000000; burst_ns = 2000000 }
 
 abbrev spent : BudgetRuntime
-spent = record { epoch = epoch.Some 0; remaining_ns = 0; burst_remaining_ns = 2000000 }
+spent = record { epoch = Some 0; remaining_ns = 0; burst_remaining_ns = 2000000 }
 
 abbrev rising : ArbitrationOrder
 rising = record { priority_rank = 0; budget_rank = 1; fair_rank = 2; borrow_rank = 3 }
@@ -68,7 +65,7 @@ abbrev fresh : CpuWindow
 fresh =
     record {
       config = settings;
-      epoch = epoch.None;
+      epoch = None;
       priority_remaining_ns = 2000000;
       protected_remaining_ns = 3000000;
     }

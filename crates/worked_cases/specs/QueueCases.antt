@@ -1,6 +1,5 @@
 -- The queue's calls on the small table of crate queue: what each answers, and what they leave, as numbers.
-use Rattle.std.specs.Prelude.{ℕ, true, false, List, [], ◌∷◌, ◌++◌, get_or}
-use Rattle.thread.specs.declared.Link.TheVariants as link
+use Rattle.std.specs.Prelude.{ℕ, true, false, List, [], ◌∷◌, ◌++◌, get_or, Some}
 use Rattle.thread.specs.Membership.{empty_queue}
 use Rattle.thread.specs.Records.{with_runtime}
 use Rattle.rows.specs.Table.{changed}
@@ -43,7 +42,7 @@ ran_out = left_by (remove_at 2 ∷ []) five.queue (changed five.table 2 (with_ru
 -- A tree's root outside of the table.
 abbrev broken : Left
 broken = left_by (enqueue_at false 0 ∷ enqueue_at false 12 ∷ remove_at 1 ∷ [])
-    (stored new_queue 0 (record { list = empty_queue; realtime_len = 0; root = link.Some 12; budget_threads = 0 })
+    (stored new_queue 0 (record { list = empty_queue; realtime_len = 0; root = Some 12; budget_threads = 0 })
     new_queue.realtime empty_queue) nine
 
 -- ---- The rows.

@@ -1,13 +1,9 @@
 -- Document 01's sentences about state/runtime.rs on numbers: turns and preparing, accounting, the switch rule, the end
 -- of a turn, deadlines. What the source decides is what the running Rust answers (host/kernel/tests/decisions.rs).
-use Rattle.std.specs.Prelude.{ℕ, Bool, true, false, List, [], ◌∷◌, ◌++◌}
+use Rattle.std.specs.Prelude.{ℕ, Bool, true, false, List, [], ◌∷◌, ◌++◌, Option, Some, None}
 use Rattle.refusal.specs.Answer.{Answer, value, refused}
-use Rattle.time.specs.declared.Epoch.TheVariants as epoch
-use Rattle.time.specs.declared.Deadline.{Deadline}
-use Rattle.time.specs.declared.Deadline.TheVariants as deadline
 use Rattle.policy.specs.declared.FairBackend.{FairBackend}
 use Rattle.policy.specs.declared.FairBackend.TheVariants as backend
-use Rattle.policy.specs.declared.BudgetOption.TheVariants as option
 use Rattle.policy.specs.declared.SchedulingParameters.{SchedulingParameters}
 use Rattle.policy.specs.declared.SchedulingPolicy.TheVariants as policy
 use Rattle.policy.specs.declared.SchedulingRole.{SchedulingRole}
@@ -18,15 +14,11 @@ use Rattle.algorithms.specs.declared.PolicyRuntime.TheVariants as runtime
 use Rattle.arbitration.specs.declared.CpuWindow.{CpuWindow}
 use Rattle.dispatch_keys.specs.declared.DispatchKey.{DispatchKey}
 use Rattle.arbitration.specs.declared.DispatchMode.TheVariants as mode
-use Rattle.arbitration.specs.declared.KeyOption.TheVariants as key
 use Rattle.arbitration.specs.Calls.{With, with}
 use Rattle.thread.specs.declared.ThreadRecord.{ThreadRecord}
 use Rattle.rows.specs.Table.{Out, out, record_of}
 use Rattle.selection.specs.Samples.{window, thread}
 use Rattle.decisions.specs.declared.Contention.{Contention}
-use Rattle.decisions.specs.declared.ModeOption.{ModeOption}
-use Rattle.decisions.specs.declared.ModeOption.TheVariants as modes
-use Rattle.decisions.specs.declared.ReadyKey.TheVariants as ready
 use Rattle.decisions.specs.declared.Taken.{Taken}
 use Rattle.decisions.specs.declared.Turns.{Turns}
 use Rattle.decisions.specs.Turns.{new_turns, turn_for}
@@ -36,6 +28,7 @@ use Rattle.runtime.specs.Account.{account_current, finish_turn}
 use Rattle.runtime.specs.Deadline.{refresh_deadline}
 use Rattle.worked_cases.specs.Rows.{Row, row, bit, numbered}
 use Rattle.worked_cases.specs.Seen.{none, some, runtimes_seen}
+use Rattle.arbitration.specs.declared.DispatchMode.{DispatchMode}
 
 -- ---- What is looked at.
 -- The turn and the counters afterwards.
@@ -55,9 +48,9 @@ accounted_seen (out (with a w) t) =
 abbrev finished_seen : {A : Type 0} → Out (Answer A) → List ℕ
 finished_seen (out a t) = numbered a ∷ runtimes_seen (0 ∷ []) t
 
-abbrev due_seen : Out (With Deadline) → List ℕ
-due_seen (out (with (value deadline.None) w) t) = none
-due_seen (out (with (value (deadline.Some n)) w) t) = some n
+abbrev due_seen : Out (With (Option ℕ)) → List ℕ
+due_seen (out (with (value None) w) t) = none
+due_seen (out (with (value (Some n)) w) t) = some n
 due_seen (out (with (refused n) w) t) = n ∷ []
 
 -- ---- The values that the cases speak of.
@@ -75,7 +68,7 @@ fair b = record {
   weight = default_weight;
   quantum_ns = 5000000;
   fair_backend = b;
-  budget = option.None;
+  budget = None;
 }
 
 -- A budget of 2,000,000 in 10,000,000 with a burst of 1,000,000.
@@ -86,7 +79,7 @@ share r =
 -- In this epoch with so much left of budget and burst.
 abbrev left : ℕ → ℕ → ℕ → PolicyRuntime
 left e remaining burst =
-    runtime.Budget (record { epoch = epoch.Some e; remaining_ns = remaining; burst_remaining_ns = burst })
+    runtime.Budget (record { epoch = Some e; remaining_ns = remaining; burst_remaining_ns = burst })
 
 -- A table of one record with turn 5.
 abbrev one : SchedulingParameters → PolicyRuntime → List ThreadRecord
@@ -100,7 +93,7 @@ idle = record {
   weight = default_weight;
   quantum_ns = 0;
   fair_backend = backend.Stride;
-  budget = option.None;
+  budget = None;
 }
 
 -- In epoch 1 with 1,500,000 left of the allowance.
@@ -108,7 +101,7 @@ abbrev begun : CpuWindow
 begun =
     record {
       config = window.config;
-      epoch = epoch.Some 1;
+      epoch = Some 1;
       priority_remaining_ns = 1500000;
       protected_remaining_ns = 3000000;
     }
@@ -128,7 +121,7 @@ ranked rank n turn =
 -- Whether a thread with the key of rank 2, algorithm 10, turn 5 gives way to this key, by expiry and yielding.
 abbrev gives_way : SchedulingParameters → DispatchKey → Bool → Bool → ℕ
 gives_way p a expired yielding =
-    bit (should_switch_of (ready.Some a) (key.Some (ranked 2 10 5) mode.Ordinary) p expired yielding false)
+    bit (should_switch_of (Some a) (Some ((ranked 2 10 5), mode.Ordinary)) p expired yielding false)
 
 -- Somebody competes, with or without a budget peer, and nobody is ready.
 abbrev contention : Bool → Contention
@@ -147,7 +140,7 @@ contention peer = record {
 }
 
 -- The deadline of a budget thread in this epoch with so much left, and 300 of its burst.
-abbrev due_for : ℕ → ModeOption → ℕ → ℕ → Bool → List ℕ
+abbrev due_for : ℕ → Option DispatchMode → ℕ → ℕ → Bool → List ℕ
 due_for now m e remaining peer =
     due_seen (refresh_deadline (one (share role.Ordinary) (left e remaining 300)) 0 now m window (contention peer))
 
@@ -217,9 +210,9 @@ switch_rows =
     ∷ gives_way fifo (ranked 2 9 5) false false ∷ gives_way (share role.Ordinary) (ranked 2 99 99) true false ∷ [])
     (1 ∷ 0 ∷ 1 ∷ 1 ∷ [])
     -- No ready thread, no switch; no key of its own, a switch.
-    ∷ row (bit (should_switch_of ready.None (key.Some (ranked 2 10 5) mode.Ordinary)
+    ∷ row (bit (should_switch_of None (Some ((ranked 2 10 5), mode.Ordinary))
     (fair backend.Stride) true true true)
-    ∷ bit (should_switch_of (ready.Some (ranked 3 1 1)) key.None (fair backend.Stride) false false false) ∷ [])
+    ∷ bit (should_switch_of (Some (ranked 3 1 1)) None (fair backend.Stride) false false false) ∷ [])
     (0 ∷ 1 ∷ [])
     ∷ []
 
@@ -227,14 +220,14 @@ abbrev deadline_rows : List Row
 deadline_rows =
     -- Without a budget peer a budget thread runs until its time is spent or its period ends; with one, at most its
     -- burst.
-    row (due_for 1000 (modes.Some mode.Ordinary) 0 500 false ++ due_for 1000 (modes.Some mode.Ordinary) 0 500 true
-    ++ due_for 9999900 (modes.Some mode.Ordinary) 0 500 false) (some 1500 ++ some 1300 ++ some 10000000)
+    row (due_for 1000 (Some mode.Ordinary) 0 500 false ++ due_for 1000 (Some mode.Ordinary) 0 500 true
+    ++ due_for 9999900 (Some mode.Ordinary) 0 500 false) (some 1500 ++ some 1300 ++ some 10000000)
     -- Near 2^64 the period's end does not fit: without a budget peer it saturates and the expiry stands; with one there
     -- is no deadline.
-    ∷ row (due_for 18446744073709551605 (modes.Some mode.Ordinary) 1844674407370 5 false ++ due_for 18446744073709551605
-    (modes.Some mode.Ordinary) 1844674407370 5 true) (some 18446744073709551610 ++ none)
+    ∷ row (due_for 18446744073709551605 (Some mode.Ordinary) 1844674407370 5 false ++ due_for 18446744073709551605
+    (Some mode.Ordinary) 1844674407370 5 true) (some 18446744073709551610 ++ none)
     -- Without a key it is now, where anybody competes.
-    ∷ row (due_for 77 modes.None 0 0 false) (some 77)
+    ∷ row (due_for 77 None 0 0 false) (some 77)
     ∷ []
 
 abbrev pub runtime_rows : List Row

@@ -1,13 +1,9 @@
 -- What is seen of a queue, a window and records, as numbers. Where there may be none it is 0, else 1 and the number.
-use Rattle.std.specs.Prelude.{ℕ, List, [], ◌∷◌, ◌++◌}
-use Rattle.time.specs.declared.Epoch.{Epoch}
-use Rattle.time.specs.declared.Epoch.TheVariants as epoch
+use Rattle.std.specs.Prelude.{ℕ, List, [], ◌∷◌, ◌++◌, Option, Some, None}
 use Rattle.budget.specs.declared.BudgetRuntime.{BudgetRuntime}
 use Rattle.algorithms.specs.declared.PolicyRuntime.{PolicyRuntime}
 use Rattle.algorithms.specs.declared.PolicyRuntime.TheVariants as runtime
 use Rattle.arbitration.specs.declared.CpuWindow.{CpuWindow}
-use Rattle.thread.specs.declared.Link.{Link}
-use Rattle.thread.specs.declared.Link.TheVariants as link
 use Rattle.thread.specs.declared.Links.{Links}
 use Rattle.thread.specs.declared.QueueLinks.{QueueLinks}
 use Rattle.thread.specs.declared.QueueMembership.{QueueMembership}
@@ -25,13 +21,13 @@ none = 0 ∷ []
 abbrev pub some : ℕ → List ℕ
 some n = 1 ∷ n ∷ []
 
-abbrev pub link_seen : Link → List ℕ
-link_seen link.None = none
-link_seen (link.Some n) = some n
+abbrev pub link_seen : Option ℕ → List ℕ
+link_seen None = none
+link_seen (Some n) = some n
 
-abbrev pub epoch_seen : Epoch → List ℕ
-epoch_seen epoch.None = none
-epoch_seen (epoch.Some n) = some n
+abbrev pub epoch_seen : Option ℕ → List ℕ
+epoch_seen None = none
+epoch_seen (Some n) = some n
 
 -- Left, right and height.
 abbrev pub links_seen : Links → List ℕ

@@ -1,6 +1,7 @@
 -- The ● cases of document 01, others of the queue, of selection and of the runtime, and those of the lift record, each
 -- subject's rows in one table, and one proof over it by computation.
 use Rattle.std.specs.Prelude.{◌≡◌, refl, true, List, ◌++◌}
+use Rattle.refusal.specs.Answer.{or_damaged}
 use Rattle.refusal.specs.Cases.{choose, if_less, if_equal, given, and_then}
 use Rattle.order.specs.Order.{compare_numbers, then_by, compare_parts, on_ordering}
 use Rattle.time.specs.Time.{rises, period_start, charge_of, checked_add, period_end, on_deadline, earliest_of}
@@ -52,7 +53,6 @@ use Rattle.renewal.specs.Leaves.{on_leaves}
 use Rattle.demands.specs.Demands.{candidate_of, demand_of, either, joined, add_demand, compare_passes, lesser_pass}
 use Rattle.demands.specs.Demands.{on_pass}
 use Rattle.demands.specs.Demands.{lowest_pass, gathered, on_candidate, of_current}
-use Rattle.ready_index.specs.Answers.{least_answer, rooted_answer}
 use Rattle.renewal.specs.Renewal.{head_of, refresh_record, refresh_runtime, move_one, move_all, with_trees}
 use Rattle.renewal.specs.Renewal.{renew_roles, is_epoch, is_halt, renew}
 use Rattle.selection.specs.Heads.{head_at, gather_heads, on_ready, on_key_option, comes_before, lesser_ready}
@@ -94,7 +94,7 @@ unfolding choose if_less if_equal given compare_numbers then_by compare_parts on
     commit_remove append prepend push push_front update_previous_link update_next_link unlink list.remove on_height
     on_turned on_rooted on_way on_sought height larger update rotate_left rotate_right balance_left balance_right
     balance way_at look_for contains on_walk walk hung rebuild_step rebuild insert sought_at on_search search
-    on_successor successor replace index.remove asked_table asked answering rooted_answer tree.insert_call
+    on_successor successor replace index.remove asked_table asked answering or_damaged tree.insert_call
     tree.remove_call counted_in counted_out total_in total_out push_at insert_work remove_work list_of parts_of
     with_parts worked is_fifo is_budget membership_for judged enqueue_call partner on_contained tree_with remove_ready
     remove_from remove_call made and_after then left_by rises period_start checked_add period_end on_deadline
@@ -102,7 +102,7 @@ unfolding choose if_less if_equal given compare_numbers then_by compare_parts on
     is_ready_on sound_config ranks_rise accepts_budget windows.refreshed is_priority is_protected protection_deadline
     due_at exhausted_of shut_out strict_fifo hurried favoured algorithm_of on_algorithm ordinary_rank tier_of key_of
     compare_keys on_leaves candidate_of demand_of either joined add_demand compare_passes lesser_pass on_pass
-    lowest_pass gathered on_candidate of_current least_answer head_of refresh_record refresh_runtime move_one move_all
+    lowest_pass gathered on_candidate of_current head_of refresh_record refresh_runtime move_one move_all
     with_trees renew_roles is_epoch is_halt renew head_at gather_heads on_ready on_key_option comes_before lesser_ready
     ready_with least_of chosen peek_running peek_parts selection_parts with_selection_parts restored peek_next charge_of
     new_config on_mode uses_allowance charged call.judged call.account_call and_then set_turn accounted turn_finished

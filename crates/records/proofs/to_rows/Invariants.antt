@@ -1,10 +1,7 @@
--- The rows below i stand for the records below i; the measure is the number of records left.
-use Rattle.std.proofs.Common.{◌-◌, ◌≤◌, ◌≡◌, take}
+-- The rows below i stand for the records below i.
+use Rattle.std.proofs.Common.{◌≡◌, take}
 use Rattle.rows.specs.Table.{table}
 use Rattle.records.proofs.to_rows.Given as goal
 
 abbrev pub invariant-loop-i : goal.invariant-loop-i
-invariant-loop-i l = (l.i ≤ l.n) × (table (take l.i l.rows) ≡ take l.i l.t)
-
-abbrev pub decreases-loop-i : goal.decreases-loop-i
-decreases-loop-i l = l.n - l.i
+invariant-loop-i l = table (take l.i l.rows) ≡ take l.i l.t

@@ -20,8 +20,8 @@ loop-left-preserved c = (
   search roots_framing depth 8,
 )
 
-pub returns-in-Refused-clause-t_after : goal.returns-in-Refused-clause-t_after
-returns-in-Refused-clause-t_after c = arrived _ (search roles depth 8)
+pub returns-in-Err-clause-t_after : goal.returns-in-Err-clause-t_after
+returns-in-Err-clause-t_after c = arrived _ (search roles depth 8)
 
 pub returns-clause-t_after : goal.returns-clause-t_after
 returns-clause-t_after c = arrived _ (search roles depth 8)

@@ -1,15 +1,13 @@
--- The answers that the check does not find by itself.
-use Prim.Native.Nat.{◌-◌}
-use native.Mathlib.Omega.{arith}
-use Rattle.run_queue.specs.ValueLaws.{copying, over_none, lists_size}
-use borrow.Author.Rules.{rules}
+-- Each list is made of its row.
+use Rattle.std.proofs.Common.{rules, refl, arith, [], get_or}
+use Rattle.lent_queue.specs.LentQueue.{priorities, list_from}
+use Rattle.run_queue.specs.ValueLaws.{made_at, lists_made}
 use Rattle.run_queue.proofs.priority_lists.copied_lists.Goals as goal
 
-pub loop-k-init : goal.loop-k-init
-loop-k-init c = (omega arith, search rules, search (lists_size, rules) depth 8, search over_none)
-
-pub loop-k-preserved : goal.loop-k-preserved
-loop-k-preserved c = (omega arith, search, search, search (copying, rules) depth 8)
-
 pub returns : goal.returns
-returns c = search (copying, rules) depth 8
+returns c =
+    let all = c.from_fn.ensures.items in
+    let rows = c.args.rows.now in
+    lists_made rows all.long c.requires
+    (λ k d h. made_at _ _ (λ i. list_from (get_or rows i [])) (λ i y q called. search rules) k _
+    c.from_fn.result 0 priorities k d (omega arith) h refl all.each)

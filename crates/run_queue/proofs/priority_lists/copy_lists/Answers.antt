@@ -1,15 +1,7 @@
--- The answers that the check does not find by itself.
-use Prim.Native.Nat.{◌-◌}
-use native.Mathlib.Omega.{arith}
-use Rattle.run_queue.specs.ValueLaws.{copying, over_none, lists_size}
-use borrow.Author.Rules.{rules}
+-- One more row is that of one more list.
+use Rattle.std.proofs.Common.{rules}
+use Rattle.run_queue.specs.ValueLaws.{copying}
 use Rattle.run_queue.proofs.priority_lists.copy_lists.Goals as goal
 
-pub loop-k-init : goal.loop-k-init
-loop-k-init c = (omega arith, search rules, search rules, search (lists_size, rules) depth 8, search over_none)
-
 pub loop-k-preserved : goal.loop-k-preserved
-loop-k-preserved c = (omega arith, search rules, search, search, search (copying, rules) depth 8)
-
-pub returns : goal.returns
-returns c = search (copying, rules) depth 8
+loop-k-preserved c = (search rules, search (copying, rules) depth 8)

@@ -1,5 +1,4 @@
--- The lists so far, laid over those that stood there; the number of those left falls.
-use Prim.Native.Nat.{◌≤◌, ◌-◌}
+-- The lists so far, laid over those that stood there.
 use mathlib.Core.Path.{◌≡◌}
 use lib.ListN.{length}
 use Rattle.lent_queue.specs.LentQueue.{priorities}
@@ -8,9 +7,5 @@ use Rattle.run_queue.specs.ValueLaws.{overlaid}
 use Rattle.run_queue.proofs.priority_lists.copy_lists.Given as goal
 
 abbrev pub invariant-loop-k : goal.invariant-loop-k
-invariant-loop-k l = (l.k ≤ priorities) × (length l.rows ≡ priorities) × (length l.lists ≡ priorities)
-    × (length (lists_of l.initial.rows) ≡ priorities)
-    × (lists_of l.rows ≡ overlaid l.k l.lists (lists_of l.initial.rows))
-
-abbrev pub decreases-loop-k : goal.decreases-loop-k
-decreases-loop-k l = priorities - l.k
+invariant-loop-k l =
+    (length l.rows ≡ priorities) × (lists_of l.rows ≡ overlaid l.k l.fn.lists (lists_of l.initial.rows))

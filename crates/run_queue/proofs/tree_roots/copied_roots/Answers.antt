@@ -1,15 +1,15 @@
--- The answers that the check does not find by itself.
-use Prim.Native.Nat.{◌-◌}
-use native.Mathlib.Omega.{arith}
-use Rattle.run_queue.specs.ValueLaws.{copying, over_none, roots_size}
-use borrow.Author.Rules.{rules}
+-- Each root is made of its row.
+use Rattle.std.proofs.Common.{rules, refl, arith}
+use Rattle.lent_queue.specs.LentQueue.{tree_count}
+use Rattle.renewal.specs.Renewal.{root_at}
+use Rattle.renewal.specs.RootRows.{roots_of}
+use Rattle.run_queue.specs.ValueLaws.{made_at, roots_made}
 use Rattle.run_queue.proofs.tree_roots.copied_roots.Goals as goal
 
-pub loop-k-init : goal.loop-k-init
-loop-k-init c = (omega arith, search rules, search (roots_size, rules) depth 8, search over_none)
-
-pub loop-k-preserved : goal.loop-k-preserved
-loop-k-preserved c = (omega arith, search, search, search (copying, rules) depth 8)
-
 pub returns : goal.returns
-returns c = search (copying, rules) depth 8
+returns c =
+    let all = c.from_fn.ensures.items in
+    let rows = c.args.rows.now in
+    roots_made rows all.long c.requires
+    (λ k d h. made_at _ _ (λ i. record { root = root_at (roots_of rows) i }) (λ i y q called. search rules) k _
+    c.from_fn.result 0 tree_count k d (omega arith) h refl all.each)

@@ -20,8 +20,8 @@ loop-left-preserved-in_default-head c =
 pub loop-left-preserved : goal.loop-left-preserved
 loop-left-preserved c = (search rules, search rules, search rules, search gatherings depth 8, search framing depth 8)
 
-pub returns-in-Refused-clause-t_after : goal.returns-in-Refused-clause-t_after
-returns-in-Refused-clause-t_after c = arrived _ (search (gatherings, beside) depth 8)
+pub returns-in-Err-clause-t_after : goal.returns-in-Err-clause-t_after
+returns-in-Err-clause-t_after c = arrived _ (search (gatherings, beside) depth 8)
 
 pub returns-clause-t_after : goal.returns-clause-t_after
 returns-clause-t_after c = arrived _ (search (gatherings, beside) depth 8)

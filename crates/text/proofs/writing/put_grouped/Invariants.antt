@@ -1,12 +1,8 @@
 -- The digits that are left, on the page as it is, give what all give on the first page.
-use Rattle.std.proofs.Common.{◌-◌, ◌≡◌, length, drop}
+use Rattle.std.proofs.Common.{◌≡◌, drop}
 use Rattle.text.specs.Writing.{page, written, grouped}
 use Rattle.text.proofs.writing.put_grouped.Given as goal
 
 abbrev pub invariant-loop-i : goal.invariant-loop-i
 invariant-loop-i l =
-    (length l.out ≡ length l.initial.out)
-    × (written (page l.out l.end) (grouped (drop l.i l.digits)) ≡ written (page l.initial.out l.at) (grouped l.digits))
-
-abbrev pub decreases-loop-i : goal.decreases-loop-i
-decreases-loop-i l = length l.digits - l.i
+    written (page l.out l.end) (grouped (drop l.i l.digits)) ≡ written (page l.initial.out l.at) (grouped l.digits)

@@ -1,6 +1,0 @@
--- The loop ends: the arguments that are left fall.
-use Rattle.std.proofs.Common.{◌-◌}
-use Rattle.cases.proofs.main.Given as goal
-
-abbrev pub decreases-loop-i : goal.decreases-loop-i
-decreases-loop-i l = l.count - l.i

@@ -1,5 +1,0 @@
--- The loop ends: what is left falls.
-use Rattle.scenario.proofs.lines.last_end.Given as goal
-
-abbrev pub decreases-loop-left : goal.decreases-loop-left
-decreases-loop-left l = l.left

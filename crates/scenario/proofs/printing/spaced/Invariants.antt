@@ -1,9 +1,0 @@
--- The loop ends: the bytes that are left fall.
-use Rattle.std.proofs.Common.{length, ◌≡◌, ◌-◌}
-use Rattle.scenario.proofs.printing.spaced.Given as goal
-
-abbrev pub invariant-loop-i : goal.invariant-loop-i
-invariant-loop-i l = length l.name ≡ length l.initial.name
-
-abbrev pub decreases-loop-i : goal.decreases-loop-i
-decreases-loop-i l = length l.initial.name - l.i
