@@ -14,6 +14,8 @@ use Rattle.algorithms.specs.declared.FairRuntime.{FairRuntime}
 use Rattle.algorithms.specs.declared.PolicyRuntime.{PolicyRuntime}
 use Rattle.algorithms.specs.declared.PolicyRuntime.TheVariants as runtime
 use Rattle.algorithms.specs.declared.RuntimeKey.{RuntimeKey}
+use Rattle.algorithms.specs.declared.Kind.{Kind}
+use Rattle.algorithms.specs.declared.Kind.TheVariants as kind
 
 -- FIFO, Fair, Budget, Idle.
 unfoldable pub on_runtime : {A : Type 0} → PolicyRuntime → A → (FairRuntime → A) → (BudgetRuntime → A) → A → A
@@ -56,6 +58,12 @@ policy_kind (policy.Fifo p) = 0
 policy_kind policy.Fair = 1
 policy_kind policy.Budget = 2
 policy_kind policy.Idle = 3
+
+abbrev pub kind_number : Kind → ℕ
+kind_number kind.Fifo = 0
+kind_number kind.Fair = 1
+kind_number kind.Budget = 2
+kind_number kind.Idle = 3
 
 -- Whether the runtime is of the policy's kind.
 unfoldable pub same_kind : PolicyRuntime → SchedulingPolicy → Bool

@@ -5,7 +5,7 @@ ghost use Rattle.std.specs.Prelude.{◌≡◌};
 ghost use Rattle.refusal.specs.Answer.{by_number};
 ghost use Rattle.algorithms.specs.Runtime.{of_budget, of_budget_deadline, made, accounted, epoch_refreshed};
 ghost use Rattle.algorithms.specs.Runtime.{candidate_key, next_deadline, turn_finished, runtime_kind, policy_kind};
-ghost use Rattle.algorithms.specs.Runtime.{same_kind, unless_back};
+ghost use Rattle.algorithms.specs.Runtime.{kind_number, same_kind, unless_back};
 
 use budget::BudgetRuntime;
 use policy::{FairBackend, SchedulingParameters, SchedulingPolicy};
@@ -200,18 +200,42 @@ fn unless_back(runtime: PolicyRuntime, start: u64, end: u64) -> Result<PolicyRun
     Ok(runtime)
 }
 
+// What a runtime and a policy have in common, by which the two are compared: two tests on a number each and no table
+// of places to go on from.
+#[derive(Clone, Copy, PartialEq, Eq)]
+enum Kind {
+    Fifo,
+    Fair,
+    Budget,
+    Idle,
+}
+
+fn kind_of_runtime(runtime: PolicyRuntime) -> Kind
+    ensures { kind_number result ≡ runtime_kind runtime }
+{
+    match runtime {
+        PolicyRuntime::Fifo => Kind::Fifo,
+        PolicyRuntime::Fair(_) => Kind::Fair,
+        PolicyRuntime::Budget(_) => Kind::Budget,
+        PolicyRuntime::Idle => Kind::Idle,
+    }
+}
+
+fn kind_of_policy(policy: SchedulingPolicy) -> Kind
+    ensures { kind_number result ≡ policy_kind policy }
+{
+    match policy {
+        SchedulingPolicy::Fifo { .. } => Kind::Fifo,
+        SchedulingPolicy::Fair => Kind::Fair,
+        SchedulingPolicy::Budget => Kind::Budget,
+        SchedulingPolicy::Idle => Kind::Idle,
+    }
+}
+
 // Whether the runtime is of the policy's kind.
-#[tactic(auto,
-// The definitions that are opened.
-unfolding(crate::specs::Runtime::same_kind, crate::specs::Runtime::runtime_kind, crate::specs::Runtime::policy_kind))]
+#[tactic(auto, unfolding(crate::specs::Runtime::same_kind, crate::specs::Runtime::kind_number))]
 pub fn same_kind(runtime: PolicyRuntime, policy: SchedulingPolicy) -> bool
     ensures { result ≡ same_kind runtime policy }
 {
-    match (runtime, policy) {
-        (PolicyRuntime::Fifo, SchedulingPolicy::Fifo { .. }) => true,
-        (PolicyRuntime::Fair(_), SchedulingPolicy::Fair) => true,
-        (PolicyRuntime::Budget(_), SchedulingPolicy::Budget) => true,
-        (PolicyRuntime::Idle, SchedulingPolicy::Idle) => true,
-        _ => false,
-    }
+    kind_of_runtime(runtime) == kind_of_policy(policy)
 }
