@@ -3,6 +3,8 @@
 // arguments name, recorded beside the unchanged Rust, with how many of them answered each number.
 #![tactic(auto)]
 
+ghost use Rattle.std.specs.Prelude.{◌+◌, ◌≤◌, length, IsErr, IsUtf8};
+
 mod answers;
 mod calls;
 mod leaves;
@@ -19,9 +21,11 @@ mod values;
 mod windows;
 mod words;
 
-use files::{fail, opened};
 use machine::{ANSWERS, Counts};
 use std::env::FillError;
+use std::fs;
+use std::fs::File;
+use std::io::{Cursor, Error, ErrorKind, Write};
 use std::os::fd::AsRawFd;
 use std::rt::Env;
 
@@ -70,6 +74,27 @@ fn blocks(fd: i32, counts: &mut Counts) -> u64 {
         differs = differs.saturating_add(block(fd, counts));
     }
     differs
+}
+
+// For reading. (Nothing more is promised: which file it is no contract can say.)
+fn opened(rt: &HostRuntime, name: &[u8]) -> Result<File, Error>
+    ensures { ¬ IsUtf8 name.now → IsErr result }
+{
+    match files::text_of(name) {
+        Some(path) => fs::open(rt, path),
+        None => Err(Error::new(ErrorKind::InvalidFilename, "the name is not UTF-8")),
+    }
+}
+
+// A line on standard error: what failed, a colon and the system's reason; how many bytes are handed to the system. (No
+// contract says what an error's text is.)
+fn fail(what: &[u8], error: Error) -> usize
+    ensures whole { length what.now + 3 ≤ result }
+    ensures bound { result ≤ length what.now + 131 }
+{
+    let mut text = Cursor::new([0; files::ROOM]);
+    let _ = write!(text, "{error}");
+    files::tell(what, &text.into_inner())
 }
 
 // A file that cannot be read counts as a difference.

@@ -2,6 +2,8 @@
 // run, or its lift record. FORMAT.md has the lines.
 #![tactic(auto)]
 
+ghost use Rattle.std.specs.Prelude.{◌+◌, ◌≤◌, length, IsErr, IsUtf8};
+
 mod axis;
 mod calls;
 mod drawing;
@@ -23,11 +25,13 @@ mod statements;
 mod threads;
 mod words;
 
-use files::{STDERR, fail, opened};
+use files::STDERR;
 use printing::{SPACE, plain, put, replace};
 use run::{Board, Output, Run};
 use std::env::FillError;
-use std::io::{Error, Read};
+use std::fs;
+use std::fs::File;
+use std::io::{Cursor, Error, ErrorKind, Read, Write};
 use std::rt::Env;
 
 // One byte more than a file may have.
@@ -118,9 +122,30 @@ fn read<R: Read>(from: &mut R, text: &mut [u8]) -> Result<usize, Unread> {
     Err(Unread::Longer)
 }
 
+// For reading. (Nothing more is promised: which file it is no contract can say.)
+fn opened(rt: &HostRuntime, name: &[u8]) -> Result<File, Error>
+    ensures { ¬ IsUtf8 name.now → IsErr result }
+{
+    match files::text_of(name) {
+        Some(path) => fs::open(rt, path),
+        None => Err(Error::new(ErrorKind::InvalidFilename, "the name is not UTF-8")),
+    }
+}
+
 fn read_file(rt: &HostRuntime, name: &[u8], text: &mut [u8]) -> Result<usize, Unread> {
     let mut from = opened(rt, name)?;
     read(&mut from, text)
+}
+
+// A line on standard error: what failed, a colon and the system's reason; how many bytes are handed to the system. (No
+// contract says what an error's text is.)
+fn fail(what: &[u8], error: Error) -> usize
+    ensures whole { length what.now + 3 ≤ result }
+    ensures bound { result ≤ length what.now + 131 }
+{
+    let mut text = Cursor::new([0; files::ROOM]);
+    let _ = write!(text, "{error}");
+    files::tell(what, &text.into_inner())
 }
 
 fn complain(name: &[u8], words: &[u8]) {
