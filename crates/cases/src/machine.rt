@@ -137,13 +137,18 @@ fn count(counts: &mut Counts, number: Option<u64>) {
     }
 }
 
+// (A function of its own, since what clears rows in a long function is compiled to clear them twice.)
+fn zeros<const WORDS: usize, const COUNT: usize>() -> [[u64; WORDS]; COUNT] {
+    [[0; WORDS]; COUNT]
+}
+
 // How many answers differ, one at most for each line; `counts` has how many calls answered 0 and each refusal. (The
 // loop goes by bytes, since the promise is over the bytes.)
 pub fn run(words: &[u8], shown: bool, counts: &mut Counts) -> u64
     ensures { result ≤ length words.now }
 {
-    let mut queue = [[0; QUEUE_ROW_WORDS]; QUEUE_ROWS];
-    let mut rows = [[0; ROW_WORDS]; ROWS];
+    let mut queue = zeros::<QUEUE_ROW_WORDS, QUEUE_ROWS>();
+    let mut rows = zeros::<ROW_WORDS, ROWS>();
     let mut case = Case {
         queue: &mut queue,
         rows: &mut rows,

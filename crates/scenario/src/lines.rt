@@ -14,16 +14,12 @@ fn is_comment(line: &[u8], at: usize) -> bool {
 // Where the last word before a comment ends.
 fn last_end(line: &[u8]) -> usize {
     let mut last = 0;
-    let mut at = 0;
     for _ in 0..line.len() {
-        let word = text::word_after(line, at, SPACE);
-        if is_comment(line, word.start) {
+        let word = text::word_after(line, last, SPACE);
+        if word.start == word.end || is_comment(line, word.start) {
             return last;
         }
-        if word.start < word.end {
-            last = word.end;
-        }
-        at = word.end;
+        last = word.end;
     }
     last
 }

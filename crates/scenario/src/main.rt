@@ -40,11 +40,16 @@ const ROOM: usize = 65_537;
 // Linux's number of the error `File name too long`.
 const NAME_TOO_LONG: i32 = 36;
 
+// (A function of its own, since what clears rows in a long function is compiled to clear them twice.)
+fn zeros<const WORDS: usize, const COUNT: usize>() -> [[u64; WORDS]; COUNT] {
+    [[0; WORDS]; COUNT]
+}
+
 // Each line in turn, on a new board, with the list of the lift record. (The arrays stand here and not on the heap, so
 // that no memory can be wanting.)
 fn lines_of(mut run: Run, text: &[u8]) -> Run {
-    let mut queue = [[0; lent_queue::QUEUE_ROW_WORDS]; lent_queue::QUEUE_ROWS];
-    let mut table = [[0; policy_words::ROW_WORDS]; run::TABLE_ROWS];
+    let mut queue = zeros::<{ lent_queue::QUEUE_ROW_WORDS }, { lent_queue::QUEUE_ROWS }>();
+    let mut table = zeros::<{ policy_words::ROW_WORDS }, { run::TABLE_ROWS }>();
     let mut list = [0; lift::ROOM];
     board::board_new(&mut queue);
     let mut board = Board {

@@ -31,14 +31,12 @@ pub fn plain(words: &[u8]) {
     io::write_all(STDOUT, words);
 }
 
-// Each byte of a kind becomes another.
+// Each byte of a kind becomes another. (Each is stored, so that the loop has no branches.)
 pub fn replace<F: Fn(u8) -> bool>(text: &mut [u8], is_of_kind: F, by: u8)
     requires { F.IsAlwaysCallable is_of_kind }
 {
     for byte in text.iter_mut() {
-        if is_of_kind(*byte) {
-            *byte = by;
-        }
+        *byte = if is_of_kind(*byte) { by } else { *byte };
     }
 }
 
